@@ -101,15 +101,15 @@ fn define_outputs(
 }
 
 /// The contract of a node.
-fn draw_guard<'a>(
+fn draw_observer<'a>(
     tables: &Tables<'a>,
     scope: &mut Scope<'a>,
     contract: &'a Option<Contract>,
     draft: &mut Draft,
 ) -> Result<(usize, usize), AllocError>
-    ensures sketch { OnOk result (sketch_of draft.new ≡ (drawn.drawn_guard (told_in tables.now) (scope_of scope.old) contract.now (sketch_of draft.old)).1) }
-    ensures assume { IfOk result (λ guard. guard.0 ≡ (drawn.drawn_guard (told_in tables.now) (scope_of scope.old) contract.now (sketch_of draft.old)).0.assume) }
-    ensures enforce { IfOk result (λ guard. guard.1 ≡ (drawn.drawn_guard (told_in tables.now) (scope_of scope.old) contract.now (sketch_of draft.old)).0.enforce) }
+    ensures sketch { OnOk result (sketch_of draft.new ≡ (drawn.drawn_observer (told_in tables.now) (scope_of scope.old) contract.now (sketch_of draft.old)).1) }
+    ensures assume { IfOk result (λ observer. observer.0 ≡ (drawn.drawn_observer (told_in tables.now) (scope_of scope.old) contract.now (sketch_of draft.old)).0.assume) }
+    ensures enforce { IfOk result (λ observer. observer.1 ≡ (drawn.drawn_observer (told_in tables.now) (scope_of scope.old) contract.now (sketch_of draft.old)).0.enforce) }
     ensures scope { OnOk result (scope_of scope.new ≡ (scope_of scope.old)) }
 {
     match contract {
@@ -146,7 +146,7 @@ fn draw_node<'a>(tables: &Tables<'a>, node: &'a Node, draft: &mut Draft) -> Resu
     let mut scope = contract_scope(tables, Place::top(), node, inputs, outputs, draft)?;
     let controls = draft.next_wire();
     add_given(tables, Role::Control, controls_of(&node.contract), draft)?;
-    let (assume, enforce) = draw_guard(tables, &mut scope, &node.contract, draft)?;
+    let (assume, enforce) = draw_observer(tables, &mut scope, &node.contract, draft)?;
     let layer = body_layer(tables, node, inputs, controls)?;
     draw_body(tables, &mut scope, layer, node, outputs, draft)?;
     draft.finish(assume, enforce)

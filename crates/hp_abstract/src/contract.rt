@@ -45,8 +45,8 @@ pub fn draw_contract<'a, C: Callees>(
     draft: &mut Draft,
 ) -> Result<(usize, usize), AllocError>
     ensures sketch { OnOk result (sketch_of draft.new ≡ (drawn.drawn_contract (told_in tables.now) C.brings (scope_of scope.old) place contract.now (sketch_of draft.old)).1) }
-    ensures assume { IfOk result (λ guard. guard.0 ≡ (drawn.drawn_contract (told_in tables.now) C.brings (scope_of scope.old) place contract.now (sketch_of draft.old)).0.assume) }
-    ensures enforce { IfOk result (λ guard. guard.1 ≡ (drawn.drawn_contract (told_in tables.now) C.brings (scope_of scope.old) place contract.now (sketch_of draft.old)).0.enforce) }
+    ensures assume { IfOk result (λ observer. observer.0 ≡ (drawn.drawn_contract (told_in tables.now) C.brings (scope_of scope.old) place contract.now (sketch_of draft.old)).0.assume) }
+    ensures enforce { IfOk result (λ observer. observer.1 ≡ (drawn.drawn_contract (told_in tables.now) C.brings (scope_of scope.old) place contract.now (sketch_of draft.old)).0.enforce) }
     ensures scope { OnOk result (scope_of scope.new ≡ (scope_of scope.old)) }
 {
     draw_block(callees, tables, scope, place, &contract.body, draft)?;

@@ -9,8 +9,8 @@ use Rattle.hp_base.specs.declared.value.Value.TheVariants.{Absent}
 use Rattle.hp_tree.specs.Blocks.{Decl}
 use Rattle.hp_tree.specs.Programs.{TypeDecl, Node}
 use Rattle.hp_tree.specs.Operators.{abstraction, constant_of, marked}
-use Rattle.hp_tree.specs.Instant.{Inputs, Controls, Body, Named, Fresh, Guard, Assume, Enforce, Place, Instant, Given, nothing}
-use Rattle.hp_tree.specs.Meaning.{Names, lasts as lasts_said, input_of, guard, no_nodes}
+use Rattle.hp_tree.specs.Instant.{Inputs, Controls, Body, Named, Fresh, Observer, Assume, Enforce, Place, Instant, Given, nothing}
+use Rattle.hp_tree.specs.Meaning.{Names, lasts as lasts_said, input_of, observer, no_nodes}
 use Rattle.hp_tree.specs.Reaction.{Each}
 use Rattle.hp_typing.specs.Scopes.{inside_node}
 use Rattle.hp_typed.specs.Scopes.{Scope}
@@ -36,7 +36,7 @@ use Rattle.hp_abstracted.proofs.OkAlone.{no_node, contract_alone_ok}
 use Rattle.hp_abstracted.proofs.Marked.{Marks, Agree, AllAgree, PastsAgree, to_none, past_part}
 use Rattle.hp_abstracted.proofs.Expressions.{Solved, Callees, HaveFirsts}
 use Rattle.hp_abstracted.proofs.Names.{Same}
-use Rattle.hp_abstracted.proofs.Nodes.{firsts_node, guard_mark, output_lasts, contract_agrees}
+use Rattle.hp_abstracted.proofs.Nodes.{firsts_node, observer_mark, output_lasts, contract_agrees}
 use Rattle.hp_abstracted.proofs.Reached.{ends_agree}
 
 abbrev pub no_solved : Solved
@@ -68,7 +68,7 @@ module _ (types : List TypeDecl) where
 
   -- the marks of an instance
   abbrev pub of_instance : Scope → Assignment → Node → Marks
-  of_instance s class n p = guard_mark types no_nodes no_solved no_node none_fits any_given no_marks none_called (inside_node s n) class n.contract p
+  of_instance s class n p = observer_mark types no_nodes no_solved no_node none_fits any_given no_marks none_called (inside_node s n) class n.contract p
 
   module _ (among : List ℕ → Option Node) (s : Scope) (class : Assignment) (n : Node) (o : Ranked n) (plain : PlainContract n.contract) (ok : NodeOk types among s class n) (k : ContractCalls false n.contract) (ck : NodeClocks class n) (hf : NodeHasFirsts types n)
       (empty : s.variables ≡ []) where
@@ -98,24 +98,24 @@ module _ (types : List TypeDecl) where
       outside = firsts_node types no_node s n empty hf ok.0.0 ok.0.1
 
       contract : (z : Instant) → AllAgree types (of_instance s class n) i z
-          → AllAgree types (of_instance s class n) (guard types abstraction no_nodes n.contract names last g i) (guard types filled_abstraction no_nodes n.contract names' last g' z)
+          → AllAgree types (of_instance s class n) (observer types abstraction no_nodes n.contract names last g i) (observer types filled_abstraction no_nodes n.contract names' last g' z)
       contract z here =
           contract_agrees types no_nodes no_solved no_node none_fits any_given no_marks none_called (inside_node s n) (lasts_in n.outputs no_lasts) class names names' last
           (λ x. to_none types (names x) (names' x) (given_same n.outputs g.free g'.free (input_of n.inputs inputs (λ x. Absent)) x cs)) outside (λ x. (lasts_alike x).1) g g' i z cs
           n.contract plain (contract_alone_ok types among n.contract (inside_node s n) (lasts_in n.outputs no_lasts) class k ok.1.1.1.1.1) ck.1 hf.contract
           (contract_loose types true none_fits n.contract (inside_node s n) class (read_names n i) i cur.1.1.1.1)
           (each_as (InstanceFits types true s class n) _ g.past (λ j z. contract_loose types true none_fits n.contract (inside_node s n) class (read_names n j) j z.1.1.1.1) past)
-          (past_part types (of_instance s class n) Guard g.past g'.past pasts) (past_part types (of_instance s class n) Assume g.past g'.past pasts) (past_part types (of_instance s class n) Enforce g.past g'.past pasts)
-          gv.1 (λ p. here (Guard ∷ p)) (λ p. m (Guard ∷ p)) (λ p. m (Assume ∷ p)) (λ p. m (Enforce ∷ p))
+          (past_part types (of_instance s class n) Observer g.past g'.past pasts) (past_part types (of_instance s class n) Assume g.past g'.past pasts) (past_part types (of_instance s class n) Enforce g.past g'.past pasts)
+          gv.1 (λ p. here (Observer ∷ p)) (λ p. m (Observer ∷ p)) (λ p. m (Assume ∷ p)) (λ p. m (Enforce ∷ p))
 
-      parts_agree : (z : Instant) → AllAgree types (of_instance s class n) (guard types abstraction no_nodes n.contract names last g i) (guard types filled_abstraction no_nodes n.contract names' last' g' z)
+      parts_agree : (z : Instant) → AllAgree types (of_instance s class n) (observer types abstraction no_nodes n.contract names last g i) (observer types filled_abstraction no_nodes n.contract names' last' g' z)
           → (p : Place) → Agree types (of_instance s class n p) (contract_alone types n inputs g i p) (alone_in types n inputs g' z p)
       parts_agree z h (Named x ∷ []) = to_none types (contract_alone types n inputs g i (Named x ∷ [])) (alone_in types n inputs g' z (Named x ∷ [])) (given_same n.outputs g.free g'.free (λ y. Absent) x cs)
       parts_agree z h (Fresh ∷ []) = refl
       parts_agree z h (Inputs ∷ p) = to_none types (contract_alone types n inputs g i (Inputs ∷ p)) (alone_in types n inputs g' z (Inputs ∷ p)) refl
       parts_agree z h (Controls ∷ p) = to_none types (contract_alone types n inputs g i (Controls ∷ p)) (alone_in types n inputs g' z (Controls ∷ p)) refl
       parts_agree z h (Body ∷ p) = refl
-      parts_agree z h (Guard ∷ p) = h (Guard ∷ p)
+      parts_agree z h (Observer ∷ p) = h (Observer ∷ p)
       parts_agree z h (Assume ∷ p) = h (Assume ∷ p)
       parts_agree z h (Enforce ∷ p) = h (Enforce ∷ p)
       parts_agree z h p = h p
@@ -124,7 +124,7 @@ module _ (types : List TypeDecl) where
       step z here p =
           subst (λ v. Agree types (of_instance s class n p) v (alone_in types n inputs g' z p)) (sym (m p))
           (parts_agree z
-          (subst (λ l. AllAgree types (of_instance s class n) (guard types abstraction no_nodes n.contract names last g i) (guard types filled_abstraction no_nodes n.contract names' l g' z)) (sym (fun_ext (λ x. (lasts_alike x).0))) (contract z here)) p)
+          (subst (λ l. AllAgree types (of_instance s class n) (observer types abstraction no_nodes n.contract names last g i) (observer types filled_abstraction no_nodes n.contract names' l g' z)) (sym (fun_ext (λ x. (lasts_alike x).0))) (contract z here)) p)
 
       pub instance_agrees : (j : Instant) → Fixed (alone_in types n inputs g') j → AllAgree types (of_instance s class n) i j
       instance_agrees j h = ends_agree types (of_instance s class n) i (alone_in types n inputs g') o.rank o.bound o.bounded (contract_local types n o inputs g') step j h

@@ -11,7 +11,7 @@ use Rattle.hp_base.specs.declared.value.Value.TheVariants.{Absent, Nil}
 use Rattle.hp_tree.specs.Blocks.{Decl}
 use Rattle.hp_tree.specs.Programs.{TypeDecl, Node}
 use Rattle.hp_tree.specs.Operators.{constant_of, marked}
-use Rattle.hp_tree.specs.Instant.{Inputs, Body, Named, Fresh, Guard, Assume, Enforce, Place, Instant, Past, Given, part}
+use Rattle.hp_tree.specs.Instant.{Inputs, Body, Named, Fresh, Observer, Assume, Enforce, Place, Instant, Past, Given, part}
 use Rattle.hp_tree.specs.Meaning.{Names, declares, lasts as lasts_said, previous, input_of, no_nodes}
 use Rattle.hp_tree.specs.Reaction.{Each, row_of}
 use Rattle.hp_known.specs.Known.{lookup}
@@ -125,7 +125,7 @@ module _ (types : List TypeDecl) where
           (lasts_said (λ (k : Const). marked (constant_of types k)) n.outputs g.past (λ x. Absent)) o.rank (output_in n (below Body only)) g i has_lasts n.contract plain right.contract
           (contract_alone_ok types among n.contract sc (lasts_in n.outputs no_lasts) class k ok.1.1.1.1.1) gv.1
           (each_as (InstanceFits types true s class n) _ g.past (λ j z. contract_loose types true none_fits n.contract sc class (read_names n j) j z.1.1.1.1) past)
-          (λ b x t d f e l. value_of types t d (names x) (named x t (declares n.outputs x) refl e l)) (λ p. o.falls (Guard ∷ p)) (λ p. m (Guard ∷ p)) (λ p. m (Assume ∷ p)) (λ p. m (Enforce ∷ p))
+          (λ b x t d f e l. value_of types t d (names x) (named x t (declares n.outputs x) refl e l)) (λ p. o.falls (Observer ∷ p)) (λ p. m (Observer ∷ p)) (λ p. m (Assume ∷ p)) (λ p. m (Enforce ∷ p))
 
       pub instance_fits : InstanceFits types true s class n i
       instance_fits = (

@@ -11,7 +11,7 @@ use Rattle.hp_tree.specs.declared.program.Item.TheVariants.{TypeItem, NodeItem}
 use Rattle.hp_tree.specs.Expressions.{Expr, constant, variable, last_of, one, two, choose, pre, fby, arrow, when_is, merge, call, Exprs, no_expr, more_exprs, Parts, no_part, more_parts}
 use Rattle.hp_tree.specs.Blocks.{Decl, Block, block, Eqns, no_eqn, more_eqns, Eqn, define, switch, reset, automaton, Arms, no_arm, more_arms, States, no_state, more_states}
 use Rattle.hp_tree.specs.Programs.{TypeDecl, Contract, Node}
-use Rattle.hp_tree.specs.Instant.{Controls, Body, Guard, Assume, Enforce, Equations, Head, Tail, Right, Test, Arms as ArmsOf, States as StatesOf, Until, Unless, First, Second, Third, Args, Instance, Instant, part, top}
+use Rattle.hp_tree.specs.Instant.{Controls, Body, Observer, Assume, Enforce, Equations, Head, Tail, Right, Test, Arms as ArmsOf, States as StatesOf, Until, Unless, First, Second, Third, Args, Instance, Instant, part, top}
 use Rattle.hp_tree.specs.Meaning.{controls_of, node_among}
 use Rattle.hp_typing.specs.Scopes.{with_variables, inside, inside_node}
 use Rattle.hp_typing.specs.Types.{type_of}
@@ -21,7 +21,7 @@ use Rattle.hp_valued.specs.Values.{scope_behind, either_of}
 use Rattle.hp_filled.proofs.FirstsFit.{as_given}
 use Rattle.hp_wires.specs.Wired.{Callees, Fills, FillsAll, FillsParts}
 use Rattle.hp_wires.specs.WiredBlocks.{FillsConditions, FillsBlock, FillsEquations, FillsEquation, FillsArms, FillsStates}
-use Rattle.hp_wires.specs.WiredNodes.{FillsTold, FillsGuard, FillsNode}
+use Rattle.hp_wires.specs.WiredNodes.{FillsTold, FillsObserver, FillsNode}
 use Rattle.hp_wires.specs.WiredCallees.{no_callees, FillsBy, callee_wires}
 use Rattle.hp_wiretyped.specs.Typed.{HasWire}
 use Rattle.hp_wiretyped.specs.Kept as kept
@@ -117,10 +117,10 @@ module _ (types : List TypeDecl) (nils : Bool) (u : Value → Value) (fits : (c 
     told_given None s start mem i k f g = tt
     told_given (Some e) s start mem i k f g = expr_given s e start mem i k f g
 
-    contract_given : (o : Option Contract) (s : Scope) (start mem i : Instant) → ContractKept types shaped s o start mem → FillsGuard types C o start i → kept.ContractGiven types one_given s o i → ContractGiven types nils u two_given s o i
+    contract_given : (o : Option Contract) (s : Scope) (start mem i : Instant) → ContractKept types shaped s o start mem → FillsObserver types C o start i → kept.ContractGiven types one_given s o i → ContractGiven types nils u two_given s o i
     contract_given None s start mem i k f g = tt
     contract_given (Some c) s start mem i k f g = (
-      block_given c.body s (part Guard start) (part Guard mem) (part Guard i) k.0 f.0 g.0,
+      block_given c.body s (part Observer start) (part Observer mem) (part Observer i) k.0 f.0 g.0,
       (
         told_given c.assume (inside s c.body) (part Assume start) (part Assume mem) (part Assume i) k.1.0 f.1 g.1.0,
         told_given c.enforce (inside s c.body) (part Enforce start) (part Enforce mem) (part Enforce i) k.1.1 f.2 g.1.1,
@@ -133,7 +133,7 @@ module _ (types : List TypeDecl) (nils : Bool) (u : Value → Value) (fits : (c 
 
   -- ---- instances
 
-  own_given : (s : Scope) (n : Node) (o : Option Contract) (start mem i : Instant) → OwnKept types s n o start mem → FillsGuard types no_callees o start i → kept.ContractGiven types callees.any_given (inside_node s n) o i
+  own_given : (s : Scope) (n : Node) (o : Option Contract) (start mem i : Instant) → OwnKept types s n o start mem → FillsObserver types no_callees o start i → kept.ContractGiven types callees.any_given (inside_node s n) o i
       → ContractGiven types nils u any_given (inside_node s n) o i
   own_given s n None start mem i k f g = tt
   own_given s n (Some c) start mem i k f g = contract_given no_callees none_kept callees.any_given any_given (λ f start mem i k g h. absurd k) (Some c) (inside_node s n) start mem i k.1 f g

@@ -6,7 +6,7 @@ use Rattle.hp_tree.specs.Expressions.{Expr}
 use Rattle.hp_tree.specs.Blocks.{Decl, Block, block, Eqns, no_eqn, more_eqns, Eqn, define, switch, reset, automaton, Arms, no_arm, more_arms, States, no_state, more_states}
 use Rattle.hp_tree.specs.Programs.{TypeDecl, Contract, Node}
 use Rattle.hp_tree.specs.Operators.{is_cons}
-use Rattle.hp_tree.specs.Instant.{Body, Guard, Equations, Head, Tail, Test, Arms as ArmsOf, States as StatesOf, Until, Active, Instant, part, Clock, holds, without}
+use Rattle.hp_tree.specs.Instant.{Body, Observer, Equations, Head, Tail, Test, Arms as ArmsOf, States as StatesOf, Until, Active, Instant, part, Clock, holds, without}
 use Rattle.hp_tree.specs.Meaning.{Names, inside as inside_names, within, state_of}
 use Rattle.hp_typing.specs.Scopes.{with_variables, inside_node}
 use Rattle.hp_typed.specs.Scopes.{Scope}
@@ -75,10 +75,10 @@ module _ (types : List TypeDecl) (nils : Bool) (fits : List ℕ → Instant → 
 
   contract_stands : (b : Block) (assume enforce : Option Expr) (s : Scope) (class : Assignment) (names : Names) (i : Instant) → ContractStands types nils fits s class names b assume enforce i → ContractAt types nils fits s class b assume enforce i
   contract_stands (block ds es) assume enforce s class names i h = (
-    held types nils fits (inside_names es names (part Guard i)),
+    held types nils fits (inside_names es names (part Observer i)),
     (
-      is_presence types (inside_names es names (part Guard i)),
-      ((h.0.0, eqns_loose es ds (with_variables s ds) (classes_in es none_second (λ p. class (Guard ∷ p))) (λ p. class (Guard ∷ Equations ∷ p)) (inside_names es names (part Guard i)) (part Equations (part Guard i)) h.0.1.1), h.1),
+      is_presence types (inside_names es names (part Observer i)),
+      ((h.0.0, eqns_loose es ds (with_variables s ds) (classes_in es none_second (λ p. class (Observer ∷ p))) (λ p. class (Observer ∷ Equations ∷ p)) (inside_names es names (part Observer i)) (part Equations (part Observer i)) h.0.1.1), h.1),
     ),
   )
 

@@ -9,8 +9,8 @@ use Rattle.hp_tree.specs.Expressions.{Expr}
 use Rattle.hp_tree.specs.Blocks.{Block, block}
 use Rattle.hp_tree.specs.Programs.{TypeDecl, Contract, Node}
 use Rattle.hp_tree.specs.Operators.{constant_of, marked}
-use Rattle.hp_tree.specs.Instant.{Inputs, Body, Named, Guard, Assume, Enforce, Place, Instant, Given, at, part, since}
-use Rattle.hp_tree.specs.Meaning.{Names, Nodes, declares, lasts as lasts_said, input_of, scope, guard, node, read_in, last_in}
+use Rattle.hp_tree.specs.Instant.{Inputs, Body, Named, Observer, Assume, Enforce, Place, Instant, Given, at, part, since}
+use Rattle.hp_tree.specs.Meaning.{Names, Nodes, declares, lasts as lasts_said, input_of, scope, observer, node, read_in, last_in}
 use Rattle.hp_typing.specs.Scopes.{inside, inside_node}
 use Rattle.hp_wiretyped.specs.Typed.{IsWire, AreWires}
 use Rattle.hp_init.specs.Classes.{Assignment}
@@ -44,11 +44,11 @@ module _ (types : List TypeDecl) (nils : Bool) (u : Value → Value) (N : Nodes)
     abbrev pub OuterOf : Block → Type 0
     OuterOf b = (x : List ℕ) (t : Ty) (d : Bool) → IsFalse (has_equation b x) → st x ≡ Some [] → lookup sc.variables x ≡ Some t → HasValue types t d (names x)
 
-    contract_by : (b : Block) (assume enforce : Option Expr) → IsPlain b → BlockRight st b → TellsOnBase (standing_of b st) assume → TellsOnBase (standing_of b st) enforce → BlockOk types among sc none_second lasts (λ p. class (Guard ∷ p)) b → ToldOk types among (inside sc b) (classes_of b none_second (λ p. class (Guard ∷ p))) (lasts_of b lasts) assume → ToldOk types among (inside sc b) (classes_of b none_second (λ p. class (Guard ∷ p))) (lasts_of b lasts) enforce → BlockGiven types nils u given sc b (part Guard g.free) → ToldGiven types nils u given (inside sc b) assume (part Assume g.free) → ToldGiven types nils u given (inside sc b) enforce (part Enforce g.free) → Each (ContractAt types nils fits sc class b assume enforce) g.past → OuterOf b → ((p : Place) → Within (λ q. rank q < rank (Guard ∷ p)) (in_block b nsrc (λ q. only (Guard ∷ q)) p)) → ((p : Place) → now (Guard ∷ p) ≡ scope types (reading u) N b false names last (since false (at Guard g)) (part Guard now) p) → ((p : Place) → now (Assume ∷ p) ≡ told types nils u N among fits given known assume (read_in types (reading u) N b names (part Guard now)) (last_in types (reading u) N b (since false (at Guard g)).past last) (at Assume g) (part Assume now) p) → ((p : Place) → now (Enforce ∷ p) ≡ told types nils u N among fits given known enforce (read_in types (reading u) N b names (part Guard now)) (last_in types (reading u) N b (since false (at Guard g)).past last) (at Enforce g) (part Enforce now) p) → ContractStands types nils fits sc class names b assume enforce now
+    contract_by : (b : Block) (assume enforce : Option Expr) → IsPlain b → BlockRight st b → TellsOnBase (standing_of b st) assume → TellsOnBase (standing_of b st) enforce → BlockOk types among sc none_second lasts (λ p. class (Observer ∷ p)) b → ToldOk types among (inside sc b) (classes_of b none_second (λ p. class (Observer ∷ p))) (lasts_of b lasts) assume → ToldOk types among (inside sc b) (classes_of b none_second (λ p. class (Observer ∷ p))) (lasts_of b lasts) enforce → BlockGiven types nils u given sc b (part Observer g.free) → ToldGiven types nils u given (inside sc b) assume (part Assume g.free) → ToldGiven types nils u given (inside sc b) enforce (part Enforce g.free) → Each (ContractAt types nils fits sc class b assume enforce) g.past → OuterOf b → ((p : Place) → Within (λ q. rank q < rank (Observer ∷ p)) (in_block b nsrc (λ q. only (Observer ∷ q)) p)) → ((p : Place) → now (Observer ∷ p) ≡ scope types (reading u) N b false names last (since false (at Observer g)) (part Observer now) p) → ((p : Place) → now (Assume ∷ p) ≡ told types nils u N among fits given known assume (read_in types (reading u) N b names (part Observer now)) (last_in types (reading u) N b (since false (at Observer g)).past last) (at Assume g) (part Assume now) p) → ((p : Place) → now (Enforce ∷ p) ≡ told types nils u N among fits given known enforce (read_in types (reading u) N b names (part Observer now)) (last_in types (reading u) N b (since false (at Observer g)).past last) (at Enforce g) (part Enforce now) p) → ContractStands types nils fits sc class names b assume enforce now
     contract_by (block ds es) assume enforce low on ona one ok oka oke gv gva gve past outer falls m ma me =
         contract_at types nils u N among fits given known sc st lasts class names last rank nsrc ds es assume enforce g now low on ona one ok oka oke gv gva gve past outer hl falls m ma me
 
-    pub contract_of : (k : Option Contract) → PlainContract k → ContractRight st k → ContractOk types among sc lasts class k → ContractGiven types nils u given sc k g.free → Each (ContractLoose types nils fits sc class k) g.past → ((b : Block) → OuterOf b) → ((p : Place) → Within (λ q. rank q < rank (Guard ∷ p)) (in_contract k nsrc only (Guard ∷ p))) → ((p : Place) → now (Guard ∷ p) ≡ guard types (reading u) N k names last g now (Guard ∷ p)) → ((p : Place) → now (Assume ∷ p) ≡ guard types (reading u) N k names last g now (Assume ∷ p)) → ((p : Place) → now (Enforce ∷ p) ≡ guard types (reading u) N k names last g now (Enforce ∷ p)) → ContractFits types nils fits sc class names k now
+    pub contract_of : (k : Option Contract) → PlainContract k → ContractRight st k → ContractOk types among sc lasts class k → ContractGiven types nils u given sc k g.free → Each (ContractLoose types nils fits sc class k) g.past → ((b : Block) → OuterOf b) → ((p : Place) → Within (λ q. rank q < rank (Observer ∷ p)) (in_contract k nsrc only (Observer ∷ p))) → ((p : Place) → now (Observer ∷ p) ≡ observer types (reading u) N k names last g now (Observer ∷ p)) → ((p : Place) → now (Assume ∷ p) ≡ observer types (reading u) N k names last g now (Assume ∷ p)) → ((p : Place) → now (Enforce ∷ p) ≡ observer types (reading u) N k names last g now (Enforce ∷ p)) → ContractFits types nils fits sc class names k now
     contract_of None low on ok gv past outer falls m ma me = tt
     contract_of (Some c) low on ok gv past outer falls m ma me =
         contract_by c.body c.assume c.enforce low on.0 on.1 on.2 ok.0 ok.1.0 ok.1.1 gv.0 gv.1.0 gv.1.1 past (outer c.body) falls m ma me
@@ -68,7 +68,7 @@ module _ (types : List TypeDecl) (nils : Bool) (u : Value → Value) (N : Nodes)
         body,
         subst (λ vs. ContractFits types nils fits sc class (λ x. if declares n.outputs x then now (Named x ∷ []) else input_of n.inputs vs (λ y. Absent) x) n.contract now) (sym (row_is types n.inputs inputs (part Inputs now) vf (λ p. m (Inputs ∷ p))))
             (contract_of sc st lasts class names last o.rank (output_in n (below Body only)) g now hl n.contract lowc right.contract ok.1.1.1.1.1 gv.1 (each_as (NodeLoose types nils fits s class n) _ g.past (λ i z. z.1) past)
-            (λ b x t d f e l. value_of types t d (names x) (named x t (declares n.outputs x) refl e l body.0)) (λ p. o.falls (Guard ∷ p)) (λ p. m (Guard ∷ p)) (λ p. m (Assume ∷ p)) (λ p. m (Enforce ∷ p))),
+            (λ b x t d f e l. value_of types t d (names x) (named x t (declares n.outputs x) refl e l body.0)) (λ p. o.falls (Observer ∷ p)) (λ p. m (Observer ∷ p)) (λ p. m (Assume ∷ p)) (λ p. m (Enforce ∷ p))),
       )
     where
       named : (x : List ℕ) (t : Ty) (d : Bool) → declares n.outputs x ≡ d → on_base (declares n.inputs x || declares n.outputs x) ≡ Some [] → lookup (inside_node s n).variables x ≡ Some t → OutputsFit types n.outputs now → IsWire types t (if d then now (Named x ∷ []) else input_of n.inputs inputs (λ x. Absent) x)

@@ -12,8 +12,8 @@ use Rattle.hp_tree.specs.Blocks.{Decl, Block, block, Eqns}
 use Rattle.hp_tree.specs.Programs.{TypeDecl, Contract, Node}
 use Rattle.hp_tree.specs.Operators.{Reading, abstraction, marked, constant_of}
 use Rattle.hp_wires.specs.Wired.{filled_abstraction}
-use Rattle.hp_tree.specs.Instant.{Inputs, Controls, Body, Guard, Assume, Enforce, Named, Fresh, Head, Tail, Place, Instant, Past, Given, at, part, parts, own, since, nothing, in_node}
-use Rattle.hp_tree.specs.Meaning.{Names, Nodes, declares, previous, lasts as lasts_said, input_of, controls_of, given_to, scope, guard, node, read_in, last_in, expr, block_defines, some_defines}
+use Rattle.hp_tree.specs.Instant.{Inputs, Controls, Body, Observer, Assume, Enforce, Named, Fresh, Head, Tail, Place, Instant, Past, Given, at, part, parts, own, since, nothing, in_node}
+use Rattle.hp_tree.specs.Meaning.{Names, Nodes, declares, previous, lasts as lasts_said, input_of, controls_of, given_to, scope, observer, node, read_in, last_in, expr, block_defines, some_defines}
 use Rattle.hp_tree.specs.Reaction.{Each}
 use Rattle.hp_known.specs.Known.{lookup}
 use Rattle.hp_typing.specs.Scopes.{with_variables, inside, inside_node}
@@ -35,7 +35,7 @@ use Rattle.hp_abstracted.proofs.NodeContract.{each_as}
 use Rattle.hp_filled.specs.Firsts.{DeclsHaveFirsts, BlockHasFirsts, ContractHasFirsts, NodeHasFirsts}
 use Rattle.hp_filled.proofs.FirstsFit.{as_given}
 use Rattle.hp_filled.proofs.TypesAgree.{agrees_at}
-use Rattle.hp_abstracted.proofs.Marked.{Marks, Agree, AllAgree, PastsAgree, of_none, to_none, is_same, as_type, guard_agrees, past_part, past_own, typed_not_nil}
+use Rattle.hp_abstracted.proofs.Marked.{Marks, Agree, AllAgree, PastsAgree, of_none, to_none, is_same, as_type, observer_agrees, past_part, past_own, typed_not_nil}
 use Rattle.hp_filled.proofs.Places.{of_expr, of_block, of_told, of_contract, of_node}
 use Rattle.hp_filled.proofs.ClocksFirst.{BlockClocks, ContractClocks, NodeClocks}
 use Rattle.hp_abstracted.specs.SameGiven.{SameGiven}
@@ -66,9 +66,9 @@ each_body : (Q P : Instant → Type 0) (past : Past) → ((i : Instant) → Q i 
 each_body Q P [] f a = tt
 each_body Q P (i ∷ past) f a = ((true, f i a.0), each_body Q P past f a.1)
 
-each_guard : (Q P : Instant → Type 0) (past : Past) → ((i : Instant) → Q i → P (part Guard i)) → Each Q past → Each (λ i. (d : Bool) × IsThere d P i) (parts Guard past)
-each_guard Q P [] f a = tt
-each_guard Q P (i ∷ past) f a = ((true, f i a.0), each_guard Q P past f a.1)
+each_observer : (Q P : Instant → Type 0) (past : Past) → ((i : Instant) → Q i → P (part Observer i)) → Each Q past → Each (λ i. (d : Bool) × IsThere d P i) (parts Observer past)
+each_observer Q P [] f a = tt
+each_observer Q P (i ∷ past) f a = ((true, f i a.0), each_observer Q P past f a.1)
 
 -- what is told of a block, or nothing
 abbrev told : List TypeDecl → Reading → Nodes → Option Expr → Names → Names → Given → Instant → Instant
@@ -112,58 +112,58 @@ module _ (types : List TypeDecl) (N : Nodes) (S : Solved) (among : List ℕ → 
 
   -- ---- a contract
 
-  abbrev pub guard_mark : Scope → Assignment → Option Contract → Marks
-  guard_mark s class k (Guard ∷ p) = of_contract T s class k (Guard ∷ p)
-  guard_mark s class k (Assume ∷ p) = of_contract T s class k (Assume ∷ p)
-  guard_mark s class k (Enforce ∷ p) = of_contract T s class k (Enforce ∷ p)
-  guard_mark s class k p = None
+  abbrev pub observer_mark : Scope → Assignment → Option Contract → Marks
+  observer_mark s class k (Observer ∷ p) = of_contract T s class k (Observer ∷ p)
+  observer_mark s class k (Assume ∷ p) = of_contract T s class k (Assume ∷ p)
+  observer_mark s class k (Enforce ∷ p) = of_contract T s class k (Enforce ∷ p)
+  observer_mark s class k p = None
 
   module _ (s : Scope) (lasts : Lasts) (class : Assignment) (names names' last : Names) (agree : NamesAgree types s none_second names names') (firsts : HaveFirsts types s) (quiet : Quiet last) (g g' : Given) (now now' : Instant) (cs : SameGiven g.free g'.free) where
     abbrev class' : Assignment
-    class' p = class (Guard ∷ p)
+    class' p = class (Observer ∷ p)
 
-    told_agrees : (ds : List Decl) (es : Eqns) (e : Option Expr) (ok : BlockOk types among s none_second lasts class' (block ds es)) → DeclsHaveFirsts types ds → Each (BlockLoose types true fits s none_second class' (block ds es)) (own (parts Guard g.past)) → PastsAgree types (of_block T s none_second class' (block ds es)) (own (parts Guard g.past)) (own (parts Guard g'.past)) → AllAgree types (of_block T s none_second class' (block ds es)) (part Guard now) (part Guard now')
+    told_agrees : (ds : List Decl) (es : Eqns) (e : Option Expr) (ok : BlockOk types among s none_second lasts class' (block ds es)) → DeclsHaveFirsts types ds → Each (BlockLoose types true fits s none_second class' (block ds es)) (own (parts Observer g.past)) → PastsAgree types (of_block T s none_second class' (block ds es)) (own (parts Observer g.past)) (own (parts Observer g'.past)) → AllAgree types (of_block T s none_second class' (block ds es)) (part Observer now) (part Observer now')
         → (h h' : Given) (i i' : Instant) (ws : List Presence) (there : Presence) → ToldOk types among (with_variables s ds) (classes_of (block ds es) none_second class') (lasts_in ds lasts) e → ToldFits types true fits (with_variables s ds) (classes_of (block ds es) none_second class') there e i → Along (λ w j. ToldFits types true fits (with_variables s ds) (classes_of (block ds es) none_second class') w e j) ws h.past → PastsAgree types (of_told T (with_variables s ds) (classes_of (block ds es) none_second class') e) h.past h'.past → ToldGiven types false as_given given (with_variables s ds) e h'.free → SameGiven h.free h'.free
-        → ((p : Place) → i p ≡ told types abstraction N e (read_in types abstraction N (block ds es) names (part Guard now)) (last_in types abstraction N (block ds es) (own (parts Guard g.past)) last) h i p)
-        → AllAgree types (of_told T (with_variables s ds) (classes_of (block ds es) none_second class') e) (told types abstraction N e (read_in types abstraction N (block ds es) names (part Guard now)) (last_in types abstraction N (block ds es) (own (parts Guard g.past)) last) h i) (told types filled_abstraction M' e (read_in types filled_abstraction M' (block ds es) names' (part Guard now')) (last_in types filled_abstraction M' (block ds es) (own (parts Guard g'.past)) last) h' i')
+        → ((p : Place) → i p ≡ told types abstraction N e (read_in types abstraction N (block ds es) names (part Observer now)) (last_in types abstraction N (block ds es) (own (parts Observer g.past)) last) h i p)
+        → AllAgree types (of_told T (with_variables s ds) (classes_of (block ds es) none_second class') e) (told types abstraction N e (read_in types abstraction N (block ds es) names (part Observer now)) (last_in types abstraction N (block ds es) (own (parts Observer g.past)) last) h i) (told types filled_abstraction M' e (read_in types filled_abstraction M' (block ds es) names' (part Observer now')) (last_in types filled_abstraction M' (block ds es) (own (parts Observer g'.past)) last) h' i')
     told_agrees ds es None ok hf a pasts here h h' i i' ws there tok cur past pasts' gv cs' m = λ p. refl
     told_agrees ds es (Some e) ok hf a pasts here h h' i i' ws there tok cur past pasts' gv cs' m =
-        let ns = read_in types abstraction N (block ds es) names (part Guard now) in
-        let ns' = read_in types filled_abstraction M' (block ds es) names' (part Guard now') in
-        let old = lasts_said (λ (k : Const). marked (constant_of types k)) ds (own (parts Guard g.past)) last in
-        subst (λ l. AllAgree types (of_expr T (with_variables s ds) (classes_of (block ds es) none_second class') e) (expr types abstraction N e [] ns old h i) (expr types filled_abstraction M' e [] ns' l h' i')) (sym (lasts_same types N S among fits given T known ds es s none_second lasts class' ok last (own (parts Guard g.past)) (own (parts Guard g'.past)) quiet a pasts))
+        let ns = read_in types abstraction N (block ds es) names (part Observer now) in
+        let ns' = read_in types filled_abstraction M' (block ds es) names' (part Observer now') in
+        let old = lasts_said (λ (k : Const). marked (constant_of types k)) ds (own (parts Observer g.past)) last in
+        subst (λ l. AllAgree types (of_expr T (with_variables s ds) (classes_of (block ds es) none_second class') e) (expr types abstraction N e [] ns old h i) (expr types filled_abstraction M' e [] ns' l h' i')) (sym (lasts_same types N S among fits given T known ds es s none_second lasts class' ok last (own (parts Observer g.past)) (own (parts Observer g'.past)) quiet a pasts))
         (expr_agrees types N S among fits given T known (with_variables s ds) (classes_of (block ds es) none_second class') (lasts_in ds lasts) ns ns' old
-        (names_inside types N S among fits given T known ds es s none_second lasts class' ok names names' (part Guard now) (part Guard now') agree here) (firsts_inside types N S among fits given T known ds es s none_second lasts class' ok hf firsts) ws there
+        (names_inside types N S among fits given T known ds es s none_second lasts class' ok names names' (part Observer now) (part Observer now') agree here) (firsts_inside types N S among fits given T known ds es s none_second lasts class' ok hf firsts) ws there
         e ty.Bool [] h h' i i' tok.1.1 tok.0 tt cur past pasts' gv cs' m)
 
     contract_by : (b : Block) (assume enforce : Option Expr) → IsPlain b → BlockOk types among s none_second lasts class' b → ToldOk types among (inside s b) (classes_of b none_second class') (lasts_of b lasts) assume → ToldOk types among (inside s b) (classes_of b none_second class') (lasts_of b lasts) enforce → BlockClocks none_second class' b → BlockHasFirsts types b → ContractAt types true fits s class b assume enforce now → Each (ContractAt types true fits s class b assume enforce) g.past
-        → PastsAgree types (of_block T s none_second class' b) (parts Guard g.past) (parts Guard g'.past) → PastsAgree types (of_told T (inside s b) (classes_of b none_second class') assume) (parts Assume g.past) (parts Assume g'.past) → PastsAgree types (of_told T (inside s b) (classes_of b none_second class') enforce) (parts Enforce g.past) (parts Enforce g'.past)
-        → BlockGiven types false as_given given s b (part Guard g'.free) → ToldGiven types false as_given given (inside s b) assume (part Assume g'.free) → ToldGiven types false as_given given (inside s b) enforce (part Enforce g'.free) → AllAgree types (of_block T s none_second class' b) (part Guard now) (part Guard now')
-        → ((p : Place) → now (Guard ∷ p) ≡ scope types abstraction N b false names last (since false (at Guard g)) (part Guard now) p)
-        → ((p : Place) → now (Assume ∷ p) ≡ told types abstraction N assume (read_in types abstraction N b names (part Guard now)) (last_in types abstraction N b (own (parts Guard g.past)) last) (at Assume g) (part Assume now) p)
-        → ((p : Place) → now (Enforce ∷ p) ≡ told types abstraction N enforce (read_in types abstraction N b names (part Guard now)) (last_in types abstraction N b (own (parts Guard g.past)) last) (at Enforce g) (part Enforce now) p)
-        → AllAgree types (of_block T s none_second class' b) (scope types abstraction N b false names last (since false (at Guard g)) (part Guard now)) (scope types filled_abstraction M' b false names' last (since false (at Guard g')) (part Guard now'))
-        × (AllAgree types (of_told T (inside s b) (classes_of b none_second class') assume) (told types abstraction N assume (read_in types abstraction N b names (part Guard now)) (last_in types abstraction N b (own (parts Guard g.past)) last) (at Assume g) (part Assume now)) (told types filled_abstraction M' assume (read_in types filled_abstraction M' b names' (part Guard now')) (last_in types filled_abstraction M' b (own (parts Guard g'.past)) last) (at Assume g') (part Assume now'))
-        × AllAgree types (of_told T (inside s b) (classes_of b none_second class') enforce) (told types abstraction N enforce (read_in types abstraction N b names (part Guard now)) (last_in types abstraction N b (own (parts Guard g.past)) last) (at Enforce g) (part Enforce now)) (told types filled_abstraction M' enforce (read_in types filled_abstraction M' b names' (part Guard now')) (last_in types filled_abstraction M' b (own (parts Guard g'.past)) last) (at Enforce g') (part Enforce now')))
+        → PastsAgree types (of_block T s none_second class' b) (parts Observer g.past) (parts Observer g'.past) → PastsAgree types (of_told T (inside s b) (classes_of b none_second class') assume) (parts Assume g.past) (parts Assume g'.past) → PastsAgree types (of_told T (inside s b) (classes_of b none_second class') enforce) (parts Enforce g.past) (parts Enforce g'.past)
+        → BlockGiven types false as_given given s b (part Observer g'.free) → ToldGiven types false as_given given (inside s b) assume (part Assume g'.free) → ToldGiven types false as_given given (inside s b) enforce (part Enforce g'.free) → AllAgree types (of_block T s none_second class' b) (part Observer now) (part Observer now')
+        → ((p : Place) → now (Observer ∷ p) ≡ scope types abstraction N b false names last (since false (at Observer g)) (part Observer now) p)
+        → ((p : Place) → now (Assume ∷ p) ≡ told types abstraction N assume (read_in types abstraction N b names (part Observer now)) (last_in types abstraction N b (own (parts Observer g.past)) last) (at Assume g) (part Assume now) p)
+        → ((p : Place) → now (Enforce ∷ p) ≡ told types abstraction N enforce (read_in types abstraction N b names (part Observer now)) (last_in types abstraction N b (own (parts Observer g.past)) last) (at Enforce g) (part Enforce now) p)
+        → AllAgree types (of_block T s none_second class' b) (scope types abstraction N b false names last (since false (at Observer g)) (part Observer now)) (scope types filled_abstraction M' b false names' last (since false (at Observer g')) (part Observer now'))
+        × (AllAgree types (of_told T (inside s b) (classes_of b none_second class') assume) (told types abstraction N assume (read_in types abstraction N b names (part Observer now)) (last_in types abstraction N b (own (parts Observer g.past)) last) (at Assume g) (part Assume now)) (told types filled_abstraction M' assume (read_in types filled_abstraction M' b names' (part Observer now')) (last_in types filled_abstraction M' b (own (parts Observer g'.past)) last) (at Assume g') (part Assume now'))
+        × AllAgree types (of_told T (inside s b) (classes_of b none_second class') enforce) (told types abstraction N enforce (read_in types abstraction N b names (part Observer now)) (last_in types abstraction N b (own (parts Observer g.past)) last) (at Enforce g) (part Enforce now)) (told types filled_abstraction M' enforce (read_in types filled_abstraction M' b names' (part Observer now')) (last_in types filled_abstraction M' b (own (parts Observer g'.past)) last) (at Enforce g') (part Enforce now')))
     contract_by (block ds es) assume enforce low ok oka oke ck hf cur past pb pa pe gv gva gve here m ma me =
         let b = block ds es in
-        let a : Each (BlockLoose types true fits s none_second class' b) (own (parts Guard g.past)) = own_all _ (parts Guard g.past) (each_guard (ContractAt types true fits s class b assume enforce) (BlockLoose types true fits s none_second class' b) g.past (λ i z. (z.0, (z.1.0, z.1.1.0))) past) in
-        let pasts = past_own types (of_block T s none_second class' b) refl (parts Guard g.past) (parts Guard g'.past) pb in
+        let a : Each (BlockLoose types true fits s none_second class' b) (own (parts Observer g.past)) = own_all _ (parts Observer g.past) (each_observer (ContractAt types true fits s class b assume enforce) (BlockLoose types true fits s none_second class' b) g.past (λ i z. (z.0, (z.1.0, z.1.1.0))) past) in
+        let pasts = past_own types (of_block T s none_second class' b) refl (parts Observer g.past) (parts Observer g'.past) pb in
         let pr = presences _ g.past past in (
-          scope_agrees types N S among fits given T known b s none_second lasts class' names names' last false (since false (at Guard g)) (since false (at Guard g')) (part Guard now) (part Guard now') low ok ck hf agree firsts quiet (cur.0, (cur.1.0, cur.1.1.0)) a pasts gv (λ p. cs (Guard ∷ p)) here m,
+          scope_agrees types N S among fits given T known b s none_second lasts class' names names' last false (since false (at Observer g)) (since false (at Observer g')) (part Observer now) (part Observer now') low ok ck hf agree firsts quiet (cur.0, (cur.1.0, cur.1.1.0)) a pasts gv (λ p. cs (Observer ∷ p)) here m,
           (
             told_agrees ds es assume ok hf.0 a pasts here (at Assume g) (at Assume g') (part Assume now) (part Assume now') pr.0 cur.0 oka cur.1.1.1.1.0 (along_part _ _ Assume pr.0 g.past (λ w i z. z.1.1.0) pr.1.1) pa gva (λ p. cs (Assume ∷ p)) ma,
             told_agrees ds es enforce ok hf.0 a pasts here (at Enforce g) (at Enforce g') (part Enforce now) (part Enforce now') pr.0 cur.0 oke cur.1.1.1.1.1 (along_part _ _ Enforce pr.0 g.past (λ w i z. z.1.1.1) pr.1.1) pe gve (λ p. cs (Enforce ∷ p)) me,
           ),
         )
 
-    pub contract_agrees : (k : Option Contract) → PlainContract k → ContractOk types among s lasts class k → ContractClocks class k → ContractHasFirsts types k → ContractLoose types true fits s class k now → Each (ContractLoose types true fits s class k) g.past → PastsAgree types (λ p. guard_mark s class k (Guard ∷ p)) (parts Guard g.past) (parts Guard g'.past) → PastsAgree types (λ p. guard_mark s class k (Assume ∷ p)) (parts Assume g.past) (parts Assume g'.past) → PastsAgree types (λ p. guard_mark s class k (Enforce ∷ p)) (parts Enforce g.past) (parts Enforce g'.past)
-        → ContractGiven types false as_given given s k g'.free → AllAgree types (λ p. guard_mark s class k (Guard ∷ p)) (part Guard now) (part Guard now')
-        → ((p : Place) → now (Guard ∷ p) ≡ guard types abstraction N k names last g now (Guard ∷ p)) → ((p : Place) → now (Assume ∷ p) ≡ guard types abstraction N k names last g now (Assume ∷ p)) → ((p : Place) → now (Enforce ∷ p) ≡ guard types abstraction N k names last g now (Enforce ∷ p)) → AllAgree types (guard_mark s class k) (guard types abstraction N k names last g now) (guard types filled_abstraction M' k names' last g' now')
+    pub contract_agrees : (k : Option Contract) → PlainContract k → ContractOk types among s lasts class k → ContractClocks class k → ContractHasFirsts types k → ContractLoose types true fits s class k now → Each (ContractLoose types true fits s class k) g.past → PastsAgree types (λ p. observer_mark s class k (Observer ∷ p)) (parts Observer g.past) (parts Observer g'.past) → PastsAgree types (λ p. observer_mark s class k (Assume ∷ p)) (parts Assume g.past) (parts Assume g'.past) → PastsAgree types (λ p. observer_mark s class k (Enforce ∷ p)) (parts Enforce g.past) (parts Enforce g'.past)
+        → ContractGiven types false as_given given s k g'.free → AllAgree types (λ p. observer_mark s class k (Observer ∷ p)) (part Observer now) (part Observer now')
+        → ((p : Place) → now (Observer ∷ p) ≡ observer types abstraction N k names last g now (Observer ∷ p)) → ((p : Place) → now (Assume ∷ p) ≡ observer types abstraction N k names last g now (Assume ∷ p)) → ((p : Place) → now (Enforce ∷ p) ≡ observer types abstraction N k names last g now (Enforce ∷ p)) → AllAgree types (observer_mark s class k) (observer types abstraction N k names last g now) (observer types filled_abstraction M' k names' last g' now')
     contract_agrees None low ok ck hf cur past pb pa pe gv here m ma me = λ p. refl
     contract_agrees (Some c) low ok ck hf cur past pb pa pe gv here m ma me =
         let r = contract_by c.body c.assume c.enforce low ok.0 ok.1.0 ok.1.1 ck hf cur past pb pa pe gv.0 gv.1.0 gv.1.1 here m ma me in
-        guard_agrees types (guard_mark s class (Some c)) _ _ _ _ _ _ r.0 r.1.0 r.1.1
+        observer_agrees types (observer_mark s class (Some c)) _ _ _ _ _ _ r.0 r.1.0 r.1.1
 
   -- ---- a node
 
@@ -172,7 +172,7 @@ module _ (types : List TypeDecl) (N : Nodes) (S : Solved) (among : List ℕ → 
     U = of_node T s class n
 
     abbrev K : Option Contract → Marks
-    K k = guard_mark (inside_node s n) class k
+    K k = observer_mark (inside_node s n) class k
 
     parts_agree : (o o' : Names) (vs cs : List Value) (b b' k k' : Instant) → ((x : List ℕ) → Agree types None (o x) (o' x)) → AllAgree types (λ p. U (Body ∷ p)) b b' → AllAgree types (K n.contract) k k' → AllAgree types U (in_node o vs cs b k) (in_node o' vs cs b' k')
     parts_agree o o' vs cs b b' k k' ho hb hk (Named x ∷ []) = ho x
@@ -180,7 +180,7 @@ module _ (types : List TypeDecl) (N : Nodes) (S : Solved) (among : List ℕ → 
     parts_agree o o' vs cs b b' k k' ho hb hk (Inputs ∷ p) = to_none types _ _ refl
     parts_agree o o' vs cs b b' k k' ho hb hk (Controls ∷ p) = to_none types _ _ refl
     parts_agree o o' vs cs b b' k k' ho hb hk (Body ∷ p) = hb p
-    parts_agree o o' vs cs b b' k k' ho hb hk (Guard ∷ p) = hk (Guard ∷ p)
+    parts_agree o o' vs cs b b' k k' ho hb hk (Observer ∷ p) = hk (Observer ∷ p)
     parts_agree o o' vs cs b b' k k' ho hb hk (Assume ∷ p) = hk (Assume ∷ p)
     parts_agree o o' vs cs b b' k k' ho hb hk (Enforce ∷ p) = hk (Enforce ∷ p)
     parts_agree o o' vs cs b b' k k' ho hb hk p = hk p
@@ -245,13 +245,13 @@ module _ (types : List TypeDecl) (N : Nodes) (S : Solved) (among : List ℕ → 
         gv.0.1 (λ p. cs (Body ∷ p)) (λ p. here (Body ∷ p)) (λ p. m (Body ∷ p)) in
         let contract =
         contract_agrees (inside_node s n) lasts class seen seen' last (outer_agree outer now now' here) outside (λ x. (lasts' x).1) g g' now now' cs n.contract lowc ok.1.1.1.1.1 ck.1 hf.contract loose'.1
-        (each_as (NodeLoose types true fits s class n) _ g.past (λ i z. z.1) looses) (past_part types U Guard g.past g'.past pasts) (past_part types U Assume g.past g'.past pasts) (past_part types U Enforce g.past g'.past pasts) gv.1 (λ p. here (Guard ∷ p)) (λ p. m (Guard ∷ p)) (λ p. m (Assume ∷ p)) (λ p. m (Enforce ∷ p)) in
-        let whole : AllAgree types U (node types abstraction N n inputs g now) (in_node o' inputs controls (scope types filled_abstraction M' n.body false names last (since false (at Body g')) (part Body now')) (guard types filled_abstraction M' n.contract seen' last g' now')) =
+        (each_as (NodeLoose types true fits s class n) _ g.past (λ i z. z.1) looses) (past_part types U Observer g.past g'.past pasts) (past_part types U Assume g.past g'.past pasts) (past_part types U Enforce g.past g'.past pasts) gv.1 (λ p. here (Observer ∷ p)) (λ p. m (Observer ∷ p)) (λ p. m (Assume ∷ p)) (λ p. m (Enforce ∷ p)) in
+        let whole : AllAgree types U (node types abstraction N n inputs g now) (in_node o' inputs controls (scope types filled_abstraction M' n.body false names last (since false (at Body g')) (part Body now')) (observer types filled_abstraction M' n.contract seen' last g' now')) =
         parts_agree o o' inputs controls _ _ _ _ (λ x. output_agrees now now' x cur.0.0 (λ y. m (Named y ∷ [])) here) body contract in
         λ p.
         subst (λ v. Agree types (U p) v (node types filled_abstraction M' n inputs g' now' p)) (sym (m p))
-        (subst (λ l. Agree types (U p) (node types abstraction N n inputs g now p) (in_node o' inputs controls' (scope types filled_abstraction M' n.body false (input_of (controls_of n.contract) controls' outer) l (since false (at Body g')) (part Body now')) (guard types filled_abstraction M' n.contract seen' l g' now') p)) (sym same')
-        (subst (λ vs. Agree types (U p) (node types abstraction N n inputs g now p) (in_node o' inputs vs (scope types filled_abstraction M' n.body false (input_of (controls_of n.contract) vs outer) last (since false (at Body g')) (part Body now')) (guard types filled_abstraction M' n.contract seen' last g' now') p)) (sym same) (whole p)))
+        (subst (λ l. Agree types (U p) (node types abstraction N n inputs g now p) (in_node o' inputs controls' (scope types filled_abstraction M' n.body false (input_of (controls_of n.contract) controls' outer) l (since false (at Body g')) (part Body now')) (observer types filled_abstraction M' n.contract seen' l g' now') p)) (sym same')
+        (subst (λ vs. Agree types (U p) (node types abstraction N n inputs g now p) (in_node o' inputs vs (scope types filled_abstraction M' n.body false (input_of (controls_of n.contract) vs outer) last (since false (at Body g')) (part Body now')) (observer types filled_abstraction M' n.contract seen' last g' now') p)) (sym same) (whole p)))
       where
         fresh_none : (b : Block) (sb : Scope) (own_class : Assignment) → of_block T sb none_second own_class b (Fresh ∷ []) ≡ None
         fresh_none (block ds es) sb own_class = refl

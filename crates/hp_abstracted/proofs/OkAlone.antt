@@ -6,7 +6,7 @@ use Rattle.hp_base.specs.declared.span.Span.{Span}
 use Rattle.hp_tree.specs.Expressions.{Expr, constant, variable, last_of, one, two, choose, pre, fby, arrow, when_is, merge, call, Parts, no_part, more_parts}
 use Rattle.hp_tree.specs.Blocks.{Decl, Block, block, Eqns, no_eqn, more_eqns, Eqn, define, switch, reset, automaton, Arms, no_arm, more_arms, States, no_state, more_states}
 use Rattle.hp_tree.specs.Programs.{TypeDecl, Contract, Node}
-use Rattle.hp_tree.specs.Instant.{Guard, Equations, Head, Tail, Arms as ArmsOf, States as StatesOf, Body}
+use Rattle.hp_tree.specs.Instant.{Observer, Equations, Head, Tail, Arms as ArmsOf, States as StatesOf, Body}
 use Rattle.hp_typing.specs.Scopes.{with_variables, inside}
 use Rattle.hp_typed.specs.Scopes.{Scope}
 use Rattle.hp_init.specs.Classes.{Classes, Assignment}
@@ -104,9 +104,9 @@ module _ (types : List TypeDecl) (among : List ℕ → Option Node) where
   pub contract_alone_ok : (o : Option Contract) (s : Scope) (lasts : Lasts) (class : Assignment) → ContractCalls false o → ContractOk types among s lasts class o → ContractOk types no_node s lasts class o
   contract_alone_ok None s lasts class k h = tt
   contract_alone_ok (Some c) s lasts class k h = (
-    block_alone c.body s none_second lasts (λ p. class (Guard ∷ p)) k.0 h.0,
+    block_alone c.body s none_second lasts (λ p. class (Observer ∷ p)) k.0 h.0,
     (
-      told_alone c.assume (inside s c.body) (classes_of c.body none_second (λ p. class (Guard ∷ p))) (lasts_of c.body lasts) k.1.0 h.1.0,
-      told_alone c.enforce (inside s c.body) (classes_of c.body none_second (λ p. class (Guard ∷ p))) (lasts_of c.body lasts) k.1.1 h.1.1,
+      told_alone c.assume (inside s c.body) (classes_of c.body none_second (λ p. class (Observer ∷ p))) (lasts_of c.body lasts) k.1.0 h.1.0,
+      told_alone c.enforce (inside s c.body) (classes_of c.body none_second (λ p. class (Observer ∷ p))) (lasts_of c.body lasts) k.1.1 h.1.1,
     ),
   )

@@ -10,7 +10,7 @@ use Rattle.hp_tree.specs.declared.program.Item.TheVariants.{TypeItem, NodeItem}
 use Rattle.hp_tree.specs.Expressions.{Expr, constant, variable, last_of, one, two, choose, pre, fby, arrow, when_is, merge, call, Exprs, no_expr, more_exprs, Parts, no_part, more_parts}
 use Rattle.hp_tree.specs.Blocks.{Block, block, Eqns, no_eqn, more_eqns, Eqn, define, switch, reset, automaton, Arms, no_arm, more_arms, States, no_state, more_states}
 use Rattle.hp_tree.specs.Programs.{TypeDecl, Contract, Node}
-use Rattle.hp_tree.specs.Instant.{Step, Body, Guard, Assume, Enforce, Named, Equations, Head, Tail, Right, Test, Arms as ArmsOf, States as StatesOf, Until, Unless, First, Second, Third, Args, Instance, Place, Instant}
+use Rattle.hp_tree.specs.Instant.{Step, Body, Observer, Assume, Enforce, Named, Equations, Head, Tail, Right, Test, Arms as ArmsOf, States as StatesOf, Until, Unless, First, Second, Third, Args, Instance, Place, Instant}
 use Rattle.hp_typing.specs.Scopes.{with_variables, inside, inside_node}
 use Rattle.hp_typing.specs.Types.{type_of}
 use Rattle.hp_typed.specs.Scopes.{Scope}
@@ -159,22 +159,22 @@ module _ (T : List ℕ → Marks) (a : Step) (own : (f : List ℕ) → T f (a �
   in_told None s second q = refl
   in_told (Some e) s second q = of_one s second e q
 
-  in_guard : (k : Option Contract) (s : Scope) (class : Assignment) (q : Place) → of_contract T s class k (Guard ∷ (q ++ behind a)) ≡ None
-  in_guard None s class q = refl
-  in_guard (Some c) s class q = in_block c.body s none_second (λ p. class (Guard ∷ p)) q
+  in_observer : (k : Option Contract) (s : Scope) (class : Assignment) (q : Place) → of_contract T s class k (Observer ∷ (q ++ behind a)) ≡ None
+  in_observer None s class q = refl
+  in_observer (Some c) s class q = in_block c.body s none_second (λ p. class (Observer ∷ p)) q
 
   in_assume : (k : Option Contract) (s : Scope) (class : Assignment) (q : Place) → of_contract T s class k (Assume ∷ (q ++ behind a)) ≡ None
   in_assume None s class q = refl
-  in_assume (Some c) s class q = in_told c.assume (inside s c.body) (classes_of c.body none_second (λ p. class (Guard ∷ p))) q
+  in_assume (Some c) s class q = in_told c.assume (inside s c.body) (classes_of c.body none_second (λ p. class (Observer ∷ p))) q
 
   in_enforce : (k : Option Contract) (s : Scope) (class : Assignment) (q : Place) → of_contract T s class k (Enforce ∷ (q ++ behind a)) ≡ None
   in_enforce None s class q = refl
-  in_enforce (Some c) s class q = in_told c.enforce (inside s c.body) (classes_of c.body none_second (λ p. class (Guard ∷ p))) q
+  in_enforce (Some c) s class q = in_told c.enforce (inside s c.body) (classes_of c.body none_second (λ p. class (Observer ∷ p))) q
 
   in_node : (s : Scope) (class : Assignment) (n : Node) → Unmarked a (of_node T s class n)
   in_node s class n [] = refl
   in_node s class n (Body ∷ q) = in_block n.body (body_scope s n) none_second (λ p. class (Body ∷ p)) q
-  in_node s class n (Guard ∷ q) = in_guard n.contract (inside_node s n) class q
+  in_node s class n (Observer ∷ q) = in_observer n.contract (inside_node s n) class q
   in_node s class n (Assume ∷ q) = in_assume n.contract (inside_node s n) class q
   in_node s class n (Enforce ∷ q) = in_enforce n.contract (inside_node s n) class q
   in_node s class n (t ∷ q) = refl
@@ -183,7 +183,7 @@ module _ (T : List ℕ → Marks) (a : Step) (own : (f : List ℕ) → T f (a �
 
 instance_below : (types : List TypeDecl) (a : Step) (s : Scope) (class : Assignment) (n : Node) → Unmarked a (of_instance types s class n)
 instance_below types a s class n [] = refl
-instance_below types a s class n (Guard ∷ q) = in_guard no_marks a (λ f. refl) (λ f q. refl) n.contract (inside_node s n) class q
+instance_below types a s class n (Observer ∷ q) = in_observer no_marks a (λ f. refl) (λ f q. refl) n.contract (inside_node s n) class q
 instance_below types a s class n (Assume ∷ q) = in_assume no_marks a (λ f. refl) (λ f q. refl) n.contract (inside_node s n) class q
 instance_below types a s class n (Enforce ∷ q) = in_enforce no_marks a (λ f. refl) (λ f q. refl) n.contract (inside_node s n) class q
 instance_below types a s class n (t ∷ q) = refl
@@ -195,11 +195,11 @@ told_first types among T (Some e) s second lasts h = ap (λ b. mark b (type_of s
 
 assume_first : (types : List TypeDecl) (among : List ℕ → Option Node) (T : List ℕ → Marks) (k : Option Contract) (s : Scope) (class : Assignment) (lasts : Lasts) → ContractOk types among s lasts class k → of_contract T s class k (Assume ∷ []) ≡ None
 assume_first types among T None s class lasts h = refl
-assume_first types among T (Some c) s class lasts h = told_first types among T c.assume (inside s c.body) (classes_of c.body none_second (λ p. class (Guard ∷ p))) (lasts_of c.body lasts) h.1.0
+assume_first types among T (Some c) s class lasts h = told_first types among T c.assume (inside s c.body) (classes_of c.body none_second (λ p. class (Observer ∷ p))) (lasts_of c.body lasts) h.1.0
 
 enforce_first : (types : List TypeDecl) (among : List ℕ → Option Node) (T : List ℕ → Marks) (k : Option Contract) (s : Scope) (class : Assignment) (lasts : Lasts) → ContractOk types among s lasts class k → of_contract T s class k (Enforce ∷ []) ≡ None
 enforce_first types among T None s class lasts h = refl
-enforce_first types among T (Some c) s class lasts h = told_first types among T c.enforce (inside s c.body) (classes_of c.body none_second (λ p. class (Guard ∷ p))) (lasts_of c.body lasts) h.1.1
+enforce_first types among T (Some c) s class lasts h = told_first types among T c.enforce (inside s c.body) (classes_of c.body none_second (λ p. class (Observer ∷ p))) (lasts_of c.body lasts) h.1.1
 
 module _ (types : List TypeDecl) where
   items_below : (a : Step) (class : Classing) (items : List Item) (f : List ℕ) → Unmarked a (of_items types class items f)

@@ -7,7 +7,7 @@ use Rattle.hp_tree.specs.Expressions.{Expr, constant, variable, last_of, one, tw
 use Rattle.hp_tree.specs.Blocks.{Decl, Block, block, Eqns, no_eqn, more_eqns, Eqn, define, switch, reset, automaton, Arms, no_arm, more_arms, States, no_state, more_states}
 use Rattle.hp_tree.specs.Programs.{TypeDecl, Contract, Node}
 use Rattle.hp_tree.specs.Operators.{Reading, abstraction}
-use Rattle.hp_tree.specs.Instant.{Controls, Body, Guard, Assume, Enforce, Equations, Head, Tail, Right, Test, Arms as ArmsOf, States as StatesOf, Until, Unless, First, Second, Third, Args, Instance, Instant, part, top}
+use Rattle.hp_tree.specs.Instant.{Controls, Body, Observer, Assume, Enforce, Equations, Head, Tail, Right, Test, Arms as ArmsOf, States as StatesOf, Until, Unless, First, Second, Third, Args, Instance, Instant, part, top}
 use Rattle.hp_tree.specs.Meaning.{controls_of}
 use Rattle.hp_wiretyped.specs.Typed.{IsWire}
 use Rattle.hp_wiretyped.specs.Kept.{ComparisonGiven}
@@ -83,7 +83,7 @@ module _ (types : List TypeDecl) (nils : Bool) (u : Value → Value) (callee : L
 
   abbrev pub ContractGiven : Scope → Option Contract → Instant → Type 0
   ContractGiven s None i = ⊤
-  ContractGiven s (Some c) i = BlockGiven s c.body (part Guard i) × (ToldGiven (inside s c.body) c.assume (part Assume i) × ToldGiven (inside s c.body) c.enforce (part Enforce i))
+  ContractGiven s (Some c) i = BlockGiven s c.body (part Observer i) × (ToldGiven (inside s c.body) c.assume (part Assume i) × ToldGiven (inside s c.body) c.enforce (part Enforce i))
 
   -- each controllable variable is given a value of its type
   abbrev pub ControlsGiven : List Decl → Instant → Type 0

@@ -9,11 +9,11 @@ use Rattle.hp_tree.specs.declared.block.Trans.{Trans}
 use Rattle.hp_tree.specs.Expressions.{Expr}
 use Rattle.hp_tree.specs.Blocks.{Decl, Block, block, Eqns, no_eqn, more_eqns, Eqn, define, switch, reset, automaton, Arms, no_arm, more_arms, States, no_state, more_states}
 use Rattle.hp_tree.specs.Programs.{Contract, Node}
-use Rattle.hp_tree.specs.Instant.{Body, Guard, Named, Equations, Head, Tail, Arms as ArmsOf, States as StatesOf, Place, Clock}
+use Rattle.hp_tree.specs.Instant.{Body, Observer, Named, Equations, Head, Tail, Arms as ArmsOf, States as StatesOf, Place, Clock}
 use Rattle.hp_tree.specs.Meaning.{declares, defines, some_defines, arms_define, states_define, block_defines}
 use Rattle.hp_causal.specs.Sources.{below}
 use Rattle.hp_clocking.specs.Terms.{value}
-use Rattle.hp_clocking.specs.Clocking.{Assignment, On, local_term, with_clock, base_written, with_clocks, all_with_clocks, one_with_clocks, arms_with_clocks, states_with_clocks, contract_with_clocks, node_with_clocks, in_guard, in_body}
+use Rattle.hp_clocking.specs.Clocking.{Assignment, On, local_term, with_clock, base_written, with_clocks, all_with_clocks, one_with_clocks, arms_with_clocks, states_with_clocks, contract_with_clocks, node_with_clocks, in_observer, in_body}
 use Rattle.hp_init.specs.Classes as classes
 use Rattle.hp_init.specs.Classes.{Classes, Known, or_first, with_declared, known_in, known_within, known_outputs, is_second, LeftsFollow, BlockFollows, EqnsFollow, EqnFollows, ArmsFollow, StatesFollow, ContractFollows, NodeFollows}
 use Rattle.hp_init.specs.Wants.{is_met, Wish, path_first, of_clock, of_decls, of_test, of_tests, must_be_first, some_must, definition_met, of_block, of_eqns, of_eqn, of_arms, of_states, of_told, of_contract, of_node}
@@ -133,7 +133,7 @@ module _ (at : Assignment) where
 
   follow_contract : (k : Known) (class : classes.Assignment) (o : Option Contract) → ContractFollows k class o → ContractFollows k class (contract_with_clocks at o)
   follow_contract k class None h = tt
-  follow_contract k class (Some c) h = follow_block k class c.body in_guard h
+  follow_contract k class (Some c) h = follow_block k class c.body in_observer h
 
   -- ---- names that have to be First are
 
@@ -181,7 +181,7 @@ module _ (at : Assignment) where
 
   definite_contract : (k : Known) (class : classes.Assignment) (o : Option Contract) → ContractDefinite k class o → ContractDefinite k class (contract_with_clocks at o)
   definite_contract k class None h = tt
-  definite_contract k class (Some c) h = definite_block k class c.body in_guard h
+  definite_contract k class (Some c) h = definite_block k class c.body in_observer h
 
   -- ---- what is wanted is met
 
@@ -265,8 +265,8 @@ module _ (at : Assignment) where
   met_contract k class (Some c) f h =
       let inner = known_in c.body class k in
       let told = of_told inner.values c.assume ++ of_told inner.values c.enforce in
-      subst (λ y. first_unmet (of_block k class (with_clocks at in_guard c.body) ++ (of_told y.values c.assume ++ of_told y.values c.enforce)) ≡ None) (sym (known_same k class c.body in_guard))
-      (met_append (of_block k class (with_clocks at in_guard c.body)) told (met_block k class c.body in_guard f (met_left (of_block k class c.body) told h)) (met_right (of_block k class c.body) told h))
+      subst (λ y. first_unmet (of_block k class (with_clocks at in_observer c.body) ++ (of_told y.values c.assume ++ of_told y.values c.enforce)) ≡ None) (sym (known_same k class c.body in_observer))
+      (met_append (of_block k class (with_clocks at in_observer c.body)) told (met_block k class c.body in_observer f (met_left (of_block k class c.body) told h)) (met_right (of_block k class c.body) told h))
 
   -- ---- nodes
 
@@ -274,7 +274,7 @@ module _ (at : Assignment) where
   classes_kept n class f h =
       let k = known_outputs n class in
       let m = node_with_clocks at n in
-      let a : classes.Assignment = λ p. class (Guard ∷ p) in
+      let a : classes.Assignment = λ p. class (Observer ∷ p) in
       let b : classes.Assignment = λ p. class (Body ∷ p) in
       let same = sym (outputs_same n class) in
       record {

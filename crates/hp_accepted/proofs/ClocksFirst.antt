@@ -9,13 +9,13 @@ use Rattle.hp_tree.specs.declared.block.Trans.{Trans}
 use Rattle.hp_tree.specs.Expressions.{Expr, constant, variable, last_of, one, two, choose, pre, fby, arrow, when_is, merge, call, Exprs, no_expr, more_exprs, Parts, no_part, more_parts}
 use Rattle.hp_tree.specs.Blocks.{Decl, Block, block, Eqns, no_eqn, more_eqns, Eqn, define, switch, reset, automaton, Arms, no_arm, more_arms, States, no_state, more_states}
 use Rattle.hp_tree.specs.Programs.{Contract, Node}
-use Rattle.hp_tree.specs.Instant.{Body, Guard, Named, Equations, Head, Tail, Right, Arms as ArmsOf, States as StatesOf, Place, Clock, without}
+use Rattle.hp_tree.specs.Instant.{Body, Observer, Named, Equations, Head, Tail, Right, Arms as ArmsOf, States as StatesOf, Place, Clock, without}
 use Rattle.hp_tree.specs.Meaning.{declares, some_defines, controls_of}
 use Rattle.hp_causal.specs.Sources.{below}
 use Rattle.hp_causal.specs.Points.{span_of}
 use Rattle.hp_causal.specs.Clocked.{Standing, base_alone, ClockRight, IsOn, ExprsOn, PartsOn}
 use Rattle.hp_clocking.specs.Terms.{value, IsShortest}
-use Rattle.hp_clocking.specs.Clocking.{On, Term, Assignment, base, open_at, Seen, nowhere, own, further, Sight, from_inside, seen_on, standing, controls_define, local_at, local_term, term_in, sight_in, sight_of, ClockUnit, declared, equated, tested, AllAre, Allows, AllAllow, declarations, conditions, units, units_of_all, units_of_one, units_of_arms, units_of_states, known_on_base, contract_sight, body_sight, told, in_guard, in_body, contract_units, node_units, no_sight, sights, sights_of_all, sights_of_one, sights_of_arms, sights_of_states, contract_sights, node_sights, AreClocks, IsAllowed}
+use Rattle.hp_clocking.specs.Clocking.{On, Term, Assignment, base, open_at, Seen, nowhere, own, further, Sight, from_inside, seen_on, standing, controls_define, local_at, local_term, term_in, sight_in, sight_of, ClockUnit, declared, equated, tested, AllAre, Allows, AllAllow, declarations, conditions, units, units_of_all, units_of_one, units_of_arms, units_of_states, known_on_base, contract_sight, body_sight, told, in_observer, in_body, contract_units, node_units, no_sight, sights, sights_of_all, sights_of_one, sights_of_arms, sights_of_states, contract_sights, node_sights, AreClocks, IsAllowed}
 use Rattle.hp_init.specs.Classes as classes
 use Rattle.hp_init.specs.Classes.{Classes, Known, known_in, known_within, known_outputs, is_second}
 use Rattle.hp_init.specs.Wants.{is_met, are_first, parts_first, is_first, Wish, path_first, of_clock, of_decls, of_test, of_tests, definition_met, some_must, of_block, of_eqns, of_eqn, of_arms, of_states, of_told, of_contract, of_node}
@@ -174,7 +174,7 @@ knows_contract k class None p = none
 knows_contract k class (Some c) p = knows k class c.body p
 
 abbrev knows_node : classes.Assignment → Node → Place → Classes
-knows_node class n (Guard ∷ p) = knows_contract (known_outputs n class) (λ q. class (Guard ∷ q)) n.contract p
+knows_node class n (Observer ∷ p) = knows_contract (known_outputs n class) (λ q. class (Observer ∷ q)) n.contract p
 knows_node class n (Body ∷ p) = knows (known_outputs n class) (λ q. class (Body ∷ q)) n.body p
 knows_node class n p = none
 
@@ -367,14 +367,14 @@ module _ (at : Assignment) (at_place : Place → Classes) where
         (λ n' i'. split (conditions sight unless) (units_of_states ss (below Tail here) sight) (of_tests out.values unless) (of_states out k t ss)
         (λ n'' i''. tests_allow out.values sight f unless n'' i'') (λ n'' i''. allow_states out k t ss (below Tail here) sight (λ p. u (Tail ∷ p)) f o n'' i'') n' i') n i) m h
 
-  allow_contract : (k : Known) (class : classes.Assignment) (c : Option Contract) (out : Sight) → Under in_guard (knows_contract k class c) → Bases out → first_unmet (of_contract k class c) ≡ None → AllAllow at (contract_units out c) → AllAllow other (contract_units out c)
+  allow_contract : (k : Known) (class : classes.Assignment) (c : Option Contract) (out : Sight) → Under in_observer (knows_contract k class c) → Bases out → first_unmet (of_contract k class c) ≡ None → AllAllow at (contract_units out c) → AllAllow other (contract_units out c)
   allow_contract k class None out u o m h = tt
   allow_contract k class (Some c) out u o m h =
       let inner = known_values k class c.body in
-      let within = sight_of c.body in_guard out in
-      let f = filters_of k class c.body in_guard out u o in
-      split (units c.body in_guard out) (told within c.assume ++ told within c.enforce) (of_block k class c.body) (of_told inner c.assume ++ of_told inner c.enforce)
-      (λ n i. allow_block k class c.body in_guard out u o n i)
+      let within = sight_of c.body in_observer out in
+      let f = filters_of k class c.body in_observer out u o in
+      split (units c.body in_observer out) (told within c.assume ++ told within c.enforce) (of_block k class c.body) (of_told inner c.assume ++ of_told inner c.enforce)
+      (λ n i. allow_block k class c.body in_observer out u o n i)
       (λ n i. split (told within c.assume) (told within c.enforce) (of_told inner c.assume) (of_told inner c.enforce) (λ n' i'. told_allows inner within f c.assume n' i') (λ n' i'. told_allows inner within f c.enforce n' i') n i) m h
 
   -- ---- the clocks at places are right
@@ -421,9 +421,9 @@ module _ (at : Assignment) (at_place : Place → Classes) where
     right_states k class (more_states j b until unless s ss) here sight u o (Tail ∷ p) = right_states k (λ q. class (Tail ∷ q)) ss (below Tail here) sight (λ q. u (Tail ∷ q)) o p
     right_states k class ss here sight u o p = right_none (here p)
 
-  right_contract : (k : Known) (class : classes.Assignment) (c : Option Contract) (out : Sight) → Under in_guard (knows_contract k class c) → Bases out → (p : Place) → RightAt (contract_sights c out p) (Guard ∷ p)
-  right_contract k class None out u o p = right_none (Guard ∷ p)
-  right_contract k class (Some c) out u o p = right_block k class c.body in_guard out u o p
+  right_contract : (k : Known) (class : classes.Assignment) (c : Option Contract) (out : Sight) → Under in_observer (knows_contract k class c) → Bases out → (p : Place) → RightAt (contract_sights c out p) (Observer ∷ p)
+  right_contract k class None out u o p = right_none (Observer ∷ p)
+  right_contract k class (Some c) out u o p = right_block k class c.body in_observer out u o p
 
   -- ---- where no step goes, the names of clocks are First
 
@@ -461,19 +461,19 @@ module _ (at : Assignment) (at_place : Place → Classes) where
       first_states k class (more_states j b until unless s ss) here u =
           (first_block k (λ p. class (Head ∷ Body ∷ p)) b (below Body (below Head here)) (λ p. u (Head ∷ Body ∷ p)), first_states k (λ p. class (Tail ∷ p)) ss (below Tail here) (λ p. u (Tail ∷ p)))
 
-    first_contract : (k : Known) (class : classes.Assignment) (c : Option Contract) → Under in_guard (knows_contract k class c) → ContractFirst at k class c
+    first_contract : (k : Known) (class : classes.Assignment) (c : Option Contract) → Under in_observer (knows_contract k class c) → ContractFirst at k class c
     first_contract k class None u = tt
-    first_contract k class (Some c) u = first_block k class c.body in_guard u
+    first_contract k class (Some c) u = first_block k class c.body in_observer u
 
 -- ---- nodes
 
 pub clocks_first : (n : Node) (class : classes.Assignment) (at : Assignment) → first_unmet (of_node class n) ≡ None → IsShortest (IsAllowed n) at → NodeFirst at class n
 clocks_first n class at m s =
     let k = known_outputs n class in
-    let a : classes.Assignment = λ q. class (Guard ∷ q) in
+    let a : classes.Assignment = λ q. class (Observer ∷ q) in
     let b : classes.Assignment = λ q. class (Body ∷ q) in
     let there = knows_node class n in
-    let ug : Under at there in_guard (knows_contract k a n.contract) = λ p. refl in
+    let ug : Under at there in_observer (knows_contract k a n.contract) = λ p. refl in
     let ub : Under at there in_body (knows k b n.body) = λ p. refl in
     let on_base : (y : Bool) → SeenBase at there (known_on_base y) = λ y. based y in
     let og : Bases at there (contract_sight n) = λ x. on_base (declares n.inputs x || declares n.outputs x) in
@@ -490,7 +490,7 @@ clocks_first n class at m s =
     based true = λ e. refl
     based false = tt
 
-    right : (k : Known) (a b : classes.Assignment) (there : Place → Classes) → Under at there in_guard (knows_contract k a n.contract) → Under at there in_body (knows k b n.body) → Bases at there (contract_sight n) → Bases at there (body_sight n) → (p : Place) → RightAt at there (node_sights n p) p
-    right k a b there ug ub og ob (Guard ∷ p) = right_contract at there k a n.contract (contract_sight n) ug og p
+    right : (k : Known) (a b : classes.Assignment) (there : Place → Classes) → Under at there in_observer (knows_contract k a n.contract) → Under at there in_body (knows k b n.body) → Bases at there (contract_sight n) → Bases at there (body_sight n) → (p : Place) → RightAt at there (node_sights n p) p
+    right k a b there ug ub og ob (Observer ∷ p) = right_contract at there k a n.contract (contract_sight n) ug og p
     right k a b there ug ub og ob (Body ∷ p) = right_block at there k b n.body in_body (body_sight n) ub ob p
     right k a b there ug ub og ob p = right_none at there p

@@ -10,14 +10,14 @@ use Rattle.hp_tree.specs.declared.block.Trans.{Trans}
 use Rattle.hp_tree.specs.Expressions.{Expr}
 use Rattle.hp_tree.specs.Blocks.{Decl, Block, block, Eqns, no_eqn, more_eqns, Eqn, define, switch, reset, automaton, Arms, no_arm, more_arms, States, no_state, more_states}
 use Rattle.hp_tree.specs.Programs.{TypeDecl, Contract, Node}
-use Rattle.hp_tree.specs.Instant.{Body, Guard, Named, Equations, Head, Tail, Arms as ArmsOf, States as StatesOf, Place, Clock}
+use Rattle.hp_tree.specs.Instant.{Body, Observer, Named, Equations, Head, Tail, Arms as ArmsOf, States as StatesOf, Place, Clock}
 use Rattle.hp_tree.specs.Meaning.{declares, defines, some_defines, arms_define, states_define, block_defines, controls_of}
 use Rattle.hp_known.specs.Known.{lookup, with_entry}
 use Rattle.hp_typing.specs.Scopes.{with_variables, inside, inside_node}
 use Rattle.hp_named.specs.Scopes.{Scope}
 use Rattle.hp_causal.specs.Sources.{below}
 use Rattle.hp_clocking.specs.Terms.{value}
-use Rattle.hp_clocking.specs.Clocking.{Assignment, On, local_term, with_clock, base_written, with_clocks, all_with_clocks, one_with_clocks, arms_with_clocks, states_with_clocks, contract_with_clocks, node_with_clocks, in_guard, in_body}
+use Rattle.hp_clocking.specs.Clocking.{Assignment, On, local_term, with_clock, base_written, with_clocks, all_with_clocks, one_with_clocks, arms_with_clocks, states_with_clocks, contract_with_clocks, node_with_clocks, in_observer, in_body}
 use Rattle.hp_valued.specs.Judged.{Lasts, lasts_in, lasts_of, no_lasts, body_scope, of_arms, Covers, HaveOwnTypes, HaveEquations, FirstSound, DeclsSound, TestsSound, Completes, OthersKnown, BlockSound, EqnsSound, EqnSound, ArmsSound, StatesSound, ToldSound, ContractSound, NodeSound, HasState, IsPlain, AllPlain, OnePlain, ArmsPlain, StatesPlain, PlainContract}
 
 -- ---- declarations that differ in their clocks alone
@@ -179,7 +179,7 @@ module _ (types : List TypeDecl) (among : List ℕ → Option Node) (at : Assign
 
   contract_clocked : (o : Option Contract) (s : Scope) (lasts : Lasts) → ContractSound types among s lasts o → ContractSound types among s lasts (contract_with_clocks at o)
   contract_clocked None s lasts ok = tt
-  contract_clocked (Some c) s lasts ok = (block_clocked c.body in_guard s lasts ok.0, (told_clocked in_guard c.body s lasts c.assume ok.1.0, told_clocked in_guard c.body s lasts c.enforce ok.1.1))
+  contract_clocked (Some c) s lasts ok = (block_clocked c.body in_observer s lasts ok.0, (told_clocked in_observer c.body s lasts c.assume ok.1.0, told_clocked in_observer c.body s lasts c.enforce ok.1.1))
 
   controls_clocked : (o : Option Contract) → controls_of (contract_with_clocks at o) ≡ map base_written (controls_of o)
   controls_clocked None = refl
@@ -247,4 +247,4 @@ module _ (at : Assignment) where
 
   pub contract_plain : (o : Option Contract) → PlainContract o → PlainContract (contract_with_clocks at o)
   contract_plain None h = tt
-  contract_plain (Some c) h = block_plain c.body in_guard h
+  contract_plain (Some c) h = block_plain c.body in_observer h

@@ -7,7 +7,7 @@ use Rattle.hp_base.specs.declared.ty.Const.{Const}
 use Rattle.hp_tree.specs.Expressions.{Expr, constant, variable, last_of, one, two, choose, pre, fby, arrow, when_is, merge, call}
 use Rattle.hp_tree.specs.Blocks.{Decl, Block, block, Eqns, no_eqn, more_eqns, Eqn, define, switch, reset, automaton, Arms, no_arm, more_arms, States, no_state, more_states}
 use Rattle.hp_tree.specs.Programs.{Contract, Node}
-use Rattle.hp_tree.specs.Instant.{Body, Guard, Named, Equations, Head, Tail, Arms as ArmsOf, States as StatesOf, Place}
+use Rattle.hp_tree.specs.Instant.{Body, Observer, Named, Equations, Head, Tail, Arms as ArmsOf, States as StatesOf, Place}
 use Rattle.hp_tree.specs.Meaning.{is_among, declares, defines, some_defines, arms_define, states_define, block_defines}
 use Rattle.hp_init.specs.Classes.{Classes, Assignment, is_second, Known, or_first, with_declared, known_in, known_within, known_outputs, VariableFollows, LeftsFollow, BlockFollows, EqnsFollow, EqnFollows, ArmsFollow, StatesFollow, ContractFollows, NodeFollows, AreClasses}
 use Rattle.hp_init.specs.Wants.{is_met, Wish, of_decls, of_test, of_tests, must_be_first, some_must, definition_met, of_block, of_eqns, of_eqn, of_arms, of_states, of_told, of_contract, of_node}
@@ -69,7 +69,7 @@ low_contract class None p = false
 low_contract class (Some c) p = low_block class c.body p
 
 abbrev low_node : Assignment → Node → Assignment
-low_node class n (Guard ∷ p) = low_contract (λ q. class (Guard ∷ q)) n.contract p
+low_node class n (Observer ∷ p) = low_contract (λ q. class (Observer ∷ q)) n.contract p
 low_node class n (Body ∷ p) = low_block (λ q. class (Body ∷ q)) n.body p
 low_node class n p = false
 
@@ -248,8 +248,8 @@ node_low : (n : Node) (class : Assignment) → NodeFollows class n → first_unm
 node_low n class f h =
     let L = known_outputs n (low_node class n) in
     let K = known_outputs n class in (
-      contract_low n.contract (λ q. class (Guard ∷ q)) L K below f.0 (met_left (of_contract K (λ q. class (Guard ∷ q)) n.contract) (of_block K (λ q. class (Body ∷ q)) n.body) h),
-      block_low n.body (λ q. class (Body ∷ q)) L K below f.1 (met_right (of_contract K (λ q. class (Guard ∷ q)) n.contract) (of_block K (λ q. class (Body ∷ q)) n.body) h),
+      contract_low n.contract (λ q. class (Observer ∷ q)) L K below f.0 (met_left (of_contract K (λ q. class (Observer ∷ q)) n.contract) (of_block K (λ q. class (Body ∷ q)) n.body) h),
+      block_low n.body (λ q. class (Body ∷ q)) L K below f.1 (met_right (of_contract K (λ q. class (Observer ∷ q)) n.contract) (of_block K (λ q. class (Body ∷ q)) n.body) h),
     )
   where
     none_below : (x : List ℕ) → VarBelow None None
@@ -398,7 +398,7 @@ node_classes n sc once class c h = record {
   follow = c.0;
   met = h;
   definite = (
-    contract_definite n.contract (λ q. class (Guard ∷ q)) (known_outputs n class) _ sc.contract once.0 outside (λ p z. low (Guard ∷ p) z),
+    contract_definite n.contract (λ q. class (Observer ∷ q)) (known_outputs n class) _ sc.contract once.0 outside (λ p z. low (Observer ∷ p) z),
     block_definite n.body (λ q. class (Body ∷ q)) (known_outputs n class) _ _ sc.body once.1 (λ x z. outside x) (λ p z. low (Body ∷ p) z),
   );
 }

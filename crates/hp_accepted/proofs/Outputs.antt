@@ -12,7 +12,7 @@ use Rattle.hp_tree.specs.declared.program.Item.TheVariants.{TypeItem, NodeItem}
 use Rattle.hp_tree.specs.Expressions.{Expr, constant, variable, last_of, one, two, choose, pre, fby, arrow, when_is, merge, call, Exprs, no_expr, more_exprs, Parts, no_part, more_parts}
 use Rattle.hp_tree.specs.Blocks.{Decl, Block, block, Eqns, no_eqn, more_eqns, Eqn, define, switch, reset, automaton, Arms, no_arm, more_arms, States, no_state, more_states}
 use Rattle.hp_tree.specs.Programs.{TypeDecl, Contract, Node}
-use Rattle.hp_tree.specs.Instant.{Controls, Body, Guard, Assume, Enforce, Named, Equations, Head, Tail, Right, Test, Arms as ArmsOf, States as StatesOf, Until, Unless, First, Second, Third, Args, Instance, Instant, part, top, Clock}
+use Rattle.hp_tree.specs.Instant.{Controls, Body, Observer, Assume, Enforce, Named, Equations, Head, Tail, Right, Test, Arms as ArmsOf, States as StatesOf, Until, Unless, First, Second, Third, Args, Instance, Instant, part, top, Clock}
 use Rattle.hp_tree.specs.Meaning.{declares, controls_of, node_among}
 use Rattle.hp_tree.specs.Reaction.{Each}
 use Rattle.hp_tree.specs.Values.{IsOf}
@@ -167,7 +167,7 @@ module _ (types : List TypeDecl) (callee : List ℕ → Instant → Type 0) (all
 
   pub contract_given : (s : Scope) (o : Option Contract) (i : Instant) → ContractGiven types true undefined callee s o i
   contract_given s None i = tt
-  contract_given s (Some c) i = (block_given s c.body (part Guard i), (told_given (inside s c.body) c.assume (part Assume i), told_given (inside s c.body) c.enforce (part Enforce i)))
+  contract_given s (Some c) i = (block_given s c.body (part Observer i), (told_given (inside s c.body) c.assume (part Assume i), told_given (inside s c.body) c.enforce (part Enforce i)))
 
   node_given : (s : Scope) (n : Node) (i : Instant) → Uncontrolled n → NodeGiven types true undefined callee s n i
   node_given s n i u =

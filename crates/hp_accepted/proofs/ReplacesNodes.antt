@@ -134,12 +134,12 @@ module _ (types : List TypeDecl) (among among' : List ℕ → Option Node) (node
       let f = fine types among among' nodes ready P inputs_first owned p lift alike k e ty.Bool ok.1 ok.0 i o l sc in
       ((f.0.1, f.0.0 ty.Bool ok.1), f.1)
 
-  guard_replaced : {s r : Scope} {lasts lasts' : Lasts} {seen own after : Names} (owned : Names) → At types among among' s r lasts lasts' seen own after → Lift types among among' nodes ready P inputs_first r → Alike nodes s → Plain own → (k : ℕ) (b : Block) (assume enforce : Option Expr) → BlockInlines P b → ConditionInlines assume → ConditionInlines enforce → BlockFits nodes b → ConditionFits nodes assume → ConditionFits nodes enforce → BlockNames IsPlain b → BlockScoped seen own b
+  observer_replaced : {s r : Scope} {lasts lasts' : Lasts} {seen own after : Names} (owned : Names) → At types among among' s r lasts lasts' seen own after → Lift types among among' nodes ready P inputs_first r → Alike nodes s → Plain own → (k : ℕ) (b : Block) (assume enforce : Option Expr) → BlockInlines P b → ConditionInlines assume → ConditionInlines enforce → BlockFits nodes b → ConditionFits nodes assume → ConditionFits nodes enforce → BlockNames IsPlain b → BlockScoped seen own b
       → (in_condition nodes (in_condition nodes (in_eqns nodes k (equations_of b)).next assume).next enforce).next ≤ 1000000
       → (body : Block) → body ≡ block (locals_of b ++ ((in_eqns nodes k (equations_of b)).locals ++ ((in_condition nodes (in_eqns nodes k (equations_of b)).next assume).locals ++ (in_condition nodes (in_condition nodes (in_eqns nodes k (equations_of b)).next assume).next enforce).locals))) (eqns_of (list_of_eqns (in_eqns nodes k (equations_of b)).part ++ ((in_condition nodes (in_eqns nodes k (equations_of b)).next assume).before ++ (in_condition nodes (in_condition nodes (in_eqns nodes k (equations_of b)).next assume).next enforce).before)))
       → BlockScoped after owned body → BlockSound types among' s lasts b → ToldSound types among' (inside s b) (lasts_of b lasts) assume → ToldSound types among' (inside s b) (lasts_of b lasts) enforce
       → BlockSound types among r lasts' body × (ToldSound types among (inside r body) (lasts_of body lasts') (in_condition nodes (in_eqns nodes k (equations_of b)).next assume).part × ToldSound types among (inside r body) (lasts_of body lasts') (in_condition nodes (in_condition nodes (in_eqns nodes k (equations_of b)).next assume).next enforce).part)
-  guard_replaced {s} {r} {lasts} {lasts'} {seen} {own} {after} owned p lift alike plain k (block ds es) assume enforce i ia ie f fa fe n sc b body eq sc0 ok oka oke =
+  observer_replaced {s} {r} {lasts} {lasts'} {seen} {own} {after} owned p lift alike plain k (block ds es) assume enforce i ia ie f fa fe n sc b body eq sc0 ok oka oke =
       let q = in_eqns nodes k es in
       let a = in_condition nodes q.next assume in
       let c = in_condition nodes a.next enforce in
@@ -194,7 +194,7 @@ module _ (types : List TypeDecl) (among among' : List ℕ → Option Node) (node
   pub contract_replaced : {s r : Scope} {lasts lasts' : Lasts} {seen : Names} → At types among among' s r lasts lasts' seen no_names seen → Lift types among among' nodes ready P inputs_first r → Alike nodes s → (o : Option Contract) → ContractInlines o → ContractFits nodes o → ContractNames IsPlain o → ContractScoped seen o → (in_contract nodes 1 o).next ≤ 1000000 → ContractScoped seen (in_contract nodes 1 o).part → ContractSound types among' s lasts o → ContractSound types among r lasts' (in_contract nodes 1 o).part
   contract_replaced {s} {r} {lasts} {lasts'} {seen} p lift alike None i f n sc b sc' ok = tt
   contract_replaced {s} {r} {lasts} {lasts'} {seen} p lift alike (Some c) i f n sc b sc' ok =
-      guard_replaced no_names p lift alike (λ x h. absurd (cc)) 1 c.body c.assume c.enforce i.0 i.1.0 i.1.1 f.0 f.1 f.2 n sc b _ refl sc' ok.0 ok.1.0 ok.1.1
+      observer_replaced no_names p lift alike (λ x h. absurd (cc)) 1 c.body c.assume c.enforce i.0 i.1.0 i.1.1 f.0 f.1 f.2 n sc b _ refl sc' ok.0 ok.1.0 ok.1.1
 
 pub controls_replaced : (nodes : List ℕ → Node) (k : ℕ) (c : Option Contract) → controls_of (in_contract nodes k c).part ≡ controls_of c
 controls_replaced nodes k None = refl

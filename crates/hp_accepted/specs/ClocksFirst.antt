@@ -2,10 +2,10 @@
 use Rattle.std.specs.Prelude.{⊤, IsFalse, List, [], ◌∷◌, Option, None, Some}
 use Rattle.hp_tree.specs.Blocks.{Decl, Block, block, Eqns, no_eqn, more_eqns, Eqn, define, switch, reset, automaton, Arms, no_arm, more_arms, States, no_state, more_states}
 use Rattle.hp_tree.specs.Programs.{Contract, Node}
-use Rattle.hp_tree.specs.Instant.{Body, Guard, Equations, Head, Tail, Arms as ArmsOf, States as StatesOf, Place, Clock}
+use Rattle.hp_tree.specs.Instant.{Body, Observer, Equations, Head, Tail, Arms as ArmsOf, States as StatesOf, Place, Clock}
 use Rattle.hp_causal.specs.Sources.{below}
 use Rattle.hp_clocking.specs.Terms.{value}
-use Rattle.hp_clocking.specs.Clocking.{Assignment, local_term, in_guard, in_body}
+use Rattle.hp_clocking.specs.Clocking.{Assignment, local_term, in_observer, in_body}
 use Rattle.hp_init.specs.Classes as classes
 use Rattle.hp_init.specs.Classes.{Classes, Known, known_in, known_within, known_outputs}
 
@@ -44,8 +44,8 @@ module _ (at : Assignment) where
 
   abbrev pub ContractFirst : Known → classes.Assignment → Option Contract → Type 0
   ContractFirst k class None = ⊤
-  ContractFirst k class (Some c) = BlockFirst k class in_guard c.body
+  ContractFirst k class (Some c) = BlockFirst k class in_observer c.body
 
   -- of a node
   abbrev pub NodeFirst : classes.Assignment → Node → Type 0
-  NodeFirst class n = ContractFirst (known_outputs n class) (λ p. class (Guard ∷ p)) n.contract × BlockFirst (known_outputs n class) (λ p. class (Body ∷ p)) in_body n.body
+  NodeFirst class n = ContractFirst (known_outputs n class) (λ p. class (Observer ∷ p)) n.contract × BlockFirst (known_outputs n class) (λ p. class (Body ∷ p)) in_body n.body

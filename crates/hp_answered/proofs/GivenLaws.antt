@@ -12,8 +12,8 @@ use Rattle.hp_tree.specs.Expressions.{Expr, constant, variable, last_of, one, tw
 use Rattle.hp_tree.specs.Blocks.{Decl, Block, block, Eqns, no_eqn, more_eqns, Eqn, define, switch, reset, automaton, Arms, no_arm, more_arms, States, no_state, more_states}
 use Rattle.hp_tree.specs.Programs.{TypeDecl, Contract, Node}
 use Rattle.hp_tree.specs.Operators.{Reading, is_cons, is_true, if_of, constant_of}
-use Rattle.hp_tree.specs.Instant.{Controls, Body, Guard, Assume, Enforce, Named, Equations, Head, Tail, Right, Test, Arms as ArmsOf, States as StatesOf, Until, Unless, First, Second, Third, Args, Instance, Place, Instant, Past, Given, at, part, parts, top, since, own, newest, at_first, nothing, with_one, with_two, with_three, in_row, with_row, with_instance, of_two, in_block, in_right, with_arms, with_body, in_state, with_words, in_guard, in_node, Clock, holds, without}
-use Rattle.hp_tree.specs.Meaning.{Names, Nodes, declares, defines, some_defines, inside, within, lasts, clock_of, Jump, state_word, selected, first_true, from_state, input_of, only_output, expr, exprs, merged, conditions, strong, read_in, last_in, weak_in, weak, from_arm, right, gives, defined, scope, equations, equation, arm, states, guard, controls_of, given_to, node, nodes}
+use Rattle.hp_tree.specs.Instant.{Controls, Body, Observer, Assume, Enforce, Named, Equations, Head, Tail, Right, Test, Arms as ArmsOf, States as StatesOf, Until, Unless, First, Second, Third, Args, Instance, Place, Instant, Past, Given, at, part, parts, top, since, own, newest, at_first, nothing, with_one, with_two, with_three, in_row, with_row, with_instance, of_two, in_block, in_right, with_arms, with_body, in_state, with_words, in_observer, in_node, Clock, holds, without}
+use Rattle.hp_tree.specs.Meaning.{Names, Nodes, declares, defines, some_defines, inside, within, lasts, clock_of, Jump, state_word, selected, first_true, from_state, input_of, only_output, expr, exprs, merged, conditions, strong, read_in, last_in, weak_in, weak, from_arm, right, gives, defined, scope, equations, equation, arm, states, observer, controls_of, given_to, node, nodes}
 use Rattle.hp_flattened.specs.Lifted.{uncontrolled}
 use Rattle.hp_causal.proofs.Choices.{chosen}
 
@@ -161,15 +161,15 @@ module _ (types : List TypeDecl) (R : Reading) (N : Nodes)
   told_same None names last past free other now u = refl
   told_same (Some e) names last past free other now u = expr_same e [] names last past free other now u
 
-  guard_same : (c : Option Contract) (names last : Names) (past : Past) (free other now : Instant) → AgreeElsewhere free other → guard types R N c names last (given past free) now ≡ guard types R N c names last (given past other) now
-  guard_same None names last past free other now u = refl
-  guard_same (Some c) names last past free other now u =
-      let own_names = read_in types R N c.body names (part Guard now) in
-      let own_last = last_in types R N c.body (since false (at Guard (given past free))).past last in
-      let t = block_same c.body false names last (own (parts Guard past)) (part Guard free) (part Guard other) (part Guard now) (λ p. u (Guard ∷ p)) in
+  observer_same : (c : Option Contract) (names last : Names) (past : Past) (free other now : Instant) → AgreeElsewhere free other → observer types R N c names last (given past free) now ≡ observer types R N c names last (given past other) now
+  observer_same None names last past free other now u = refl
+  observer_same (Some c) names last past free other now u =
+      let own_names = read_in types R N c.body names (part Observer now) in
+      let own_last = last_in types R N c.body (since false (at Observer (given past free))).past last in
+      let t = block_same c.body false names last (own (parts Observer past)) (part Observer free) (part Observer other) (part Observer now) (λ p. u (Observer ∷ p)) in
       let w = told_same c.assume own_names own_last (parts Assume past) (part Assume free) (part Assume other) (part Assume now) (λ p. u (Assume ∷ p)) in
       let z = told_same c.enforce own_names own_last (parts Enforce past) (part Enforce free) (part Enforce other) (part Enforce now) (λ p. u (Enforce ∷ p)) in
-      λ d. in_guard (t d) (w d) (z d)
+      λ d. in_observer (t d) (w d) (z d)
 
   no_values : (ds : List Decl) (free other : Instant) → ds ≡ [] → given_to types R N ds free ≡ given_to types R N ds other
   no_values [] free other e = refl
@@ -184,8 +184,8 @@ module _ (types : List TypeDecl) (R : Reading) (N : Nodes)
       let names : Names = λ x. if declares n.outputs x then now (Named x ∷ []) else outer x in
       ap₂ (λ b c. in_node outputs' vs controls b c)
       (block_same n.body false (input_of (controls_of n.contract) controls outer) last (own (parts Body past)) (part Body free) (part Body other) (part Body now) (λ p. u (Body ∷ p)))
-      (guard_same n.contract names last past free other now u)
-      ∙ ap (λ c. in_node outputs' vs c (scope types R N n.body false (input_of (controls_of n.contract) c outer) last (since false (at Body (given past other))) (part Body now)) (guard types R N n.contract names last (given past other) now)) (no_values (controls_of n.contract) (part Controls free) (part Controls other) none)
+      (observer_same n.contract names last past free other now u)
+      ∙ ap (λ c. in_node outputs' vs c (scope types R N n.body false (input_of (controls_of n.contract) c outer) last (since false (at Body (given past other))) (part Body now)) (observer types R N n.contract names last (given past other) now)) (no_values (controls_of n.contract) (part Controls free) (part Controls other) none)
 
 -- no node of some items, the last one first, has controllable variables
 abbrev pub Uncontrolled : List Item → Type 0

@@ -72,7 +72,7 @@ fn lower_contract<'a>(
     })
 }
 
-fn lower_guard<'a>(
+fn lower_observer<'a>(
     alloc: Global,
     enums: &Enums<'a>,
     around: &mut Around<'a>,
@@ -93,7 +93,7 @@ fn lower_node<'a>(alloc: Global, enums: &Enums<'a>, node: &'a Node) -> Result<No
     ensures { IfOk result (λ other. other ≡ lowered_node enums.now node.now) }
 {
     let mut around = around_node(alloc, node)?;
-    let contract = lower_guard(alloc, enums, &mut around, &node.contract)?;
+    let contract = lower_observer(alloc, enums, &mut around, &node.contract)?;
     let body = lower_block(alloc, enums, &mut around, node.span, &[], &node.body)?;
     Ok(Node {
         name: node.name.copy(alloc)?,

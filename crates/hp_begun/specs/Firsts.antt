@@ -11,7 +11,7 @@ use Rattle.hp_tree.specs.declared.program.Item.TheVariants.{TypeItem, NodeItem}
 use Rattle.hp_tree.specs.Expressions.{Expr, constant, variable, last_of, one, two, choose, pre, fby, arrow, when_is, merge, call, Exprs, no_expr, more_exprs, Parts, no_part, more_parts}
 use Rattle.hp_tree.specs.Blocks.{Decl, Block, block, Eqns, no_eqn, more_eqns, Eqn, define, switch, reset, automaton, Arms, no_arm, more_arms, States, no_state, more_states}
 use Rattle.hp_tree.specs.Programs.{Contract, Node}
-use Rattle.hp_tree.specs.Instant.{Controls, Body, Instant, nothing, alone, with_one, with_two, with_three, in_row, with_row, with_instance, of_two, in_block, in_right, with_arms, with_body, in_state, with_words, in_guard}
+use Rattle.hp_tree.specs.Instant.{Controls, Body, Instant, nothing, alone, with_one, with_two, with_three, in_row, with_row, with_instance, of_two, in_block, in_right, with_arms, with_body, in_state, with_words, in_observer}
 use Rattle.hp_tree.specs.Meaning.{controls_of}
 use Rattle.hp_typing.specs.Scopes.{with_variables, inside, inside_node}
 use Rattle.hp_typing.specs.Types.{type_of}
@@ -26,9 +26,9 @@ first_of k (Some t) = first_value (flat_type k.types t)
 
 -- the parts of a node: its controllable variables, its body, and its contract's
 abbrev pub in_parts : Instant → Instant → Instant → Instant
-in_parts controls body guard (Controls ∷ p) = controls p
-in_parts controls body guard (Body ∷ p) = body p
-in_parts controls body guard p = guard p
+in_parts controls body observer (Controls ∷ p) = controls p
+in_parts controls body observer (Body ∷ p) = body p
+in_parts controls body observer p = observer p
 
 -- `callee` has what is given to an instance of the node of a name
 module _ (k : Known) (callee : List ℕ → Instant) where
@@ -89,7 +89,7 @@ module _ (k : Known) (callee : List ℕ → Instant) where
 
   abbrev pub contract_firsts : Scope → Option Contract → Instant
   contract_firsts s None = nothing
-  contract_firsts s (Some c) = in_guard (block_firsts s c.body) (told_firsts (inside s c.body) c.assume) (told_firsts (inside s c.body) c.enforce)
+  contract_firsts s (Some c) = in_observer (block_firsts s c.body) (told_firsts (inside s c.body) c.assume) (told_firsts (inside s c.body) c.enforce)
 
   abbrev pub controls_firsts : List Decl → List Instant
   controls_firsts [] = []

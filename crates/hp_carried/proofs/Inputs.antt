@@ -9,7 +9,7 @@ use Rattle.hp_tree.specs.declared.program.Item.{Item}
 use Rattle.hp_tree.specs.Blocks.{Decl, Block, block, Eqns, no_eqn, more_eqns, Eqn, define, switch, reset, automaton, Arms, no_arm, more_arms, States, no_state, more_states}
 use Rattle.hp_tree.specs.Expressions.{Expr, constant, variable, last_of, one, two, choose, pre, fby, arrow, when_is, merge, call, Exprs, no_expr, more_exprs, Parts, no_part, more_parts}
 use Rattle.hp_tree.specs.ExpressionTypes.{Scope, typed_in, untyped, scope_of, type_of}
-use Rattle.hp_tree.specs.Instant.{Head, Tail, Inputs, Controls, First, Second, Third, Args, Instance, Named, Equations, Right, Test, Arms as ArmsOf, States as StatesOf, Body, Until, Unless, Guard, Assume, Enforce, Place}
+use Rattle.hp_tree.specs.Instant.{Head, Tail, Inputs, Controls, First, Second, Third, Args, Instance, Named, Equations, Right, Test, Arms as ArmsOf, States as StatesOf, Body, Until, Unless, Observer, Assume, Enforce, Place}
 use Rattle.hp_tree.specs.Meaning.{types_of, controls_of, node_among}
 use Rattle.hp_tree.specs.Operators.{is_comparison}
 use Rattle.hp_tree.specs.Programs.{Contract, Node, TypeDecl}
@@ -181,7 +181,7 @@ module _ (types : List TypeDecl) (outs : List ℕ → List Decl) (callee : List 
   contract : (o : Option Contract) (names : Scope) (w : Place → Place) → OnlyFree (slots_of_contract types outs callee o names w)
   contract None names w = tt
   contract (Some c) names w =
-      only_joined (slots_of_block types outs callee c.body names (below Guard w)) (slots_told c.assume (scope_of c.body names) (below Assume w) ++ slots_told c.enforce (scope_of c.body names) (below Enforce w)) (body_of c.body names (below Guard w))
+      only_joined (slots_of_block types outs callee c.body names (below Observer w)) (slots_told c.assume (scope_of c.body names) (below Assume w) ++ slots_told c.enforce (scope_of c.body names) (below Enforce w)) (body_of c.body names (below Observer w))
       (only_joined (slots_told c.assume (scope_of c.body names) (below Assume w)) (slots_told c.enforce (scope_of c.body names) (below Enforce w)) (told c.assume (scope_of c.body names) (below Assume w)) (told c.enforce (scope_of c.body names) (below Enforce w)))
 
 -- ---- nodes

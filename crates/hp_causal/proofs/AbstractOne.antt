@@ -7,7 +7,7 @@ use Rattle.hp_tree.specs.declared.program.Item.{Item}
 use Rattle.hp_tree.specs.declared.program.Item.TheVariants.{TypeItem, NodeItem}
 use Rattle.hp_tree.specs.Programs.{TypeDecl, Node}
 use Rattle.hp_tree.specs.Operators.{abstraction, marked}
-use Rattle.hp_tree.specs.Instant.{Inputs, Controls, Body, Guard, Assume, Enforce, Named, Fresh, Place, Given, nothing}
+use Rattle.hp_tree.specs.Instant.{Inputs, Controls, Body, Observer, Assume, Enforce, Named, Fresh, Place, Given, nothing}
 use Rattle.hp_tree.specs.Meaning.{node, types_of}
 use Rattle.hp_causal.specs.Sources.{only, below}
 use Rattle.hp_causal.specs.WhatIsRead.{output_in}
@@ -31,11 +31,11 @@ module _ (types : List TypeDecl) where
     contract_local k i j same (Body ∷ p) l = refl
     contract_local k i j same p l =
         contract_agrees types abstraction (λ f. []) (λ f vs h. nothing) (Less p) n.contract (output_in n (below Body only)) only _ _ _ g i j
-        (λ q u. within_more (Less (Guard ∷ q)) (Less p) (λ r v. omega arith) (sources n (Guard ∷ q)) (o.falls (Guard ∷ q)))
+        (λ q u. within_more (Less (Observer ∷ q)) (Less p) (λ r v. omega arith) (sources n (Observer ∷ q)) (o.falls (Observer ∷ q)))
         (λ q u. within_more (Less (Assume ∷ q)) (Less p) (λ r v. omega arith) (sources n (Assume ∷ q)) (o.falls (Assume ∷ q)))
         (λ q u. within_more (Less (Enforce ∷ q)) (Less p) (λ r v. omega arith) (sources n (Enforce ∷ q)) (o.falls (Enforce ∷ q)))
         (λ x u. refl)
-        (λ q u. same (Guard ∷ q) (omega arith))
+        (λ q u. same (Observer ∷ q) (omega arith))
         p (o.falls p)
 
     contract_one : OneInstant (contract_alone types n inputs g)

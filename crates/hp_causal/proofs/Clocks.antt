@@ -8,7 +8,7 @@ use Rattle.hp_tree.specs.declared.block.Trans.{Trans}
 use Rattle.hp_tree.specs.Expressions.{Expr, constant, variable, last_of, one, two, choose, pre, fby, arrow, when_is, merge, call, Exprs, no_expr, more_exprs, Parts, no_part, more_parts}
 use Rattle.hp_tree.specs.Blocks.{Decl, Block, block, Eqns, no_eqn, more_eqns, Eqn, define, switch, reset, automaton, Arms, no_arm, more_arms, States, no_state, more_states}
 use Rattle.hp_tree.specs.Programs.{Contract, Node}
-use Rattle.hp_tree.specs.Instant.{Controls, Body, Guard, Assume, Enforce, Named, Equations, Head, Tail, Right as RightSide, Test, Arms as ArmsOf, States as StatesOf, Until, Unless, Active, First, Second, Third, Args, Place, Clock, without}
+use Rattle.hp_tree.specs.Instant.{Controls, Body, Observer, Assume, Enforce, Named, Equations, Head, Tail, Right as RightSide, Test, Arms as ArmsOf, States as StatesOf, Until, Unless, Active, First, Second, Third, Args, Place, Clock, without}
 use Rattle.hp_tree.specs.Meaning.{declares, is_among, defines, some_defines, block_defines, clock_in, clock_of, controls_of}
 use Rattle.hp_causal.specs.Sources.{Sources, none, only, both, also, IsRead, IsSource, IsBeside, NameSources, PlaceSources, below, nowhere, at_state}
 use Rattle.hp_causal.specs.WhatIsRead.{of_clock, of_expr, of_exprs, of_parts, names_in, names_within, names_in_block, in_arms, in_states, of_conditions, strong_ones, weak_ones, at_expr, at_exprs, at_parts, at_conditions, of_definition, of_definitions, in_block, in_equations, in_equation, in_each_arm, in_each_state, control_in, has_equation, output_in, at_told, in_contract}
@@ -557,15 +557,15 @@ module _ (G : PlaceSources) where
   told_right None names on w k st ba v = λ p. right_none
   told_right (Some e) names on w k st ba v = occurs names on st ba e [] w k tt v
 
-  contract_right : (c : Option Contract) (names : NameSources) (on : Standing) → ContractRight on c → OnBase names on → Bares names → Seen (below Guard (in_contract c names only)) (λ q. Guard ∷ q) → Seen (below Assume (in_contract c names only)) (λ q. Assume ∷ q) → Seen (below Enforce (in_contract c names only)) (λ q. Enforce ∷ q) → (p : Place) → Right (in_contract c names only p)
+  contract_right : (c : Option Contract) (names : NameSources) (on : Standing) → ContractRight on c → OnBase names on → Bares names → Seen (below Observer (in_contract c names only)) (λ q. Observer ∷ q) → Seen (below Assume (in_contract c names only)) (λ q. Assume ∷ q) → Seen (below Enforce (in_contract c names only)) (λ q. Enforce ∷ q) → (p : Place) → Right (in_contract c names only p)
   contract_right None names on k ob ba vg va ve p = right_none
-  contract_right (Some c) names on k ob ba vg va ve (Guard ∷ p) = block_right c.body names on (λ q. Guard ∷ q) k.0 ob ba vg p
+  contract_right (Some c) names on k ob ba vg va ve (Observer ∷ p) = block_right c.body names on (λ q. Observer ∷ q) k.0 ob ba vg p
   contract_right (Some c) names on k ob ba vg va ve (Assume ∷ p) =
-      told_right c.assume (names_in_block c.body names (at_places (λ q. Guard ∷ q))) (standing_of c.body on) (λ q. Assume ∷ q) k.1
-      (names_of_standing c.body names on (λ q. Guard ∷ q) k.0 ob ba vg) (names_of_bares c.body names (λ q. Guard ∷ q) ba) va p
+      told_right c.assume (names_in_block c.body names (at_places (λ q. Observer ∷ q))) (standing_of c.body on) (λ q. Assume ∷ q) k.1
+      (names_of_standing c.body names on (λ q. Observer ∷ q) k.0 ob ba vg) (names_of_bares c.body names (λ q. Observer ∷ q) ba) va p
   contract_right (Some c) names on k ob ba vg va ve (Enforce ∷ p) =
-      told_right c.enforce (names_in_block c.body names (at_places (λ q. Guard ∷ q))) (standing_of c.body on) (λ q. Enforce ∷ q) k.2
-      (names_of_standing c.body names on (λ q. Guard ∷ q) k.0 ob ba vg) (names_of_bares c.body names (λ q. Guard ∷ q) ba) ve p
+      told_right c.enforce (names_in_block c.body names (at_places (λ q. Observer ∷ q))) (standing_of c.body on) (λ q. Enforce ∷ q) k.2
+      (names_of_standing c.body names on (λ q. Observer ∷ q) k.0 ob ba vg) (names_of_bares c.body names (λ q. Observer ∷ q) ba) ve p
   contract_right (Some c) names on k ob ba vg va ve p = right_none
 
 -- ---- nodes

@@ -7,7 +7,7 @@ use Rattle.hp_tree.specs.declared.block.Trans.{Trans}
 use Rattle.hp_tree.specs.Expressions.{Expr, constant, variable, last_of, one, two, choose, pre, fby, arrow, when_is, merge, call, Exprs, no_expr, more_exprs, Parts, no_part, more_parts}
 use Rattle.hp_tree.specs.Blocks.{Decl, Block, block, Eqns, no_eqn, more_eqns, Eqn, define, switch, reset, automaton, Arms, no_arm, more_arms, States, no_state, more_states}
 use Rattle.hp_tree.specs.Programs.{Contract, Node}
-use Rattle.hp_tree.specs.Instant.{Controls, Body, Guard, Assume, Enforce, Named, Equations, Head, Tail, Right, Test, Arms as ArmsOf, States as StatesOf, Until, Unless, Active, First, Second, Third, Args, Place, Clock, without}
+use Rattle.hp_tree.specs.Instant.{Controls, Body, Observer, Assume, Enforce, Named, Equations, Head, Tail, Right, Test, Arms as ArmsOf, States as StatesOf, Until, Unless, Active, First, Second, Third, Args, Place, Clock, without}
 use Rattle.hp_tree.specs.Meaning.{declares, is_among, defines, some_defines, block_defines, clock_of, names_of as declared_in, controls_of}
 use Rattle.hp_causal.specs.Sources.{Sources, none, only, both, also, Within, NameSources, PlaceSources, below, nowhere, at_state}
 use Rattle.hp_causal.specs.WhatIsRead.{of_clock, of_expr, of_exprs, of_parts, names_in, names_within, names_in_block, in_arms, in_states, of_conditions, strong_ones, weak_ones, at_expr, at_exprs, at_parts, at_conditions, of_definition, of_definitions, in_block, in_equations, in_equation, in_each_arm, in_each_state, control_in, has_equation, output_in, at_told, in_contract}
@@ -354,19 +354,19 @@ module _ (P : Place → Type 0) where
   contract_whole None names h d cs p = tt
   contract_whole (Some c) names h d cs p = go p
     where
-      t : Each (points_of [] c.body (λ q. Guard ∷ q)) × Each (calls_told c.assume (λ q. Assume ∷ q)) × Each (calls_told c.enforce (λ q. Enforce ∷ q))
+      t : Each (points_of [] c.body (λ q. Observer ∷ q)) × Each (calls_told c.assume (λ q. Assume ∷ q)) × Each (calls_told c.enforce (λ q. Enforce ∷ q))
       t =
-          let u = split (points_of [] c.body (λ q. Guard ∷ q)) (calls_told c.assume (λ q. Assume ∷ q) ++ calls_told c.enforce (λ q. Enforce ∷ q)) cs in
+          let u = split (points_of [] c.body (λ q. Observer ∷ q)) (calls_told c.assume (λ q. Assume ∷ q) ++ calls_told c.enforce (λ q. Enforce ∷ q)) cs in
           let v = split (calls_told c.assume (λ q. Assume ∷ q)) (calls_told c.enforce (λ q. Enforce ∷ q)) u.1 in
           (u.0, v.0, v.1)
 
-      own : AllNames (names_in_block c.body names (below Guard only))
-      own = names_of_listed [] c.body names (λ q. Guard ∷ q) h d t.0
+      own : AllNames (names_in_block c.body names (below Observer only))
+      own = names_of_listed [] c.body names (λ q. Observer ∷ q) h d t.0
 
       go : (q : Place) → Within P (in_contract (Some c) names only q)
-      go (Guard ∷ q) = block_whole [] c.body names (λ q. Guard ∷ q) h d t.0 q
-      go (Assume ∷ q) = told_whole c.assume (names_in_block c.body names (below Guard only)) (λ q. Assume ∷ q) own t.1 q
-      go (Enforce ∷ q) = told_whole c.enforce (names_in_block c.body names (below Guard only)) (λ q. Enforce ∷ q) own t.2 q
+      go (Observer ∷ q) = block_whole [] c.body names (λ q. Observer ∷ q) h d t.0 q
+      go (Assume ∷ q) = told_whole c.assume (names_in_block c.body names (below Observer only)) (λ q. Assume ∷ q) own t.1 q
+      go (Enforce ∷ q) = told_whole c.enforce (names_in_block c.body names (below Observer only)) (λ q. Enforce ∷ q) own t.2 q
       go q = tt
 
   has_listed : (declared : List (List ℕ)) (b : Block) (w : Whereabouts) → Declared declared b → Each (points_of declared b w) → (x : List ℕ) → IsTrue (has_equation b x) → P (w (Named x ∷ []))

@@ -11,11 +11,11 @@ use Rattle.hp_tree.specs.declared.program.Item.TheVariants.{TypeItem, NodeItem}
 use Rattle.hp_tree.specs.Blocks.{Decl}
 use Rattle.hp_tree.specs.Programs.{TypeDecl, Node}
 use Rattle.hp_tree.specs.Operators.{Reading, real, abstraction, marked, two_marked, is_comparison, is_there, constant_of}
-use Rattle.hp_tree.specs.Instant.{Controls, Guard, Assume, Enforce, nothing, in_node, Named, Fresh, Head, Tail, Instance, Place, Instant, Past, part, top}
-use Rattle.hp_tree.specs.Meaning.{Names, Nodes, no_nodes, lasts, input_of, guard, types_of, controls_of, given_to, node, nodes, meaning}
+use Rattle.hp_tree.specs.Instant.{Controls, Observer, Assume, Enforce, nothing, in_node, Named, Fresh, Head, Tail, Instance, Place, Instant, Past, part, top}
+use Rattle.hp_tree.specs.Meaning.{Names, Nodes, no_nodes, lasts, input_of, observer, types_of, controls_of, given_to, node, nodes, meaning}
 use Rattle.hp_causal.specs.Agreement.{AgreeAtControls, GivenLaw, OneByControlsLaw, AgreeAtFree, AbstractGivenLaw, OneByFreeLaw}
 use Rattle.hp_causal.proofs.Fix.{Fixed}
-use Rattle.hp_causal.proofs.Swap.{AgreeWhere, OfParts, SameOperators, given, guard_swap, node_swap_given}
+use Rattle.hp_causal.proofs.Swap.{AgreeWhere, OfParts, SameOperators, given, observer_swap, node_swap_given}
 use Rattle.hp_causal.proofs.AbstractOne.{abstract_one}
 use Rattle.hp_causal.specs.Abstract.{given_outputs, contract_alone, callees, abstract_among}
 use Rattle.hp_causal.proofs.Unique.{same_pasts, one_instant}
@@ -139,9 +139,9 @@ module _ (types : List TypeDecl) where
       let outs : given_outputs n.outputs free absent ≡ given_outputs n.outputs other absent = fun_ext (each absent) in
       let names : given_outputs n.outputs free outer ≡ given_outputs n.outputs other outer = fun_ext (each outer) in
       ap (λ t. in_node (given_outputs n.outputs free absent) vs [] nothing t p)
-      (guard_swap types abstraction (λ f. []) Free free_parts free_operators (λ free other now q. refl) Entered entered (λ f vs g i. nothing) (λ f vs g i. nothing) (λ f vs past free other i q k p. refl)
-      n.contract (given_outputs n.outputs free outer) last past free other now h.0 (λ q. met (Guard ∷ q)) (λ q. met (Assume ∷ q)) (λ q. met (Enforce ∷ q)))
-      ∙ ap₂ (λ o k. in_node o vs [] nothing (guard types abstraction no_nodes n.contract k last (given past other) now) p) outs names
+      (observer_swap types abstraction (λ f. []) Free free_parts free_operators (λ free other now q. refl) Entered entered (λ f vs g i. nothing) (λ f vs g i. nothing) (λ f vs past free other i q k p. refl)
+      n.contract (given_outputs n.outputs free outer) last past free other now h.0 (λ q. met (Observer ∷ q)) (λ q. met (Assume ∷ q)) (λ q. met (Enforce ∷ q)))
+      ∙ ap₂ (λ o k. in_node o vs [] nothing (observer types abstraction no_nodes n.contract k last (given past other) now) p) outs names
 
   callees_so : (items : List Item) → AgreeWhere Entered (callees types items).instant (callees types items).instant
   callees_so [] f vs past free other now h met p = refl

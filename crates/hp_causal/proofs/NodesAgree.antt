@@ -6,8 +6,8 @@ use Rattle.hp_base.specs.declared.value.Value.TheVariants.{Absent}
 use Rattle.hp_tree.specs.Expressions.{Expr}
 use Rattle.hp_tree.specs.Programs.{TypeDecl, Contract, Node}
 use Rattle.hp_tree.specs.Operators.{Reading}
-use Rattle.hp_tree.specs.Instant.{Inputs, Controls, Body, Guard, Assume, Enforce, Named, Fresh, Place, Instant, Given, at, part, since, nothing}
-use Rattle.hp_tree.specs.Meaning.{Names, Nodes, declares, expr, last_in, guard, node, controls_of}
+use Rattle.hp_tree.specs.Instant.{Inputs, Controls, Body, Observer, Assume, Enforce, Named, Fresh, Place, Instant, Given, at, part, since, nothing}
+use Rattle.hp_tree.specs.Meaning.{Names, Nodes, declares, expr, last_in, observer, node, controls_of}
 use Rattle.hp_causal.specs.Sources.{Sources, none, only, both, also, Within, NameSources, PlaceSources, below}
 use Rattle.hp_causal.specs.WhatIsRead.{names_in_block, at_told, in_contract, control_in, output_in}
 use Rattle.hp_causal.specs.Causality.{sources, Ranked}
@@ -50,16 +50,16 @@ module _ (types : List TypeDecl) (R : Reading) (outputs : List ℕ → List (Lis
   told_agrees P None names k a b last g i j C s = λ p h. refl
   told_agrees P (Some e) names k a b last g i j C s = expr_agrees P types R outputs S e [] names k a b last g i j C s
 
-  pub contract_agrees : (P : Place → Type 0) (c : Option Contract) (names : NameSources) (k : PlaceSources) (a b last : Names) (g : Given) (i j : Instant) → Closed P (below Guard k) (below Guard (in_contract c names k)) → Closed P (below Assume k) (below Assume (in_contract c names k)) → Closed P (below Enforce k) (below Enforce (in_contract c names k)) → SameNames P names a b → Agree P (below Guard k) (part Guard i) (part Guard j) → Agree P (in_contract c names k) (guard types R N c a last g i) (guard types R N c b last g j)
+  pub contract_agrees : (P : Place → Type 0) (c : Option Contract) (names : NameSources) (k : PlaceSources) (a b last : Names) (g : Given) (i j : Instant) → Closed P (below Observer k) (below Observer (in_contract c names k)) → Closed P (below Assume k) (below Assume (in_contract c names k)) → Closed P (below Enforce k) (below Enforce (in_contract c names k)) → SameNames P names a b → Agree P (below Observer k) (part Observer i) (part Observer j) → Agree P (in_contract c names k) (observer types R N c a last g i) (observer types R N c b last g j)
   contract_agrees P None names k a b last g i j CG CA CE s t p h = refl
-  contract_agrees P (Some c) names k a b last g i j CG CA CE s t (Guard ∷ p) h =
-      block_agrees P types R outputs S c.body false names (below Guard k) a b last (since false (at Guard g)) (part Guard i) (part Guard j) CG s t p h
+  contract_agrees P (Some c) names k a b last g i j CG CA CE s t (Observer ∷ p) h =
+      block_agrees P types R outputs S c.body false names (below Observer k) a b last (since false (at Observer g)) (part Observer i) (part Observer j) CG s t p h
   contract_agrees P (Some c) names k a b last g i j CG CA CE s t (Assume ∷ p) h =
-      told_agrees P c.assume (names_in_block c.body names (below Guard k)) (below Assume k) _ _ (last_in types R N c.body (since false (at Guard g)).past last) (at Assume g) (part Assume i) (part Assume j) CA
-      (names_of_same P types R outputs S c.body names (below Guard k) a b (part Guard i) (part Guard j) s t) p h
+      told_agrees P c.assume (names_in_block c.body names (below Observer k)) (below Assume k) _ _ (last_in types R N c.body (since false (at Observer g)).past last) (at Assume g) (part Assume i) (part Assume j) CA
+      (names_of_same P types R outputs S c.body names (below Observer k) a b (part Observer i) (part Observer j) s t) p h
   contract_agrees P (Some c) names k a b last g i j CG CA CE s t (Enforce ∷ p) h =
-      told_agrees P c.enforce (names_in_block c.body names (below Guard k)) (below Enforce k) _ _ (last_in types R N c.body (since false (at Guard g)).past last) (at Enforce g) (part Enforce i) (part Enforce j) CE
-      (names_of_same P types R outputs S c.body names (below Guard k) a b (part Guard i) (part Guard j) s t) p h
+      told_agrees P c.enforce (names_in_block c.body names (below Observer k)) (below Enforce k) _ _ (last_in types R N c.body (since false (at Observer g)).past last) (at Enforce g) (part Enforce i) (part Enforce j) CE
+      (names_of_same P types R outputs S c.body names (below Observer k) a b (part Observer i) (part Observer j) s t) p h
   contract_agrees P (Some c) names k a b last g i j CG CA CE s t p h = refl
 
   module _ (n : Node) (o : Ranked n) (inputs : List Value) (g : Given) where
@@ -67,14 +67,14 @@ module _ (types : List TypeDecl) (R : Reading) (outputs : List ℕ → List (Lis
     Less p q = o.rank q < o.rank p
 
     -- what stands outside the body
-    outside : (k : ℕ) (i j : Instant) → Same (ranked_with_contract o.rank o.bound) k i j → (p : Place) → suc o.bound + o.rank p ≤ k → Within (Less p) (in_contract n.contract (output_in n (below Body only)) only p) → (outer last : Names) → guard types R N n.contract (λ x. if declares n.outputs x then i (Named x ∷ []) else outer x) last g i p ≡ guard types R N n.contract (λ x. if declares n.outputs x then j (Named x ∷ []) else outer x) last g j p
+    outside : (k : ℕ) (i j : Instant) → Same (ranked_with_contract o.rank o.bound) k i j → (p : Place) → suc o.bound + o.rank p ≤ k → Within (Less p) (in_contract n.contract (output_in n (below Body only)) only p) → (outer last : Names) → observer types R N n.contract (λ x. if declares n.outputs x then i (Named x ∷ []) else outer x) last g i p ≡ observer types R N n.contract (λ x. if declares n.outputs x then j (Named x ∷ []) else outer x) last g j p
     outside k i j same p l h outer last =
         contract_agrees (Less p) n.contract (output_in n (below Body only)) only _ _ last g i j
-        (λ q u. within_more (Less (Guard ∷ q)) (Less p) (λ r v. omega arith) (sources n (Guard ∷ q)) (o.falls (Guard ∷ q)))
+        (λ q u. within_more (Less (Observer ∷ q)) (Less p) (λ r v. omega arith) (sources n (Observer ∷ q)) (o.falls (Observer ∷ q)))
         (λ q u. within_more (Less (Assume ∷ q)) (Less p) (λ r v. omega arith) (sources n (Assume ∷ q)) (o.falls (Assume ∷ q)))
         (λ q u. within_more (Less (Enforce ∷ q)) (Less p) (λ r v. omega arith) (sources n (Enforce ∷ q)) (o.falls (Enforce ∷ q)))
         (λ x u. if_same (declares n.outputs x) _ _ (outer x) (same (Named x ∷ []) (omega arith)))
-        (λ q u. same (Guard ∷ q) (omega arith))
+        (λ q u. same (Observer ∷ q) (omega arith))
         p h
 
     pub node_local : Local (node types R N n inputs g) (ranked_with_contract o.rank o.bound)

@@ -7,7 +7,7 @@ use Rattle.std.proofs.lemmas.List.Elements.{All-head, All-tail, All-contains_its
 use Rattle.std.specs.Prelude.{Bool, true, false, ◌||◌, IsTrue, IsFalse, if◌then◌else◌, nat_eq, All, Contains}
 use Rattle.hp_tree.specs.declared.program.Item.TheVariants.{TypeItem, NodeItem}
 use Rattle.hp_tree.specs.Programs.{Node}
-use Rattle.hp_tree.specs.Instant.{Step, Inputs, Controls, Body, Guard, Assume, Enforce, Named, Fresh, Equations, Head, Tail, Right, Test, Arms, States, Until, Unless, Active, Next, Pending, First, Second, Third, Args, Instance, Place}
+use Rattle.hp_tree.specs.Instant.{Step, Inputs, Controls, Body, Observer, Assume, Enforce, Named, Fresh, Equations, Head, Tail, Right, Test, Arms, States, Until, Unless, Active, Next, Pending, First, Second, Third, Args, Instance, Place}
 use Rattle.hp_causal.specs.Sources.{Sources, none, only, both, also, Within, IsRead, IsSource}
 use Rattle.hp_causal.specs.Causality.{sources, Chain, Ranked, CausalLaw}
 use Rattle.hp_causal.specs.Points.{Placed, points, places}
@@ -38,7 +38,7 @@ ranked_causal n o p between c = let e = chain_falls n o p between p c in absurd 
 
 decoded : ℕ × List ℕ → Step
 decoded c =
-    if nat_eq c.0 0 then Inputs else if nat_eq c.0 1 then Controls else if nat_eq c.0 2 then Body else if nat_eq c.0 3 then Guard
+    if nat_eq c.0 0 then Inputs else if nat_eq c.0 1 then Controls else if nat_eq c.0 2 then Body else if nat_eq c.0 3 then Observer
     else if nat_eq c.0 4 then Assume else if nat_eq c.0 5 then Enforce else if nat_eq c.0 6 then Named c.1 else if nat_eq c.0 7 then Fresh
     else if nat_eq c.0 8 then Equations else if nat_eq c.0 9 then Head else if nat_eq c.0 10 then Tail else if nat_eq c.0 11 then Right
     else if nat_eq c.0 12 then Test else if nat_eq c.0 13 then Arms else if nat_eq c.0 14 then States else if nat_eq c.0 15 then Until
@@ -50,7 +50,7 @@ unfolding decoded
 decoded_code Inputs = refl
 decoded_code Controls = refl
 decoded_code Body = refl
-decoded_code Guard = refl
+decoded_code Observer = refl
 decoded_code Assume = refl
 decoded_code Enforce = refl
 decoded_code (Named x) = refl

@@ -7,7 +7,7 @@ use Rattle.hp_tree.specs.declared.block.Trans.{Trans}
 use Rattle.hp_tree.specs.Expressions.{Expr, constant, variable, last_of, one, two, choose, pre, fby, arrow, when_is, merge, call, Exprs, no_expr, more_exprs, Parts, no_part, more_parts}
 use Rattle.hp_tree.specs.Blocks.{Decl, Block, block, Eqns, no_eqn, more_eqns, Eqn, define, switch, reset, automaton, Arms, no_arm, more_arms, States, no_state, more_states}
 use Rattle.hp_tree.specs.Programs.{Contract, Node}
-use Rattle.hp_tree.specs.Instant.{Inputs, Controls, Body, Guard, Assume, Enforce, Named, Equations, Head, Tail, Right, Test, Arms as ArmsOf, States as StatesOf, Until, Unless, Active, Next, Pending, First, Second, Third, Args, Instance, Place, Clock, without}
+use Rattle.hp_tree.specs.Instant.{Inputs, Controls, Body, Observer, Assume, Enforce, Named, Equations, Head, Tail, Right, Test, Arms as ArmsOf, States as StatesOf, Until, Unless, Active, Next, Pending, First, Second, Third, Args, Instance, Place, Clock, without}
 use Rattle.hp_tree.specs.Meaning.{declares, defines, some_defines, block_defines, clock_of, controls_of}
 use Rattle.hp_causal.specs.Sources.{Sources, none, only, both, also, IsRead, NameSources, PlaceSources, below, nowhere, at_one, at_two, at_three, at_row, at_merge, at_call, at_block, at_right, at_arms, at_body, at_state, at_words}
 use Rattle.hp_causal.specs.WhatIsRead.{of_clock, of_expr, of_exprs, of_parts, names_in, names_within, names_in_block, in_arms, in_states, of_conditions, strong_ones, weak_ones, control_in, has_equation, output_in, at_expr, at_exprs, at_parts, at_conditions, of_definition, of_definitions, in_block, in_equations, in_equation, in_each_arm, in_each_state, at_told, in_contract, in_node}
@@ -321,11 +321,11 @@ drop_told (Some e) names k = drop_expr e [] names k
 
 drop_contract : (c : Option Contract) (names : NameSources) (k : PlaceSources) (p : Place) → dropped (in_contract c names k p) ≡ in_contract c (dn names) (dk k) p
 drop_contract None names k p = refl
-drop_contract (Some c) names k (Guard ∷ p) = ap (λ (f : PlaceSources). f p) (drop_in_block c.body names (below Guard k))
+drop_contract (Some c) names k (Observer ∷ p) = ap (λ (f : PlaceSources). f p) (drop_in_block c.body names (below Observer k))
 drop_contract (Some c) names k (Assume ∷ p) =
-    ap (λ (f : PlaceSources). f p) (drop_told c.assume (names_in_block c.body names (below Guard k)) (below Assume k) ∙ ap (λ n. at_told c.assume n (below Assume (dk k))) (drop_own c.body names (below Guard k)))
+    ap (λ (f : PlaceSources). f p) (drop_told c.assume (names_in_block c.body names (below Observer k)) (below Assume k) ∙ ap (λ n. at_told c.assume n (below Assume (dk k))) (drop_own c.body names (below Observer k)))
 drop_contract (Some c) names k (Enforce ∷ p) =
-    ap (λ (f : PlaceSources). f p) (drop_told c.enforce (names_in_block c.body names (below Guard k)) (below Enforce k) ∙ ap (λ n. at_told c.enforce n (below Enforce (dk k))) (drop_own c.body names (below Guard k)))
+    ap (λ (f : PlaceSources). f p) (drop_told c.enforce (names_in_block c.body names (below Observer k)) (below Enforce k) ∙ ap (λ n. at_told c.enforce n (below Enforce (dk k))) (drop_own c.body names (below Observer k)))
 drop_contract (Some c) names k p = refl
 
 drop_row_in : (ds : List Decl) (k : PlaceSources) (out : NameSources) (x : List ℕ) → dropped (row_in ds k out x) ≡ row_in ds (dk k) (dn out) x
@@ -363,7 +363,7 @@ contract_names n x =
 
 contract_only : (c : Option Contract) (names : NameSources) (p : Place) → in_contract c names (dk only) p ≡ in_contract c names only p
 contract_only None names p = refl
-contract_only (Some c) names (Guard ∷ p) = refl
+contract_only (Some c) names (Observer ∷ p) = refl
 contract_only (Some c) names (Assume ∷ p) = refl
 contract_only (Some c) names (Enforce ∷ p) = refl
 contract_only (Some c) names p = refl

@@ -10,8 +10,8 @@ use Rattle.hp_tree.specs.Expressions.{Expr, constant, variable, last_of, one, tw
 use Rattle.hp_tree.specs.Blocks.{Decl, Block, block, Eqns, no_eqn, more_eqns, Eqn, define, switch, reset, automaton, Arms, no_arm, more_arms, States, no_state, more_states}
 use Rattle.hp_tree.specs.Programs.{TypeDecl, Contract, Node}
 use Rattle.hp_tree.specs.Operators.{Reading, is_cons, is_true, if_of, constant_of}
-use Rattle.hp_tree.specs.Instant.{Step, Controls, Body, Guard, Assume, Enforce, Named, Equations, Head, Tail, Right, Test, Arms as ArmsOf, States as StatesOf, Until, Unless, First, Second, Third, Args, Instance, Place, Instant, Past, Given, at, part, parts, top, since, own, newest, at_first, nothing, with_one, with_two, with_three, in_row, with_row, with_instance, of_two, in_block, in_right, with_arms, with_body, in_state, with_words, in_guard, in_node, Clock, holds, without}
-use Rattle.hp_tree.specs.Meaning.{Names, Nodes, declares, defines, some_defines, inside, within, lasts, clock_of, Jump, state_word, selected, first_true, from_state, input_of, only_output, expr, exprs, merged, conditions, strong, read_in, last_in, weak_in, weak, from_arm, right, gives, defined, scope, equations, equation, arm, states, guard, controls_of, given_to, node}
+use Rattle.hp_tree.specs.Instant.{Step, Controls, Body, Observer, Assume, Enforce, Named, Equations, Head, Tail, Right, Test, Arms as ArmsOf, States as StatesOf, Until, Unless, First, Second, Third, Args, Instance, Place, Instant, Past, Given, at, part, parts, top, since, own, newest, at_first, nothing, with_one, with_two, with_three, in_row, with_row, with_instance, of_two, in_block, in_right, with_arms, with_body, in_state, with_words, in_observer, in_node, Clock, holds, without}
+use Rattle.hp_tree.specs.Meaning.{Names, Nodes, declares, defines, some_defines, inside, within, lasts, clock_of, Jump, state_word, selected, first_true, from_state, input_of, only_output, expr, exprs, merged, conditions, strong, read_in, last_in, weak_in, weak, from_arm, right, gives, defined, scope, equations, equation, arm, states, observer, controls_of, given_to, node}
 use Rattle.hp_causal.proofs.Fix.{Fixed}
 use Rattle.hp_causal.proofs.Choices.{chosen}
 
@@ -226,13 +226,13 @@ module _ (types : List TypeDecl) (R : Reading) (outputs : List ℕ → List (Lis
   told_swap None names last past free other now q h = refl
   told_swap (Some e) names last past free other now q h = expr_swap e [] names last past free other now q h
 
-  pub guard_swap : (c : Option Contract) (names last : Names) (past : Past) (free other now : Instant) → Q free other now → ((p : Place) → now (Guard ∷ p) ≡ guard types R N c names last (given past free) now (Guard ∷ p)) → ((p : Place) → now (Assume ∷ p) ≡ guard types R N c names last (given past free) now (Assume ∷ p)) → ((p : Place) → now (Enforce ∷ p) ≡ guard types R N c names last (given past free) now (Enforce ∷ p)) → guard types R N c names last (given past free) now ≡ guard types R M c names last (given past other) now
-  guard_swap None names last past free other now q hg ha he = refl
-  guard_swap (Some c) names last past free other now q hg ha he =
-      let t = block_swap c.body false names last (if false then [] else own (parts Guard past)) (part Guard free) (part Guard other) (part Guard now) (closed Guard free other now q) hg in
-      let u = told_swap c.assume (read_in types R N c.body names (part Guard now)) (last_in types R N c.body (since false (at Guard (given past free))).past last) (parts Assume past) (part Assume free) (part Assume other) (part Assume now) (closed Assume free other now q) ha in
-      let w = told_swap c.enforce (read_in types R N c.body names (part Guard now)) (last_in types R N c.body (since false (at Guard (given past free))).past last) (parts Enforce past) (part Enforce free) (part Enforce other) (part Enforce now) (closed Enforce free other now q) he in
-      λ d. in_guard (t d) (u d) (w d)
+  pub observer_swap : (c : Option Contract) (names last : Names) (past : Past) (free other now : Instant) → Q free other now → ((p : Place) → now (Observer ∷ p) ≡ observer types R N c names last (given past free) now (Observer ∷ p)) → ((p : Place) → now (Assume ∷ p) ≡ observer types R N c names last (given past free) now (Assume ∷ p)) → ((p : Place) → now (Enforce ∷ p) ≡ observer types R N c names last (given past free) now (Enforce ∷ p)) → observer types R N c names last (given past free) now ≡ observer types R M c names last (given past other) now
+  observer_swap None names last past free other now q hg ha he = refl
+  observer_swap (Some c) names last past free other now q hg ha he =
+      let t = block_swap c.body false names last (if false then [] else own (parts Observer past)) (part Observer free) (part Observer other) (part Observer now) (closed Observer free other now q) hg in
+      let u = told_swap c.assume (read_in types R N c.body names (part Observer now)) (last_in types R N c.body (since false (at Observer (given past free))).past last) (parts Assume past) (part Assume free) (part Assume other) (part Assume now) (closed Assume free other now q) ha in
+      let w = told_swap c.enforce (read_in types R N c.body names (part Observer now)) (last_in types R N c.body (since false (at Observer (given past free))).past last) (parts Enforce past) (part Enforce free) (part Enforce other) (part Enforce now) (closed Enforce free other now q) he in
+      λ d. in_observer (t d) (u d) (w d)
 
   pub node_swap_given : (n : Node) (inputs : List Value) (past : Past) (free other now : Instant) → Q free other now → given_to types R N (controls_of n.contract) (part Controls free) ≡ given_to types R N (controls_of n.contract) (part Controls other) → Fixed (node types R N n inputs (given past free)) now → (p : Place) → node types R N n inputs (given past free) now p ≡ node types R M n inputs (given past other) now p
   node_swap_given n inputs past free other now q same h p =
@@ -243,8 +243,8 @@ module _ (types : List TypeDecl) (R : Reading) (outputs : List ℕ → List (Lis
       let names : Names = λ x. if declares n.outputs x then now (Named x ∷ []) else outer x in
       ap₂ (λ b c. in_node outputs' inputs controls b c p)
       (block_swap n.body false (input_of (controls_of n.contract) controls outer) last (own (parts Body past)) (part Body free) (part Body other) (part Body now) (closed Body free other now q) (λ r. h (Body ∷ r)))
-      (guard_swap n.contract names last past free other now q (λ r. h (Guard ∷ r)) (λ r. h (Assume ∷ r)) (λ r. h (Enforce ∷ r)))
-      ∙ ap (λ c. in_node outputs' inputs c (scope types R M n.body false (input_of (controls_of n.contract) c outer) last (since false (at Body (given past other))) (part Body now)) (guard types R M n.contract names last (given past other) now) p) same
+      (observer_swap n.contract names last past free other now q (λ r. h (Observer ∷ r)) (λ r. h (Assume ∷ r)) (λ r. h (Enforce ∷ r)))
+      ∙ ap (λ c. in_node outputs' inputs c (scope types R M n.body false (input_of (controls_of n.contract) c outer) last (since false (at Body (given past other))) (part Body now)) (observer types R M n.contract names last (given past other) now) p) same
 
 -- the same where what is given is the same
 abbrev Alike : Instant → Instant → Instant → Type 0

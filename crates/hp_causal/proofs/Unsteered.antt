@@ -9,8 +9,8 @@ use Rattle.hp_tree.specs.declared.program.Item.TheVariants.{TypeItem, NodeItem}
 use Rattle.hp_tree.specs.Blocks.{Decl, Block, block}
 use Rattle.hp_tree.specs.Programs.{TypeDecl, Contract, Node}
 use Rattle.hp_tree.specs.Operators.{Reading, abstraction, marked}
-use Rattle.hp_tree.specs.Instant.{Inputs, Controls, Body, Guard, Assume, Enforce, Named, Fresh, Head, Tail, Place, Instant, Past, Given, at, part, since}
-use Rattle.hp_tree.specs.Meaning.{Names, Nodes, declares, some_defines, input_of, given_to, scope, controls_of, node, nodes, guard, types_of, node_among}
+use Rattle.hp_tree.specs.Instant.{Inputs, Controls, Body, Observer, Assume, Enforce, Named, Fresh, Head, Tail, Place, Instant, Past, Given, at, part, since}
+use Rattle.hp_tree.specs.Meaning.{Names, Nodes, declares, some_defines, input_of, given_to, scope, controls_of, node, nodes, observer, types_of, node_among}
 use Rattle.hp_causal.specs.Sources.{Sources, none, only, both, also, Within, IsSource, below}
 use Rattle.hp_causal.specs.WhatIsRead.{control_in, has_equation, output_in, in_contract}
 use Rattle.hp_causal.specs.Causality.{sources, Ranked, IsRanked}
@@ -87,9 +87,9 @@ module _ (types : List TypeDecl) (R : Reading) (outputs : List ℕ → List (Lis
     abbrev gd : Given
     gd = record { past = past; free = steered_by free d }
 
-    guard_steered : (k : Option Contract) (names last : Names) (now : Instant) → guard types R N k names last gc now ≡ guard types R N k names last gd now
-    guard_steered None names last now = refl
-    guard_steered (Some k) names last now = refl
+    observer_steered : (k : Option Contract) (names last : Names) (now : Instant) → observer types R N k names last gc now ≡ observer types R N k names last gd now
+    observer_steered None names last now = refl
+    observer_steered (Some k) names last now = refl
 
     module _ (n : Node) (o : Ranked n) (inputs : List Value) (i j : Instant) (fi : Fixed (node types R N n inputs gc) i) (fj : Fixed (node types R N n inputs gd) j) where
       abbrev rank : Place → ℕ
@@ -122,15 +122,15 @@ module _ (types : List TypeDecl) (R : Reading) (outputs : List ℕ → List (Lis
           fi (Named x ∷ []) ∙ if_true (declares n.outputs x) (i (Body ∷ Named x ∷ [])) Absent t ∙ body_same m l ih x u t
           ∙ sym (if_true (declares n.outputs x) (j (Body ∷ Named x ∷ [])) Absent t) ∙ sym (fj (Named x ∷ []))
 
-      outside : (p : Place) → Agree (suc o.bound + o.rank p) → Within (Less p) (in_contract n.contract (output_in n (below Body only)) only p) → (outer last : Names) → guard types R N n.contract (λ x. if declares n.outputs x then i (Named x ∷ []) else outer x) last gc i p ≡ guard types R N n.contract (λ x. if declares n.outputs x then j (Named x ∷ []) else outer x) last gd j p
+      outside : (p : Place) → Agree (suc o.bound + o.rank p) → Within (Less p) (in_contract n.contract (output_in n (below Body only)) only p) → (outer last : Names) → observer types R N n.contract (λ x. if declares n.outputs x then i (Named x ∷ []) else outer x) last gc i p ≡ observer types R N n.contract (λ x. if declares n.outputs x then j (Named x ∷ []) else outer x) last gd j p
       outside p ih h outer last =
-          ap (λ t. t p) (guard_steered n.contract (λ x. if declares n.outputs x then i (Named x ∷ []) else outer x) last i)
+          ap (λ t. t p) (observer_steered n.contract (λ x. if declares n.outputs x then i (Named x ∷ []) else outer x) last i)
           ∙ contract_agrees types R outputs S (Less p) n.contract (output_in n (below Body only)) only _ _ last gd i j
-          (λ q u. less_sources p (Guard ∷ q) u)
+          (λ q u. less_sources p (Observer ∷ q) u)
           (λ q u. less_sources p (Assume ∷ q) u)
           (λ q u. less_sources p (Enforce ∷ q) u)
           (λ x u. if_when (declares n.outputs x) _ _ (outer x) (output_same (suc o.bound + o.rank p) (omega arith) ih x (within_more (Less p) (Unsteered n) (λ q v. v.0) (output_in n (below Body only) x) u)))
-          (λ q u. ih (Guard ∷ q) u.0 (let e = u.1 in omega arith))
+          (λ q u. ih (Observer ∷ q) u.0 (let e = u.1 in omega arith))
           p h
 
       said_same : (p : Place) → Agree (rank p) → Unsteered n p → node types R N n inputs gc i p ≡ node types R N n inputs gd j p

@@ -9,7 +9,7 @@ use Rattle.hp_tree.specs.Blocks.{Decl}
 use Rattle.hp_tree.specs.Programs.{TypeDecl, Node}
 use Rattle.hp_tree.specs.Operators.{abstraction, constant_of, marked}
 use Rattle.hp_tree.specs.Instant.{Named, Instant, Given, nothing, in_node}
-use Rattle.hp_tree.specs.Meaning.{Names, Nodes, types_of, names_of, no_nodes, lasts, input_of, guard, node}
+use Rattle.hp_tree.specs.Meaning.{Names, Nodes, types_of, names_of, no_nodes, lasts, input_of, observer, node}
 
 abbrev absent : Names
 absent x = Absent
@@ -24,7 +24,7 @@ abbrev pub contract_alone : List TypeDecl → Node → List Value → Given → 
 contract_alone types n inputs g now =
     let last : Names = lasts (λ c. abstraction.constant (constant_of types c)) n.outputs g.past absent in
     in_node (given_outputs n.outputs g.free absent) inputs [] nothing
-    (guard types abstraction no_nodes n.contract (given_outputs n.outputs g.free (input_of n.inputs inputs absent)) last g now)
+    (observer types abstraction no_nodes n.contract (given_outputs n.outputs g.free (input_of n.inputs inputs absent)) last g now)
 
 -- the nodes of a program, the last one first, as they are called in the abstraction
 abbrev pub callees : List TypeDecl → List Item → Nodes

@@ -6,7 +6,7 @@ use Rattle.hp_tree.specs.declared.block.Trans.{Trans}
 use Rattle.hp_tree.specs.Expressions.{Expr, constant, variable, last_of, one, two, choose, pre, fby, arrow, when_is, merge, call, Exprs, no_expr, more_exprs, Parts, no_part, more_parts}
 use Rattle.hp_tree.specs.Blocks.{Decl, Block, block, Eqns, no_eqn, more_eqns, Eqn, define, switch, reset, automaton, Arms, no_arm, more_arms, States, no_state, more_states}
 use Rattle.hp_tree.specs.Programs.{Contract, Node}
-use Rattle.hp_tree.specs.Instant.{Body, Controls, Guard, Assume, Enforce, Named, Equations, Head, Tail, Right, Test, Arms as ArmsOf, States as StatesOf, Until, Unless, Active, Next, First, Second, Third, Args, Place}
+use Rattle.hp_tree.specs.Instant.{Body, Controls, Observer, Assume, Enforce, Named, Equations, Head, Tail, Right, Test, Arms as ArmsOf, States as StatesOf, Until, Unless, Active, Next, First, Second, Third, Args, Place}
 use Rattle.hp_tree.specs.Meaning.{defines, names_of, controls_of}
 use Rattle.hp_causal.specs.declared.point.Point.{Point}
 use Rattle.hp_causal.specs.declared.point.PointKind.{PointKind}
@@ -117,7 +117,7 @@ calls_told (Some e) w = calls e w
 abbrev pub points_of_contract : Option Contract → Whereabouts → List Placed
 points_of_contract None w = []
 points_of_contract (Some c) w =
-    points_of [] c.body (below Guard w) ++ (calls_told c.assume (below Assume w) ++ calls_told c.enforce (below Enforce w))
+    points_of [] c.body (below Observer w) ++ (calls_told c.assume (below Assume w) ++ calls_told c.enforce (below Enforce w))
 
 abbrev pub points : Node → List Placed
 points n =

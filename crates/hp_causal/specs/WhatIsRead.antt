@@ -6,7 +6,7 @@ use Rattle.hp_tree.specs.declared.block.Trans.{Trans}
 use Rattle.hp_tree.specs.Expressions.{Expr, constant, variable, last_of, one, two, choose, pre, fby, arrow, when_is, merge, call, Exprs, no_expr, more_exprs, Parts, no_part, more_parts}
 use Rattle.hp_tree.specs.Blocks.{Decl, Block, block, Eqns, no_eqn, more_eqns, Eqn, define, switch, reset, automaton, Arms, no_arm, more_arms, States, no_state, more_states}
 use Rattle.hp_tree.specs.Programs.{Contract, Node}
-use Rattle.hp_tree.specs.Instant.{Body, Controls, Guard, Assume, Enforce, Named, Equations, Head, Tail, Right, Test, Arms as ArmsOf, States as StatesOf, Until, Unless, Active, First, Second, Third, Args, Clock, without}
+use Rattle.hp_tree.specs.Instant.{Body, Controls, Observer, Assume, Enforce, Named, Equations, Head, Tail, Right, Test, Arms as ArmsOf, States as StatesOf, Until, Unless, Active, First, Second, Third, Args, Clock, without}
 use Rattle.hp_tree.specs.Meaning.{declares, defines, some_defines, block_defines, clock_of, controls_of}
 use Rattle.hp_causal.specs.Sources.{Sources, none, both, also, NameSources, PlaceSources, below, nowhere, at_one, at_two, at_three, at_row, at_merge, at_call, at_block, at_right, at_arms, at_body, at_state, at_words}
 
@@ -194,9 +194,9 @@ at_told (Some e) names k = at_expr e [] names k
 
 -- a contract, which sees the outputs
 abbrev pub in_contract : Option Contract → NameSources → PlaceSources → PlaceSources
-in_contract (Some c) names k (Guard ∷ p) = in_block c.body names (below Guard k) p
-in_contract (Some c) names k (Assume ∷ p) = at_told c.assume (names_in_block c.body names (below Guard k)) (below Assume k) p
-in_contract (Some c) names k (Enforce ∷ p) = at_told c.enforce (names_in_block c.body names (below Guard k)) (below Enforce k) p
+in_contract (Some c) names k (Observer ∷ p) = in_block c.body names (below Observer k) p
+in_contract (Some c) names k (Assume ∷ p) = at_told c.assume (names_in_block c.body names (below Observer k)) (below Assume k) p
+in_contract (Some c) names k (Enforce ∷ p) = at_told c.enforce (names_in_block c.body names (below Observer k)) (below Enforce k) p
 in_contract contract names k p = none
 
 abbrev pub in_node : Node → PlaceSources → PlaceSources

@@ -11,12 +11,12 @@ use Rattle.hp_causal.specs.Sources.{Sources, none, only, both, also, NameSources
 use Rattle.hp_causal.specs.WhatIsRead.{names_in as names_inside, names_within, control_in, has_equation, output_in, in_contract}
 use Rattle.hp_causal.specs.Causality.{sources}
 use Rattle.hp_cause.specs.Walked.{control_of_contract, control_of_node}
-use Rattle.hp_cause.specs.Names.{listed}
 use Rattle.hp_defining.specs.Layers.{numbered}
-use Rattle.hp_defining.specs.Names.{names_in}
+use Rattle.hp_defining.specs.Names.{listed, names_in}
 use Rattle.hp_cause.specs.Vertices.{own_of_test, Numbering, number_expr, number_block, number_test, number_contract, number_controls, first_of_contract, number_node}
 use Rattle.hp_cause.specs.Gathering.{Sight, names_of_clock, outer_clock, seen_in, seen_within, own_sight, seen_declared}
-use Rattle.hp_cause.proofs.NumberLaws.{listed_in, numbered_listed, over_there}
+use Rattle.hp_defining.proofs.ListedLaws.{listed_in}
+use Rattle.hp_cause.proofs.NumberLaws.{numbered_listed, over_there}
 
 -- one of some numbers
 abbrev pub Is : ℕ → List ℕ → Type 0
@@ -111,18 +111,18 @@ module _ (A : Numbering) where
       by false h = tt
 
 -- the places of a contract are numbered in its node
-pub guard_ties : (n : Node) (p : Place) (v : ℕ) → number_contract (first_of_contract n) n.contract p ≡ Some v → number_node n p ≡ Some v
-guard_ties n (Controls ∷ p) v h = absurd (no_control (first_of_contract n) n.contract p v h)
+pub observer_ties : (n : Node) (p : Place) (v : ℕ) → number_contract (first_of_contract n) n.contract p ≡ Some v → number_node n p ≡ Some v
+observer_ties n (Controls ∷ p) v h = absurd (no_control (first_of_contract n) n.contract p v h)
   where
     no_control : (k : ℕ) (c : Option Contract) (p : Place) (v : ℕ) → number_contract k c (Controls ∷ p) ≡ Some v → ⊥
     no_control k None p v h = absurd cc
     no_control k (Some c) p v h = absurd cc
-guard_ties n (Body ∷ p) v h = absurd (no_body (first_of_contract n) n.contract p v h)
+observer_ties n (Body ∷ p) v h = absurd (no_body (first_of_contract n) n.contract p v h)
   where
     no_body : (k : ℕ) (c : Option Contract) (p : Place) (v : ℕ) → number_contract k c (Body ∷ p) ≡ Some v → ⊥
     no_body k None p v h = absurd cc
     no_body k (Some c) p v h = absurd cc
-guard_ties n p v h = h
+observer_ties n p v h = h
 
 no_step : (k : ℕ) (c : Option Contract) (s : Step) (p : Place) (v : ℕ) → number_contract k c (s ∷ p) ≡ Some v → (s ≡ Controls) ⊎ ((s ≡ Body) ⊎ ((x : List ℕ) × (s ≡ Named x))) → ⊥
 no_step k None s p v h e = absurd cc
@@ -131,12 +131,12 @@ no_step k (Some c) s p v h (inr (inl e)) = let g : number_contract k (Some c) (B
 no_step k (Some c) s p v h (inr (inr e)) = let g : number_contract k (Some c) (Named e.0 ∷ p) ≡ Some v = subst (λ z. number_contract k (Some c) (z ∷ p) ≡ Some v) e.1 h in absurd cc
 
 -- What the places of a contract read is told by the contract.
-pub guard_sources : (n : Node) (p : Place) (v : ℕ) → number_contract (first_of_contract n) n.contract p ≡ Some v → sources n p ≡ in_contract n.contract (output_in n (λ q. only (Body ∷ q))) (λ q. only q) p
-guard_sources n (Controls ∷ p) v h = absurd (no_step (first_of_contract n) n.contract Controls p v h (inl refl))
-guard_sources n (Body ∷ p) v h = absurd (no_step (first_of_contract n) n.contract Body p v h (inr (inl refl)))
-guard_sources n (Named x ∷ p) v h = absurd (no_step (first_of_contract n) n.contract (Named x) p v h (inr (inr (x, refl))))
-guard_sources n p v h = refl
+pub observer_sources : (n : Node) (p : Place) (v : ℕ) → number_contract (first_of_contract n) n.contract p ≡ Some v → sources n p ≡ in_contract n.contract (output_in n (λ q. only (Body ∷ q))) (λ q. only q) p
+observer_sources n (Controls ∷ p) v h = absurd (no_step (first_of_contract n) n.contract Controls p v h (inl refl))
+observer_sources n (Body ∷ p) v h = absurd (no_step (first_of_contract n) n.contract Body p v h (inr (inl refl)))
+observer_sources n (Named x ∷ p) v h = absurd (no_step (first_of_contract n) n.contract (Named x) p v h (inr (inr (x, refl))))
+observer_sources n p v h = refl
 
-pub guard_controls : (n : Node) (p : Place) (v : ℕ) → number_contract (first_of_contract n) n.contract p ≡ Some v → control_of_node n p ≡ control_of_contract n.contract (output_in n (λ q. only (Body ∷ q))) (λ q. only q) p
-guard_controls n (Body ∷ p) v h = absurd (no_step (first_of_contract n) n.contract Body p v h (inr (inl refl)))
-guard_controls n p v h = refl
+pub observer_controls : (n : Node) (p : Place) (v : ℕ) → number_contract (first_of_contract n) n.contract p ≡ Some v → control_of_node n p ≡ control_of_contract n.contract (output_in n (λ q. only (Body ∷ q))) (λ q. only q) p
+observer_controls n (Body ∷ p) v h = absurd (no_step (first_of_contract n) n.contract Body p v h (inr (inl refl)))
+observer_controls n p v h = refl

@@ -8,7 +8,8 @@ use Rattle.hp_tree.specs.Expressions.{Expr, constant, variable, last_of, one, tw
 use Rattle.hp_tree.specs.Blocks.{Decl}
 use Rattle.hp_tree.specs.Instant.{Clock}
 use Rattle.hp_tree.specs.Meaning.{written, clock_in, clock_told, clocks_told, or_clock, or_base, clock_of}
-use Rattle.hp_cause.specs.Clocks.{Telling, or_told, tells, tells_in_all, tells_of, names_told}
+use Rattle.hp_telling.specs.Tellings.{Told, or_else, tells, tells_in_all, tells_of}
+use Rattle.hp_cause.specs.Clocks.{names_told}
 use Rattle.hp_cause.specs.Gathering.{names_of_clock}
 use Rattle.hp_cause.specs.Tables.{own_path, path_of}
 use Rattle.hp_cause.specs.Told.{with_more}
@@ -50,13 +51,13 @@ clock-path (d ∷ ds) x = path_by (bytes_eq d.name x) d (clock_in ds x) (path_of
 
 module _ (ds : List Decl) where
   -- the clock that is told has these names
-  abbrev Tells : Option Clock → Option Telling → Type 0
+  abbrev Tells : Option Clock → Option Told → Type 0
   Tells None None = Unit {0}
   Tells None (Some t) = ⊥
   Tells (Some c) None = ⊥
   Tells (Some c) (Some t) = names_of_clock c ≡ names_told ds (Some t)
 
-  either : (c d : Option Clock) (s t : Option Telling) → Tells c s → Tells d t → Tells (or_clock c d) (or_told s t)
+  either : (c d : Option Clock) (s t : Option Told) → Tells c s → Tells d t → Tells (or_clock c d) (or_else s t)
   either None d None t h g = g
   either None d (Some s) t h g = absurd h
   either (Some c) d None t h g = absurd h
@@ -73,7 +74,7 @@ module _ (ds : List Decl) where
     told (one s o a) = told a
     told (two s o a b) = either (clock_told ds a) (clock_told ds b) (tells a) (tells b) (told a) (told b)
     told (choose s a b c) =
-        either (clock_told ds a) (or_clock (clock_told ds b) (clock_told ds c)) (tells a) (or_told (tells b) (tells c)) (told a)
+        either (clock_told ds a) (or_clock (clock_told ds b) (clock_told ds c)) (tells a) (or_else (tells b) (tells c)) (told a)
         (either (clock_told ds b) (clock_told ds c) (tells b) (tells c) (told b) (told c))
     told (pre s a) = told a
     told (fby s a b) = either (clock_told ds a) (clock_told ds b) (tells a) (tells b) (told a) (told b)
@@ -86,7 +87,7 @@ module _ (ds : List Decl) where
     all_told no_expr = tt
     all_told (more_exprs e es) = either (clock_told ds e) (clocks_told ds es) (tells e) (tells_in_all es) (told e) (all_told es)
 
-  names_by : (c : Option Clock) (t : Option Telling) → Tells c t → names_told ds t ≡ names_of_clock (or_base c)
+  names_by : (c : Option Clock) (t : Option Told) → Tells c t → names_told ds t ≡ names_of_clock (or_base c)
   names_by None None h = refl
   names_by None (Some t) h = absurd h
   names_by (Some c) None h = absurd h

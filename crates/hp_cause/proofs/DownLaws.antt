@@ -6,7 +6,7 @@ use Rattle.hp_tree.specs.declared.block.Trans.{Trans}
 use Rattle.hp_tree.specs.Expressions.{Expr, constant, variable, last_of, one, two, choose, pre, fby, arrow, when_is, merge, call, Exprs, no_expr, more_exprs, Parts, no_part, more_parts}
 use Rattle.hp_tree.specs.Blocks.{Decl, Block, block, Eqns, no_eqn, more_eqns, Eqn, define, switch, reset, automaton, Arms, no_arm, more_arms, States, no_state, more_states}
 use Rattle.hp_tree.specs.Programs.{Contract, Node}
-use Rattle.hp_tree.specs.Instant.{Controls, Body, Guard, Assume, Enforce, Named, Equations, Head, Tail, Right, Test, Arms as ArmsOf, States as StatesOf, Until, Unless, Active, Next, First, Second, Third, Args, Place}
+use Rattle.hp_tree.specs.Instant.{Controls, Body, Observer, Assume, Enforce, Named, Equations, Head, Tail, Right, Test, Arms as ArmsOf, States as StatesOf, Until, Unless, Active, Next, First, Second, Third, Args, Place}
 use Rattle.hp_tree.specs.Meaning.{declares, defines, clock_of, controls_of, names_of as declared_names}
 use Rattle.hp_causal.specs.declared.point.PointKind.TheVariants as kind
 use Rattle.hp_causal.specs.Points.{span_of}
@@ -16,7 +16,7 @@ use Rattle.hp_defining.specs.Names.{names_in, undeclared}
 use Rattle.hp_cause.specs.Walked.{is_fresh}
 use Rattle.hp_cause.specs.Vertices.{calls_in, own_of_test, size_of_tests, own_size, size_inside, size_of, size_of_told, Numbering, number_expr, number_exprs, number_parts, number_test, number_tests, number_block, number_eqns, number_eqn, number_arms, number_states, number_told, number_contract, number_controls, first_of_body, first_of_contract, first_inside, number_node}
 use Rattle.hp_cause.specs.Gathering.{Sight, on_clock, names_of_clock, outer_clock, of_call, of_expr, of_exprs, of_parts, readers_of_test, of_test, of_tests, of_left, of_lefts, vertices_of, of_defined_name, of_name_if, of_defined, of_control, of_words, of_links, seen_in, seen_within, links_of, of_inside, of_eqns, of_eqn, of_arms, of_states, of_told, of_contract, of_controls, seen_controls, own_sight, seen_declared, seen_outputs, of_node}
-use Rattle.hp_cause.proofs.AgreeLaws.{one_number, guard_ties}
+use Rattle.hp_cause.proofs.AgreeLaws.{one_number, observer_ties}
 
 -- F: the numbers of controls
 module _ (F : ℕ → Type 0) where
@@ -261,10 +261,10 @@ module _ (F : ℕ → Type 0) where
   down_contract see sees k None t = tt
   down_contract see sees k (Some c) t =
       let own = seen_in k c.body see in
-      let inner = sees_in k (k + own_size c.body) c.body see sees (λ p. t (Guard ∷ p)) in
+      let inner = sees_in k (k + own_size c.body) c.body see sees (λ p. t (Observer ∷ p)) in
       let n = (k + own_size c.body) + size_inside c.body in
       join (of_inside own None [] (k + own_size c.body) c.body) (of_told own n c.assume ++ of_told own (n + size_of_told c.assume) c.enforce)
-      (down_inside own inner None [] (k + own_size c.body) c.body (free (k + own_size c.body)) (inside_points k (k + own_size c.body) c.body (λ p. t (Guard ∷ p))))
+      (down_inside own inner None [] (k + own_size c.body) c.body (free (k + own_size c.body)) (inside_points k (k + own_size c.body) c.body (λ p. t (Observer ∷ p))))
       (join (of_told own n c.assume) (of_told own (n + size_of_told c.assume) c.enforce) (down_told own inner n c.assume (λ p. t (Assume ∷ p))) (down_told own inner (n + size_of_told c.assume) c.enforce (λ p. t (Enforce ∷ p))))
 
   down_controls : (k : ℕ) (ds : List Decl) → Points (number_controls k ds) → Down (of_controls k ds)
@@ -289,9 +289,9 @@ module _ (F : ℕ → Type 0) where
   pub node_down : (n : Node) → Points (number_node n) → Down (of_node n)
   node_down n t =
       let ds = controls_of n.contract in
-      let guard = of_contract (seen_outputs n) (first_of_contract n) n.contract in
+      let observer = of_contract (seen_outputs n) (first_of_contract n) n.contract in
       let body = of_inside (seen_in (first_of_body n) n.body (seen_controls n)) None (declared_names n.outputs) (first_inside n) n.body in
-      join (of_controls 0 ds) (guard ++ body) (down_controls 0 ds (λ p. t (Controls ∷ p)))
-      (join guard body (down_contract (seen_outputs n) (sees_outputs n.outputs (first_of_body n) (first_inside n) n.body (λ p. t (Body ∷ p))) (first_of_contract n) n.contract (λ p v h. t p v (guard_ties n p v h)))
+      join (of_controls 0 ds) (observer ++ body) (down_controls 0 ds (λ p. t (Controls ∷ p)))
+      (join observer body (down_contract (seen_outputs n) (sees_outputs n.outputs (first_of_body n) (first_inside n) n.body (λ p. t (Body ∷ p))) (first_of_contract n) n.contract (λ p v h. t p v (observer_ties n p v h)))
       (down_inside (seen_in (first_of_body n) n.body (seen_controls n)) (sees_in (first_of_body n) (first_inside n) n.body (seen_controls n) (sees_controls 0 ds (λ p. t (Controls ∷ p))) (λ p. t (Body ∷ p))) None (declared_names n.outputs) (first_inside n) n.body
       (free (first_inside n)) (inside_points (first_of_body n) (first_inside n) n.body (λ p. t (Body ∷ p)))))

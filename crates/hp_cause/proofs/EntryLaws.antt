@@ -6,12 +6,11 @@ use Rattle.std.proofs.Math.Seq.{take-length}
 use Rattle.hp_tree.specs.Blocks.{Eqn}
 use Rattle.hp_tree.specs.Meaning.{defines}
 use Rattle.hp_defining.specs.declared.layer.Layer.{Layer}
-use Rattle.hp_cause.specs.Names.{listed}
-use Rattle.hp_defining.specs.Names.{names_of}
+use Rattle.hp_defining.specs.Names.{listed, names_of}
 use Rattle.hp_cause.specs.Gathering.{seen_within}
 use Rattle.hp_cause.specs.Told.{front}
 use Rattle.hp_defining.specs.Layers.{says, says_seen, is_said, sight}
-use Rattle.hp_cause.proofs.NumberLaws.{listed_of}
+use Rattle.hp_defining.proofs.ListedLaws.{listed_of}
 use Rattle.hp_cause.proofs.TableLaws.{says_listed, sight-seen}
 
 -- ---- all but the last

@@ -7,7 +7,7 @@ use Rattle.hp_tree.specs.declared.block.Trans.{Trans}
 use Rattle.hp_tree.specs.Expressions.{Expr, constant, variable, last_of, one, two, choose, pre, fby, arrow, when_is, merge, call, Exprs, no_expr, more_exprs, Parts, no_part, more_parts}
 use Rattle.hp_tree.specs.Blocks.{Decl, Block, block, Eqns, no_eqn, more_eqns, Eqn, define, switch, reset, automaton, Arms, no_arm, more_arms, States, no_state, more_states}
 use Rattle.hp_tree.specs.Programs.{Contract, Node}
-use Rattle.hp_tree.specs.Instant.{Controls, Body, Guard, Assume, Enforce, Named, Fresh, Equations, Head, Tail, Right, Test, Arms as ArmsOf, States as StatesOf, Until, Unless, Active, Next, First, Second, Third, Args, Place, Clock, without}
+use Rattle.hp_tree.specs.Instant.{Controls, Body, Observer, Assume, Enforce, Named, Fresh, Equations, Head, Tail, Right, Test, Arms as ArmsOf, States as StatesOf, Until, Unless, Active, Next, First, Second, Third, Args, Place, Clock, without}
 use Rattle.hp_tree.specs.Meaning.{declares, is_among, defines, some_defines, block_defines, clock_of, controls_of, names_of as declared_names}
 use Rattle.hp_causal.specs.Points.{span_of, Whereabouts, is_one_of, Declared, DeclaredInAll, DeclaredInOne, DeclaredInArms, DeclaredInStates, DeclaredInContract, NamesDeclared}
 use Rattle.hp_causal.specs.Sources.{Sources, none, only, both, also, NameSources, PlaceSources, below}
@@ -17,13 +17,13 @@ use Rattle.hp_causal.specs.Causality.{sources}
 use Rattle.hp_causal.proofs.Choices.{or_cases, both_true}
 use Rattle.hp_cause.specs.Facts.{Fact, stands, reads, depends, stand, read, depend, read_by_all}
 use Rattle.hp_cause.specs.Falling.{Falls, WithinReads, rank_at}
-use Rattle.hp_cause.specs.Names.{listed}
 use Rattle.hp_defining.specs.Layers.{numbered}
-use Rattle.hp_defining.specs.Names.{names_in, undeclared}
+use Rattle.hp_defining.specs.Names.{listed, names_in, undeclared}
 use Rattle.hp_cause.specs.Vertices.{calls_in, own_of_test, is_call, size_of_tests, own_size, size_inside, size_of, size_of_told, Numbering, number_expr, number_exprs, number_parts, number_test, number_tests, number_block, number_eqns, number_eqn, number_arms, number_states, number_told, number_contract, first_of_body, first_of_contract, first_inside, number_node}
 use Rattle.hp_cause.specs.Gathering.{Sight, on_clock, names_of_clock, outer_clock, of_call, of_expr, of_exprs, of_parts, readers_of_test, of_test, of_tests, of_left, of_lefts, in_list, vertices_of, of_defined_name, of_name_if, of_defined, of_control, of_words, of_links, seen_in, seen_within, links_of, of_inside, of_eqns, of_eqn, of_arms, of_states, of_told, of_contract, of_controls, seen_controls, seen_outputs, of_node}
-use Rattle.hp_cause.proofs.NumberLaws.{listed_in, listed_numbered, listed_outer, numbered_listed, over_there}
-use Rattle.hp_cause.proofs.AgreeLaws.{Ties, Told, Agree, Is, test_ties, outer_is, one_number, agree_in, agree_within, agree_controls, agree_outputs, guard_ties}
+use Rattle.hp_defining.proofs.ListedLaws.{listed_in, listed_outer}
+use Rattle.hp_cause.proofs.NumberLaws.{listed_numbered, numbered_listed, over_there}
+use Rattle.hp_cause.proofs.AgreeLaws.{Ties, Told, Agree, Is, test_ties, outer_is, one_number, agree_in, agree_within, agree_controls, agree_outputs, observer_ties}
 
 module _ (Deps : Type 0) (r : ℕ → ℕ) (A : Numbering) where
   abbrev Below : ℕ → Sources → Type 0
@@ -613,20 +613,20 @@ module _ (Deps : Type 0) (r : ℕ → ℕ) (A : Numbering) where
 
   contract_below : (see : Sight) (names : NameSources) (agree : Agree A names see) (k : ℕ) (w : Whereabouts) (c : Option Contract) → DeclaredInContract c → Ties A (number_contract k c) w → Falls Deps r (of_contract see k c) → (p : Place) (v : ℕ) → number_contract k c p ≡ Some v
       → Below (r v) (in_contract c names (at_places w) p)
-  contract_below see names agree k w (Some c) known t f (Guard ∷ p) v h =
+  contract_below see names agree k w (Some c) known t f (Observer ∷ p) v h =
       let own = seen_in k c.body see in
       let g = split (of_inside own None [] (k + own_size c.body) c.body) (of_told own ((k + own_size c.body) + size_inside c.body) c.assume ++ of_told own (((k + own_size c.body) + size_inside c.body) + size_of_told c.assume) c.enforce) f in
-      (inside_below see names agree None none free [] k (k + own_size c.body) (below Guard w) c.body known (λ q. t (Guard ∷ q)) g.0 p v h).1
+      (inside_below see names agree None none free [] k (k + own_size c.body) (below Observer w) c.body known (λ q. t (Observer ∷ q)) g.0 p v h).1
   contract_below see names agree k w (Some c) known t f (Assume ∷ p) v h =
       let own = seen_in k c.body see in
       let g = split (of_inside own None [] (k + own_size c.body) c.body) (of_told own ((k + own_size c.body) + size_inside c.body) c.assume ++ of_told own (((k + own_size c.body) + size_inside c.body) + size_of_told c.assume) c.enforce) f in
       let m = split (of_told own ((k + own_size c.body) + size_inside c.body) c.assume) (of_told own (((k + own_size c.body) + size_inside c.body) + size_of_told c.assume) c.enforce) g.1 in
-      told_below own (names_in_block c.body names (at_places (below Guard w))) (block_agrees k (k + own_size c.body) c.body names see (below Guard w) agree (λ q. t (Guard ∷ q))) ((k + own_size c.body) + size_inside c.body) (below Assume w) c.assume (λ q. t (Assume ∷ q)) m.0 p v h
+      told_below own (names_in_block c.body names (at_places (below Observer w))) (block_agrees k (k + own_size c.body) c.body names see (below Observer w) agree (λ q. t (Observer ∷ q))) ((k + own_size c.body) + size_inside c.body) (below Assume w) c.assume (λ q. t (Assume ∷ q)) m.0 p v h
   contract_below see names agree k w (Some c) known t f (Enforce ∷ p) v h =
       let own = seen_in k c.body see in
       let g = split (of_inside own None [] (k + own_size c.body) c.body) (of_told own ((k + own_size c.body) + size_inside c.body) c.assume ++ of_told own (((k + own_size c.body) + size_inside c.body) + size_of_told c.assume) c.enforce) f in
       let m = split (of_told own ((k + own_size c.body) + size_inside c.body) c.assume) (of_told own (((k + own_size c.body) + size_inside c.body) + size_of_told c.assume) c.enforce) g.1 in
-      told_below own (names_in_block c.body names (at_places (below Guard w))) (block_agrees k (k + own_size c.body) c.body names see (below Guard w) agree (λ q. t (Guard ∷ q))) (((k + own_size c.body) + size_inside c.body) + size_of_told c.assume) (below Enforce w) c.enforce (λ q. t (Enforce ∷ q)) m.1 p v h
+      told_below own (names_in_block c.body names (at_places (below Observer w))) (block_agrees k (k + own_size c.body) c.body names see (below Observer w) agree (λ q. t (Observer ∷ q))) (((k + own_size c.body) + size_inside c.body) + size_of_told c.assume) (below Enforce w) c.enforce (λ q. t (Enforce ∷ q)) m.1 p v h
   contract_below see names agree k w c known t f p v h = absurd cc
 
 in_no_control : (c : Option Contract) (names : NameSources) (k : PlaceSources) (p : Place) → in_contract c names k (Controls ∷ p) ≡ none
@@ -641,14 +641,14 @@ pub node_below : (Deps : Type 0) (r : ℕ → ℕ) (n : Node) → NamesDeclared 
 node_below Deps r n known f p v h =
     let A = number_node n in
     let ds = controls_of n.contract in
-    let guard = of_contract (seen_outputs n) (first_of_contract n) n.contract in
+    let observer = of_contract (seen_outputs n) (first_of_contract n) n.contract in
     let body = of_inside (seen_in (first_of_body n) n.body (seen_controls n)) None (declared_names n.outputs) (first_inside n) n.body in
-    let g = split Deps r A (of_controls 0 ds) (guard ++ body) f in
-    let m = split Deps r A guard body g.1 in
+    let g = split Deps r A (of_controls 0 ds) (observer ++ body) f in
+    let m = split Deps r A observer body g.1 in
     let outputs = agree_outputs A n.outputs (first_of_body n) (first_inside n) n.body (λ q. Body ∷ q) (λ x u e. e) in
     by p (λ q e. subst (λ s. WithinReads Deps (λ z. rank_at r (A z) < r v) s) (sym e) tt)
     (λ q u. (inside_below Deps r A (seen_controls n) (control_in ds (λ z. only (Controls ∷ z))) (agree_controls A 0 ds (λ z. Controls ∷ z) (λ z y e. e)) None none (free Deps r A) (declared_names n.outputs) (first_of_body n) (first_inside n) (λ z. Body ∷ z) n.body known.1 (λ z y e. e) m.1 q v u).1)
-    (λ q u. contract_below Deps r A (seen_outputs n) (output_in n (λ z. only (Body ∷ z))) outputs (first_of_contract n) (λ z. z) n.contract known.0 (guard_ties n) m.0 q v u) h
+    (λ q u. contract_below Deps r A (seen_outputs n) (output_in n (λ z. only (Body ∷ z))) outputs (first_of_contract n) (λ z. z) n.contract known.0 (observer_ties n) m.0 q v u) h
   where
     by : (q : Place) → ((z : Place) → sources n (Controls ∷ z) ≡ none → WithinReads Deps (λ y. rank_at r (number_node n y) < r v) (sources n (Controls ∷ z)))
         → ((z : Place) → number_block (first_of_body n) (first_inside n) n.body z ≡ Some v → WithinReads Deps (λ y. rank_at r (number_node n y) < r v) (sources n (Body ∷ z)))

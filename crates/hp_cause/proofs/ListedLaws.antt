@@ -3,15 +3,16 @@ use Rattle.std.proofs.Common.{◌≡◌, ℕ, ◌+◌, List, [], ◌∷◌, ◌+
 use Rattle.std.proofs.lemmas.List.{append_assoc, append-nil, map-append}
 use Rattle.std.proofs.lemmas.Slice.Eq.{bytes_eq-Decides}
 use Rattle.hp_causal.proofs.Choices.{or_first, or_second}
-use Rattle.hp_cause.proofs.AgreeLaws.{guard_ties}
-use Rattle.hp_cause.proofs.NumberLaws.{listed_in, numbered_listed, over_there}
+use Rattle.hp_cause.proofs.AgreeLaws.{observer_ties}
+use Rattle.hp_defining.proofs.ListedLaws.{listed_in}
+use Rattle.hp_cause.proofs.NumberLaws.{numbered_listed, over_there}
 use Rattle.std.specs.Str.{bytes_eq}
 use Rattle.hp_base.specs.declared.span.Span.{Span}
 use Rattle.hp_tree.specs.declared.block.Trans.{Trans}
 use Rattle.hp_tree.specs.Expressions.{Expr, constant, variable, last_of, one, two, choose, pre, fby, arrow, when_is, merge, call, Exprs, no_expr, more_exprs, Parts, no_part, more_parts}
 use Rattle.hp_tree.specs.Blocks.{Decl, Block, block, Eqns, no_eqn, more_eqns, Eqn, define, switch, reset, automaton, Arms, no_arm, more_arms, States, no_state, more_states}
 use Rattle.hp_tree.specs.Programs.{Contract, Node}
-use Rattle.hp_tree.specs.Instant.{Controls, Body, Guard, Assume, Enforce, Named, Equations, Head, Tail, Right, Test, Arms as ArmsOf, States as StatesOf, Until, Unless, Active, Next, First, Second, Third, Args, Place}
+use Rattle.hp_tree.specs.Instant.{Controls, Body, Observer, Assume, Enforce, Named, Equations, Head, Tail, Right, Test, Arms as ArmsOf, States as StatesOf, Until, Unless, Active, Next, First, Second, Third, Args, Place}
 use Rattle.hp_tree.specs.Meaning.{is_among, defines, some_defines, clock_of, controls_of, names_of as declared_names}
 use Rattle.hp_causal.specs.declared.point.Point.{Point}
 use Rattle.hp_causal.specs.declared.point.PointKind.TheVariants as kind
@@ -318,8 +319,8 @@ module _ (A : Numbering) where
       let inner = of_inside own None [] (k + own_size c.body) c.body in
       let first = of_told own ((k + own_size c.body) + size_inside c.body) c.assume in
       let second = of_told own (((k + own_size c.body) + size_inside c.body) + size_of_told c.assume) c.enforce in
-      two_parts inner (first ++ second) (points_of [] c.body (below Guard w)) (calls_told c.assume (below Assume w) ++ calls_told c.enforce (below Enforce w))
-      (inside_listed see None [] k (k + own_size c.body) (below Guard w) c.body (λ p. t (Guard ∷ p)))
+      two_parts inner (first ++ second) (points_of [] c.body (below Observer w)) (calls_told c.assume (below Assume w) ++ calls_told c.enforce (below Enforce w))
+      (inside_listed see None [] k (k + own_size c.body) (below Observer w) c.body (λ p. t (Observer ∷ p)))
       (two_parts first second (calls_told c.assume (below Assume w)) (calls_told c.enforce (below Enforce w))
       (told_listed own ((k + own_size c.body) + size_inside c.body) (below Assume w) c.assume (λ p. t (Assume ∷ p)))
       (told_listed own (((k + own_size c.body) + size_inside c.body) + size_of_told c.assume) (below Enforce w) c.enforce (λ p. t (Enforce ∷ p))))
@@ -335,10 +336,10 @@ pub node_listed : (n : Node) → table_in (of_node n) ≡ map (λ (p : Placed). 
 node_listed n =
     let A = number_node n in
     let ds = controls_of n.contract in
-    let guard = of_contract (seen_outputs n) (first_of_contract n) n.contract in
+    let observer = of_contract (seen_outputs n) (first_of_contract n) n.contract in
     let body = of_inside (seen_in (first_of_body n) n.body (seen_controls n)) None (declared_names n.outputs) (first_inside n) n.body in
-    two_parts A (of_controls 0 ds) (guard ++ body) (controls ds (λ p. Controls ∷ p)) (points_of_contract n.contract (λ p. p) ++ points_of (declared_names n.outputs) n.body (λ p. Body ∷ p))
+    two_parts A (of_controls 0 ds) (observer ++ body) (controls ds (λ p. Controls ∷ p)) (points_of_contract n.contract (λ p. p) ++ points_of (declared_names n.outputs) n.body (λ p. Body ∷ p))
     (controls_listed A 0 (λ p. Controls ∷ p) ds (λ p v h. h))
-    (two_parts A guard body (points_of_contract n.contract (λ p. p)) (points_of (declared_names n.outputs) n.body (λ p. Body ∷ p))
-    (contract_listed A (seen_outputs n) (first_of_contract n) (λ p. p) n.contract (guard_ties n))
+    (two_parts A observer body (points_of_contract n.contract (λ p. p)) (points_of (declared_names n.outputs) n.body (λ p. Body ∷ p))
+    (contract_listed A (seen_outputs n) (first_of_contract n) (λ p. p) n.contract (observer_ties n))
     (inside_listed A (seen_controls n) None (declared_names n.outputs) (first_of_body n) (first_inside n) (λ p. Body ∷ p) n.body (λ p v h. h)))

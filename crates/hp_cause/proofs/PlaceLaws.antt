@@ -7,7 +7,7 @@ use Rattle.hp_tree.specs.declared.block.Trans.{Trans}
 use Rattle.hp_tree.specs.Expressions.{Expr, constant, variable, last_of, one, two, choose, pre, fby, arrow, when_is, merge, call, Exprs, no_expr, more_exprs, Parts, no_part, more_parts}
 use Rattle.hp_tree.specs.Blocks.{Decl, Block, block, Eqns, no_eqn, more_eqns, Eqn, define, switch, reset, automaton, Arms, no_arm, more_arms, States, no_state, more_states}
 use Rattle.hp_tree.specs.Programs.{Contract, Node}
-use Rattle.hp_tree.specs.Instant.{Step, Controls, Body, Guard, Assume, Enforce, Named, Fresh, Equations, Head, Tail, Right, Test, Arms as ArmsOf, States as StatesOf, Until, Unless, Active, Next, First, Second, Third, Args, Place}
+use Rattle.hp_tree.specs.Instant.{Step, Controls, Body, Observer, Assume, Enforce, Named, Fresh, Equations, Head, Tail, Right, Test, Arms as ArmsOf, States as StatesOf, Until, Unless, Active, Next, First, Second, Third, Args, Place}
 use Rattle.hp_tree.specs.Meaning.{controls_of}
 use Rattle.hp_defining.specs.Layers.{numbered}
 use Rattle.hp_defining.specs.Names.{names_in}
@@ -327,27 +327,27 @@ count_told (Some e) = count_expr e
 count_contract : (c : Option Contract) → length (ends_of_contract c) ≡ size_of_contract c
 count_contract None = refl
 count_contract (Some c) =
-    two_parts (step_in Guard (own_ends c.body ++ ends_inside c.body)) (step_in Assume (ends_of_told c.assume) ++ step_in Enforce (ends_of_told c.enforce)) (own_size c.body + size_inside c.body) (size_of_told c.assume + size_of_told c.enforce)
-    (one_part Guard (own_ends c.body ++ ends_inside c.body) (own_size c.body + size_inside c.body) (count_block c.body))
+    two_parts (step_in Observer (own_ends c.body ++ ends_inside c.body)) (step_in Assume (ends_of_told c.assume) ++ step_in Enforce (ends_of_told c.enforce)) (own_size c.body + size_inside c.body) (size_of_told c.assume + size_of_told c.enforce)
+    (one_part Observer (own_ends c.body ++ ends_inside c.body) (own_size c.body + size_inside c.body) (count_block c.body))
     (two_parts (step_in Assume (ends_of_told c.assume)) (step_in Enforce (ends_of_told c.enforce)) (size_of_told c.assume) (size_of_told c.enforce) (one_part Assume (ends_of_told c.assume) (size_of_told c.assume) (count_told c.assume)) (one_part Enforce (ends_of_told c.enforce) (size_of_told c.enforce) (count_told c.enforce)))
 
 placed_contract : (k v : ℕ) (c : Option Contract) (p : Place) → number_contract k c p ≡ Some v → IsPlaced (ends_of_contract c) k v p
-placed_contract k v (Some c) (Guard ∷ p) h =
+placed_contract k v (Some c) (Observer ∷ p) h =
     let body = own_ends c.body ++ ends_inside c.body in
-    fore (step_in Guard body) (step_in Assume (ends_of_told c.assume) ++ step_in Enforce (ends_of_told c.enforce)) k v (Guard ∷ p) (step Guard body k v p (placed_block k v c.body p h))
+    fore (step_in Observer body) (step_in Assume (ends_of_told c.assume) ++ step_in Enforce (ends_of_told c.enforce)) k v (Observer ∷ p) (step Observer body k v p (placed_block k v c.body p h))
 placed_contract k v (Some c) (Assume ∷ p) h =
     let body = own_ends c.body ++ ends_inside c.body in
     let first = step_in Assume (ends_of_told c.assume) in
     let second = step_in Enforce (ends_of_told c.enforce) in
     let n = (k + own_size c.body) + size_inside c.body in
-    rear (step_in Guard body) (first ++ second) (own_size c.body + size_inside c.body) k v (Assume ∷ p) (one_part Guard body (own_size c.body + size_inside c.body) (count_block c.body))
+    rear (step_in Observer body) (first ++ second) (own_size c.body + size_inside c.body) k v (Assume ∷ p) (one_part Observer body (own_size c.body + size_inside c.body) (count_block c.body))
     (moved_up (first ++ second) n (k + (own_size c.body + size_inside c.body)) v (Assume ∷ p) (omega arith) (fore first second n v (Assume ∷ p) (step Assume (ends_of_told c.assume) n v p (placed_told n v c.assume p h))))
 placed_contract k v (Some c) (Enforce ∷ p) h =
     let body = own_ends c.body ++ ends_inside c.body in
     let first = step_in Assume (ends_of_told c.assume) in
     let second = step_in Enforce (ends_of_told c.enforce) in
     let n = (k + own_size c.body) + size_inside c.body in
-    rear (step_in Guard body) (first ++ second) (own_size c.body + size_inside c.body) k v (Enforce ∷ p) (one_part Guard body (own_size c.body + size_inside c.body) (count_block c.body))
+    rear (step_in Observer body) (first ++ second) (own_size c.body + size_inside c.body) k v (Enforce ∷ p) (one_part Observer body (own_size c.body + size_inside c.body) (count_block c.body))
     (moved_up (first ++ second) n (k + (own_size c.body + size_inside c.body)) v (Enforce ∷ p) (omega arith)
     (rear first second (size_of_told c.assume) n v (Enforce ∷ p) (one_part Assume (ends_of_told c.assume) (size_of_told c.assume) (count_told c.assume)) (step Enforce (ends_of_told c.enforce) (n + size_of_told c.assume) v p (placed_told (n + size_of_told c.assume) v c.enforce p h))))
 placed_contract k v c p h = absurd cc
@@ -368,8 +368,8 @@ module _ (n : Node) where
   abbrev own : List Place
   own = step_in Body (own_ends n.body)
 
-  abbrev guard : List Place
-  guard = ends_of_contract n.contract
+  abbrev observer : List Place
+  observer = ends_of_contract n.contract
 
   abbrev inside : List Place
   inside = step_in Body (ends_inside n.body)
@@ -377,23 +377,23 @@ module _ (n : Node) where
   count_guides : length guides ≡ first_of_body n
   count_guides = one_part Controls (ends_of_controls (controls_of n.contract)) (first_of_body n) (count_controls (controls_of n.contract))
 
-  behind_guides : (v : ℕ) (p : Place) → IsPlaced (own ++ (guard ++ inside)) (first_of_body n) v p → IsPlaced (guides ++ (own ++ (guard ++ inside))) 0 v p
-  behind_guides v p h = rear guides (own ++ (guard ++ inside)) (first_of_body n) 0 v p count_guides (moved_up (own ++ (guard ++ inside)) (first_of_body n) (0 + first_of_body n) v p (omega arith) h)
+  behind_guides : (v : ℕ) (p : Place) → IsPlaced (own ++ (observer ++ inside)) (first_of_body n) v p → IsPlaced (guides ++ (own ++ (observer ++ inside))) 0 v p
+  behind_guides v p h = rear guides (own ++ (observer ++ inside)) (first_of_body n) 0 v p count_guides (moved_up (own ++ (observer ++ inside)) (first_of_body n) (0 + first_of_body n) v p (omega arith) h)
 
-  in_guard : (p : Place) (v : ℕ) → number_contract (first_of_contract n) n.contract p ≡ Some v → IsPlaced (guides ++ (own ++ (guard ++ inside))) 0 v p
-  in_guard p v h =
+  in_observer : (p : Place) (v : ℕ) → number_contract (first_of_contract n) n.contract p ≡ Some v → IsPlaced (guides ++ (own ++ (observer ++ inside))) 0 v p
+  in_observer p v h =
       behind_guides v p
-      (rear own (guard ++ inside) (own_size n.body) (first_of_body n) v p (one_part Body (own_ends n.body) (own_size n.body) (count_names n.body)) (fore guard inside (first_of_contract n) v p (placed_contract (first_of_contract n) v n.contract p h)))
+      (rear own (observer ++ inside) (own_size n.body) (first_of_body n) v p (one_part Body (own_ends n.body) (own_size n.body) (count_names n.body)) (fore observer inside (first_of_contract n) v p (placed_contract (first_of_contract n) v n.contract p h)))
 
   placed_node : (p : Place) (v : ℕ) → number_node n p ≡ Some v → IsPlaced (ends_of_node n) 0 v p
-  placed_node (Controls ∷ p) v h = fore guides (own ++ (guard ++ inside)) 0 v (Controls ∷ p) (step Controls (ends_of_controls (controls_of n.contract)) 0 v p (placed_controls 0 v (controls_of n.contract) p h))
+  placed_node (Controls ∷ p) v h = fore guides (own ++ (observer ++ inside)) 0 v (Controls ∷ p) (step Controls (ends_of_controls (controls_of n.contract)) 0 v p (placed_controls 0 v (controls_of n.contract) p h))
   placed_node (Body ∷ p) v h =
       behind_guides v (Body ∷ p)
-      (⊎_elim (λ a. fore own (guard ++ inside) (first_of_body n) v (Body ∷ p) (step Body (own_ends n.body) (first_of_body n) v p a))
-      (λ b. rear own (guard ++ inside) (own_size n.body) (first_of_body n) v (Body ∷ p) (one_part Body (own_ends n.body) (own_size n.body) (count_names n.body))
-      (rear guard inside (size_of_contract n.contract) (first_of_contract n) v (Body ∷ p) (count_contract n.contract) (step Body (ends_inside n.body) (first_inside n) v p b)))
+      (⊎_elim (λ a. fore own (observer ++ inside) (first_of_body n) v (Body ∷ p) (step Body (own_ends n.body) (first_of_body n) v p a))
+      (λ b. rear own (observer ++ inside) (own_size n.body) (first_of_body n) v (Body ∷ p) (one_part Body (own_ends n.body) (own_size n.body) (count_names n.body))
+      (rear observer inside (size_of_contract n.contract) (first_of_contract n) v (Body ∷ p) (count_contract n.contract) (step Body (ends_inside n.body) (first_inside n) v p b)))
       (placed_parts_of (first_of_body n) (first_inside n) v n.body p h))
-  placed_node p v h = in_guard p v h
+  placed_node p v h = in_observer p v h
 
   pub node_placed : (p : Place) (v : ℕ) → number_node n p ≡ Some v → nth (ends_of_node n) v ≡ Some p
   node_placed p v h = let found = placed_node p v h in ap (nth (ends_of_node n)) (let e : v ≡ 0 + found.index = found.number in let g : v ≡ found.index = omega arith in g) ∙ found.place

@@ -34,8 +34,6 @@ pub ruleset targeted = (more-nil, more-from_nil, more-one, next-vertex, drop-end
 
 pub ruleset clocks = (more-nil, drop-end)
 
-pub ruleset telling = (drop-end, nodes-at)
-
 pub ruleset tellings = (more-from_nil, names-told)
 
 pub ruleset ordered = (from-start, from-next, fall-end, causal-end, judged-here, named-here, names-node, one-more)

@@ -7,7 +7,7 @@ use Rattle.hp_tree.specs.declared.block.Trans.{Trans}
 use Rattle.hp_tree.specs.Expressions.{Expr, constant, variable, last_of, one, two, choose, pre, fby, arrow, when_is, merge, call, Exprs, no_expr, more_exprs, Parts, no_part, more_parts}
 use Rattle.hp_tree.specs.Blocks.{Decl, Block, block, Eqns, no_eqn, more_eqns, Eqn, define, switch, reset, automaton, Arms, no_arm, more_arms, States, no_state, more_states}
 use Rattle.hp_tree.specs.Programs.{Contract, Node}
-use Rattle.hp_tree.specs.Instant.{Controls, Body, Guard, Assume, Enforce, Named, Fresh, Equations, Head, Tail, Right, Test, Arms as ArmsOf, States as StatesOf, Until, Unless, Active, Next, First, Second, Third, Args, Place, Clock, without}
+use Rattle.hp_tree.specs.Instant.{Controls, Body, Observer, Assume, Enforce, Named, Fresh, Equations, Head, Tail, Right, Test, Arms as ArmsOf, States as StatesOf, Until, Unless, Active, Next, First, Second, Third, Args, Place, Clock, without}
 use Rattle.hp_tree.specs.Meaning.{declares, is_among, defines, some_defines, arms_define, states_define, block_defines, clock_of, controls_of, names_of as declared_names}
 use Rattle.hp_causal.specs.declared.point.PointKind.TheVariants as kind
 use Rattle.hp_causal.specs.Points.{span_of, Whereabouts}
@@ -16,14 +16,14 @@ use Rattle.hp_causal.specs.WhatIsRead.{of_clock, of_expr as reads_of, of_exprs a
 use Rattle.hp_causal.specs.Causality.{sources}
 use Rattle.hp_causal.proofs.Choices.{or_first, or_second}
 use Rattle.hp_cause.specs.Facts.{Fact, stands, reads, depends, stand, read, depend, read_by_all}
-use Rattle.hp_cause.specs.Names.{listed}
 use Rattle.hp_defining.specs.Layers.{numbered}
-use Rattle.hp_defining.specs.Names.{names_in, undeclared}
+use Rattle.hp_defining.specs.Names.{listed, names_in, undeclared}
 use Rattle.hp_cause.specs.Walked.{is_fresh, control_of_block, control_of_eqns, control_of_eqn, control_of_arms, control_of_states, control_of_contract, control_of_node, DefinedOnce, DefinedOnceInAll, DefinedOnceInOne, DefinedOnceInArms, DefinedOnceInStates, DefinedOnceInContract, NamesDefinedOnce}
 use Rattle.hp_cause.specs.Vertices.{calls_in, own_of_test, is_call, size_of_tests, own_size, size_inside, size_of, size_of_told, Numbering, number_expr, number_exprs, number_parts, number_test, number_tests, number_block, number_eqns, number_eqn, number_arms, number_states, number_told, number_contract, number_controls, first_of_body, first_of_contract, first_inside, number_node}
 use Rattle.hp_cause.specs.Gathering.{Sight, on_clock, names_of_clock, outer_clock, of_call, of_expr, of_exprs, of_parts, readers_of_test, of_test, of_tests, of_left, of_lefts, in_list, vertices_of, of_defined_name, of_name_if, of_defined, of_control, of_words, of_links, seen_in, seen_within, links_of, of_inside, of_eqns, of_eqn, of_arms, of_states, of_told, of_contract, of_controls, seen_controls, own_sight, seen_declared, seen_outputs, of_node}
-use Rattle.hp_cause.proofs.NumberLaws.{listed_in, listed_numbered, listed_outer, numbered_listed, over_there}
-use Rattle.hp_cause.proofs.AgreeLaws.{Is, outer_is, one_number, guard_ties, guard_sources, guard_controls}
+use Rattle.hp_defining.proofs.ListedLaws.{listed_in, listed_outer}
+use Rattle.hp_cause.proofs.NumberLaws.{listed_numbered, numbered_listed, over_there}
+use Rattle.hp_cause.proofs.AgreeLaws.{Is, outer_is, one_number, observer_ties, observer_sources, observer_controls}
 
 -- What is read, or what is depended on, where `Deps` holds. A vertex is entered at some places, and left for some.
 module _ (In : Place → Sources → Type 0) (here : (p : Place) → In p (only p)) (first : (p : Place) (s t : Sources) → In p s → In p (both s t)) (second : (p : Place) (s t : Sources) → In p t → In p (both s t)) (parts : (p : Place) (s t : Sources) → In p (both s t) → In p s ⊎ In p t)
@@ -468,12 +468,12 @@ module _ (In : Place → Sources → Type 0) (here : (p : Place) → In p (only 
   contract_sound see names known k w None once into out enter leave = tt
   contract_sound see names known k w (Some c) once into out enter leave =
       let own = seen_in k c.body see in
-      let inner = names_in_block c.body names (at_places (below Guard w)) in
-      let inside = known_in k (k + own_size c.body) c.body names see (below Guard w) known (λ p. into (Guard ∷ p)) in
+      let inner = names_in_block c.body names (at_places (below Observer w)) in
+      let inside = known_in k (k + own_size c.body) c.body names see (below Observer w) known (λ p. into (Observer ∷ p)) in
       let n = (k + own_size c.body) + size_inside c.body in
       join (of_inside own None [] (k + own_size c.body) c.body) (of_told own n c.assume ++ of_told own (n + size_of_told c.assume) c.enforce)
-      (inside_sound see names known None none (λ u q g i. absurd cc) [] k (k + own_size c.body) (below Guard w) c.body once (λ p. into (Guard ∷ p)) (bare (number_block k (k + own_size c.body) c.body) (in_block c.body names (at_places (below Guard w))) (λ p. out (Guard ∷ p)))
-      (λ p. enter (Guard ∷ p)) (λ p. leave (Guard ∷ p)))
+      (inside_sound see names known None none (λ u q g i. absurd cc) [] k (k + own_size c.body) (below Observer w) c.body once (λ p. into (Observer ∷ p)) (bare (number_block k (k + own_size c.body) c.body) (in_block c.body names (at_places (below Observer w))) (λ p. out (Observer ∷ p)))
+      (λ p. enter (Observer ∷ p)) (λ p. leave (Observer ∷ p)))
       (join (of_told own n c.assume) (of_told own (n + size_of_told c.assume) c.enforce)
       (told_sound own inner inside n (below Assume w) c.assume (λ p. into (Assume ∷ p)) (λ p. out (Assume ∷ p)))
       (told_sound own inner inside (n + size_of_told c.assume) (below Enforce w) c.enforce (λ p. into (Enforce ∷ p)) (λ p. out (Enforce ∷ p))))
@@ -503,13 +503,13 @@ module _ (In : Place → Sources → Type 0) (here : (p : Place) → In p (only 
   pub node_sound : (n : Node) → NamesDefinedOnce n → Enters (number_node n) (λ p. p) → Leaves (number_node n) (sources n) → EntersControl (number_node n) (control_of_node n) → LeavesControl (number_node n) (control_of_node n) → Sound (of_node n)
   node_sound n once into out enter leave =
       let ds = controls_of n.contract in
-      let guard = of_contract (seen_outputs n) (first_of_contract n) n.contract in
+      let observer = of_contract (seen_outputs n) (first_of_contract n) n.contract in
       let body = of_inside (seen_in (first_of_body n) n.body (seen_controls n)) None (declared_names n.outputs) (first_inside n) n.body in
       let outputs = output_in n (λ p. only (Body ∷ p)) in
-      join (of_controls 0 ds) (guard ++ body) (controls_sound 0 ds)
-      (join guard body
+      join (of_controls 0 ds) (observer ++ body) (controls_sound 0 ds)
+      (join observer body
       (contract_sound (seen_outputs n) outputs (known_outputs n.outputs (first_of_body n) (first_inside n) n.body (λ p. Body ∷ p) (λ p. into (Body ∷ p))) (first_of_contract n) (λ p. p) n.contract once.0
-      (λ p v x g f. into p v x (guard_ties n p v g) f) (λ p v x g f h. out p v x (guard_ties n p v g) f (subst (In x) (sym (guard_sources n p v g)) h))
-      (λ p v x g f h. subst (In x) (guard_controls n p v g) (enter p v x (guard_ties n p v g) f h)) (λ p v x g f h. leave p v x (guard_ties n p v g) f (subst (In x) (sym (guard_controls n p v g)) h)))
+      (λ p v x g f. into p v x (observer_ties n p v g) f) (λ p v x g f h. out p v x (observer_ties n p v g) f (subst (In x) (sym (observer_sources n p v g)) h))
+      (λ p v x g f h. subst (In x) (observer_controls n p v g) (enter p v x (observer_ties n p v g) f h)) (λ p v x g f h. leave p v x (observer_ties n p v g) f (subst (In x) (sym (observer_controls n p v g)) h)))
       (inside_sound (seen_controls n) (control_in ds (λ p. only (Controls ∷ p))) (known_controls 0 ds (λ p. Controls ∷ p) (λ p. into (Controls ∷ p))) None none (λ u q g i. absurd cc) (declared_names n.outputs) (first_of_body n) (first_inside n) (λ p. Body ∷ p) n.body once.1
       (λ p. into (Body ∷ p)) (bare (number_block (first_of_body n) (first_inside n) n.body) (in_block n.body (control_in ds (λ p. only (Controls ∷ p))) (λ p. only (Body ∷ p))) (λ p. out (Body ∷ p))) (λ p. enter (Body ∷ p)) (λ p. leave (Body ∷ p))))

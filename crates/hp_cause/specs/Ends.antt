@@ -4,7 +4,7 @@ use Rattle.hp_tree.specs.declared.block.Trans.{Trans}
 use Rattle.hp_tree.specs.Expressions.{Expr, constant, variable, last_of, one, two, choose, pre, fby, arrow, when_is, merge, call, Exprs, no_expr, more_exprs, Parts, no_part, more_parts}
 use Rattle.hp_tree.specs.Blocks.{Decl, Block, block, Eqns, no_eqn, more_eqns, Eqn, define, switch, reset, automaton, Arms, no_arm, more_arms, States, no_state, more_states}
 use Rattle.hp_tree.specs.Programs.{Contract, Node}
-use Rattle.hp_tree.specs.Instant.{Step, Controls, Body, Guard, Assume, Enforce, Named, Fresh, Equations, Head, Tail, Right, Test, Arms as ArmsOf, States as StatesOf, Until, Unless, Active, Next, First, Second, Third, Args, Place}
+use Rattle.hp_tree.specs.Instant.{Step, Controls, Body, Observer, Assume, Enforce, Named, Fresh, Equations, Head, Tail, Right, Test, Arms as ArmsOf, States as StatesOf, Until, Unless, Active, Next, First, Second, Third, Args, Place}
 use Rattle.hp_tree.specs.Meaning.{controls_of}
 use Rattle.hp_defining.specs.Names.{names_in}
 use Rattle.hp_cause.specs.Vertices.{is_call}
@@ -87,7 +87,7 @@ ends_of_told (Some e) = ends_of_expr e
 abbrev pub ends_of_contract : Option Contract → List Place
 ends_of_contract None = []
 ends_of_contract (Some c) =
-    step_in Guard (own_ends c.body ++ ends_inside c.body) ++ (step_in Assume (ends_of_told c.assume) ++ step_in Enforce (ends_of_told c.enforce))
+    step_in Observer (own_ends c.body ++ ends_inside c.body) ++ (step_in Assume (ends_of_told c.assume) ++ step_in Enforce (ends_of_told c.enforce))
 
 abbrev pub ends_of_controls : List Decl → List Place
 ends_of_controls [] = []

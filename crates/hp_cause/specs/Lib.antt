@@ -7,7 +7,6 @@ pub mod Ends
 pub mod Facts
 pub mod Falling
 pub mod Gathering
-pub mod Names
 pub mod Naming
 pub mod Ordering
 pub mod Tables

@@ -5,7 +5,7 @@ use Rattle.hp_tree.specs.declared.block.Trans.{Trans}
 use Rattle.hp_tree.specs.Expressions.{Expr, constant, variable, last_of, one, two, choose, pre, fby, arrow, when_is, merge, call, Exprs, no_expr, more_exprs, Parts, no_part, more_parts}
 use Rattle.hp_tree.specs.Blocks.{Decl, Block, block, Eqns, no_eqn, more_eqns, Eqn, define, switch, reset, automaton, Arms, no_arm, more_arms, States, no_state, more_states}
 use Rattle.hp_tree.specs.Programs.{Contract, Node}
-use Rattle.hp_tree.specs.Instant.{Controls, Body, Guard, Assume, Enforce, Fresh, Named, Equations, Head, Tail, Right, Test, Arms as ArmsOf, States as StatesOf, Until, Unless, Active, Next, First, Second, Third, Args, Place}
+use Rattle.hp_tree.specs.Instant.{Controls, Body, Observer, Assume, Enforce, Fresh, Named, Equations, Head, Tail, Right, Test, Arms as ArmsOf, States as StatesOf, Until, Unless, Active, Next, First, Second, Third, Args, Place}
 use Rattle.hp_tree.specs.Meaning.{controls_of}
 use Rattle.hp_defining.specs.Layers.{numbered}
 use Rattle.hp_defining.specs.Names.{names_in}
@@ -169,7 +169,7 @@ number_told k None p = None
 number_told k (Some e) p = number_expr k e p
 
 abbrev pub number_contract : ℕ → Option Contract → Numbering
-number_contract k (Some c) (Guard ∷ p) = number_block k (k + own_size c.body) c.body p
+number_contract k (Some c) (Observer ∷ p) = number_block k (k + own_size c.body) c.body p
 number_contract k (Some c) (Assume ∷ p) = number_told ((k + own_size c.body) + size_inside c.body) c.assume p
 number_contract k (Some c) (Enforce ∷ p) = number_told (((k + own_size c.body) + size_inside c.body) + size_of_told c.assume) c.enforce p
 number_contract k c p = None

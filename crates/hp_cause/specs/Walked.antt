@@ -2,7 +2,7 @@
 use Rattle.std.specs.Prelude.{ℕ, Bool, true, false, IsTrue, ⊤, List, [], ◌∷◌, Option, None, Some}
 use Rattle.hp_tree.specs.Blocks.{Block, block, Eqns, no_eqn, more_eqns, Eqn, define, switch, reset, automaton, Arms, no_arm, more_arms, States, no_state, more_states}
 use Rattle.hp_tree.specs.Programs.{Contract, Node}
-use Rattle.hp_tree.specs.Instant.{Controls, Body, Guard, Fresh, Equations, Head, Tail, Test, Arms as ArmsOf, States as StatesOf, Active, Place}
+use Rattle.hp_tree.specs.Instant.{Controls, Body, Observer, Fresh, Equations, Head, Tail, Test, Arms as ArmsOf, States as StatesOf, Active, Place}
 use Rattle.hp_tree.specs.Meaning.{defines, some_defines, controls_of}
 use Rattle.hp_causal.specs.Sources.{Sources, none, only, both, NameSources, PlaceSources, below}
 use Rattle.hp_causal.specs.WhatIsRead.{of_expr, names_in, names_within, control_in, output_in}
@@ -43,7 +43,7 @@ abbrev mutual
   control_of_states ss names around k p = none
 
 abbrev pub control_of_contract : Option Contract → NameSources → PlaceSources → PlaceSources
-control_of_contract (Some c) names k (Guard ∷ p) = control_of_block c.body names none (below Guard k) p
+control_of_contract (Some c) names k (Observer ∷ p) = control_of_block c.body names none (below Observer k) p
 control_of_contract c names k p = none
 
 abbrev pub control_of_node : Node → PlaceSources

@@ -2,7 +2,7 @@
 ghost use Rattle.std.specs.Prelude.{◌≡◌, Some, slice_get, drop, OnOk};
 ghost use Rattle.hp_cause.specs.Around.{of_place, of_places};
 ghost use Rattle.hp_cause.specs.Gathering.{of_defined_name, of_name_if, of_defined};
-ghost use Rattle.hp_cause.specs.Names.{listed};
+ghost use Rattle.hp_defining.specs.Names.{listed};
 ghost use Rattle.hp_defining.specs.Layers.{is_said, sight};
 ghost use Rattle.hp_cause.specs.Told.{facts_seen, names_seen, with_more};
 

@@ -5,9 +5,8 @@ ghost use Rattle.hp_tree.specs.Blocks.{eqns_of, arms_of, states_of};
 ghost use Rattle.hp_tree.specs.Meaning.{defines, controls_of, names_of as declared_names};
 ghost use Rattle.hp_causal.specs.declared.point.PointKind.TheVariants.{Active, Next};
 ghost use Rattle.hp_cause.specs.Facts.{stand, read, depend};
-ghost use Rattle.hp_cause.specs.Names.{listed};
 ghost use Rattle.hp_defining.specs.Layers.{numbered, says, says_numbers, says_seen, is_said, own_of, or_none, sight};
-ghost use Rattle.hp_defining.specs.Names.{names_in, names_of, outer_names};
+ghost use Rattle.hp_defining.specs.Names.{listed, names_in, names_of, outer_names};
 ghost use Rattle.hp_cause.specs.Told.{facts_seen, names_seen, with_more, front};
 ghost use Rattle.hp_cause.specs.Vertices.{calls_in, own_size, size_inside, size_of, size_of_all, size_of_arms, size_of_states, size_of_told, size_of_contract, size_of_tests, first_of_body, first_of_contract, size_of_node};
 ghost use Rattle.hp_cause.specs.Gathering.{block_names, of_expr, of_left, of_lefts, vertices_of, in_list, of_definition, of_defined_name, of_name_if, of_defined, of_control, of_words, of_links, seen_in, seen_within, links_of, declared_with, of_inside, of_eqns, of_eqn, of_block, of_arms, of_state, of_states, of_told, of_contract, of_controls, seen_controls, own_sight, seen_declared, behind_controls, of_node};
@@ -216,7 +215,7 @@ fn enter<'a>(
 
 /// Enters the block of a contract.
 #[tactic(auto, using(crate::proofs::Rules::entered))]
-fn enter_guard<'a>(
+fn enter_observer<'a>(
     alloc: Global,
     values: &mut Vec<Layer<'a>>,
     block: &'a Block,
@@ -549,7 +548,7 @@ fn gather_contract<'a>(
     ensures next { OnOk result (notes.new.next ≡ notes.old.next + size_of_contract (Some contract.now)) }
     ensures facts { OnOk result (facts_seen notes.new.facts.items ≡ with_more (facts_seen notes.old.facts.items) (of_contract (sight scope.old.values.items) notes.old.next (Some contract.now))) }
 {
-    enter_guard(alloc, &mut scope.values, &contract.body, &mut notes.next)?;
+    enter_observer(alloc, &mut scope.values, &contract.body, &mut notes.next)?;
     gather_inside(alloc, scope, None, &contract.body, notes)?;
     gather_told(alloc, &scope.values, &contract.assume, notes)?;
     gather_told(alloc, &scope.values, &contract.enforce, notes)
@@ -557,7 +556,7 @@ fn gather_contract<'a>(
 
 /// What is known in the contract of a node: its outputs, where these layers of its body have them.
 #[tactic(auto, using(crate::proofs::Rules::entered))]
-fn guard_scope<'a>(
+fn observer_scope<'a>(
     alloc: Global,
     outputs: &'a [Decl],
     own: &[Layer],
@@ -577,7 +576,7 @@ fn guard_scope<'a>(
 
 /// The contract of a node with these outputs, if it has one.
 #[tactic(auto, using(crate::proofs::Rules::gathered))]
-fn gather_guard<'a>(
+fn gather_observer<'a>(
     alloc: Global,
     outputs: &'a [Decl],
     own: &[Layer],
@@ -590,7 +589,7 @@ fn gather_guard<'a>(
     match contract {
         None => Ok(()),
         Some(contract) => {
-            let mut scope = guard_scope(alloc, outputs, own)?;
+            let mut scope = observer_scope(alloc, outputs, own)?;
             gather_contract(alloc, &mut scope, contract, notes)
         }
     }
@@ -684,7 +683,7 @@ fn gather_parts<'a>(
     ensures next { OnOk result (notes.new.next ≡ size_of_node node.now) }
     ensures facts { OnOk result (facts_seen notes.new.facts.items ≡ with_more (facts_seen notes.old.facts.items) (behind_controls node.now)) }
 {
-    gather_guard(
+    gather_observer(
         alloc,
         &node.outputs,
         inside(&scope.values),

@@ -10,8 +10,8 @@ use Rattle.hp_tree.specs.declared.program.Item.TheVariants.{TypeItem, NodeItem}
 use Rattle.hp_tree.specs.Blocks.{Decl}
 use Rattle.hp_tree.specs.Programs.{TypeDecl, Contract, Node}
 use Rattle.hp_tree.specs.Operators.{Reading, constant_of}
-use Rattle.hp_tree.specs.Instant.{Controls, Body, Guard, Assume, Enforce, Named, Tail, Instant, Past, part, at, since, alone, in_row, in_guard, in_node}
-use Rattle.hp_tree.specs.Meaning.{Names, Nodes, declares, lasts, input_of, scope, guard, controls_of, given_to, node}
+use Rattle.hp_tree.specs.Instant.{Controls, Body, Observer, Assume, Enforce, Named, Tail, Instant, Past, part, at, since, alone, in_row, in_observer, in_node}
+use Rattle.hp_tree.specs.Meaning.{Names, Nodes, declares, lasts, input_of, scope, observer, controls_of, given_to, node}
 use Rattle.hp_causal.specs.Steering.{steered_by}
 use Rattle.hp_causal.proofs.Swap.{given}
 use Rattle.hp_answered.proofs.GivenLaws.{AgreeElsewhere, node_same}
@@ -42,13 +42,13 @@ module _ (types : List TypeDecl) (R : Reading) (N : Nodes)
   abbrev last_of_outputs : Node → Past → Names
   last_of_outputs n past = lasts (λ c. R.constant (constant_of types c)) n.outputs past (λ x. Absent)
 
-  guard_alike : (n : Node) (c : Option Contract) → n.contract ≡ c → (vs : List Value) (past : Past) (free other now : Instant) → AgreeElsewhere free other
-      → guard types R N c (λ x. if declares n.outputs x then now (Named x ∷ []) else input_of n.inputs vs (λ x. Absent) x) (last_of_outputs n past) (given past free) now
-      ≡ guard types R N c (λ x. if declares n.outputs x then now (Named x ∷ []) else input_of n.inputs vs (λ x. Absent) x) (last_of_outputs n past) (given past other) now
-  guard_alike n None e vs past free other now u = refl
-  guard_alike n (Some c) e vs past free other now u =
+  observer_alike : (n : Node) (c : Option Contract) → n.contract ≡ c → (vs : List Value) (past : Past) (free other now : Instant) → AgreeElsewhere free other
+      → observer types R N c (λ x. if declares n.outputs x then now (Named x ∷ []) else input_of n.inputs vs (λ x. Absent) x) (last_of_outputs n past) (given past free) now
+      ≡ observer types R N c (λ x. if declares n.outputs x then now (Named x ∷ []) else input_of n.inputs vs (λ x. Absent) x) (last_of_outputs n past) (given past other) now
+  observer_alike n None e vs past free other now u = refl
+  observer_alike n (Some c) e vs past free other now u =
       let t = node_same types R N same (bare n c) refl vs past free other now u in
-      λ d. in_guard (λ p. t d (Guard ∷ p)) (λ p. t d (Assume ∷ p)) (λ p. t d (Enforce ∷ p))
+      λ d. in_observer (λ p. t d (Observer ∷ p)) (λ p. t d (Assume ∷ p)) (λ p. t d (Enforce ∷ p))
 
   -- so is a node that is given the same for its controllable variables
   node_alike : (n : Node) (row : Instant) (vs : List Value) (past : Past) (free other now : Instant) → AgreeElsewhere (steered_by free row) (steered_by other row)
@@ -67,7 +67,7 @@ module _ (types : List TypeDecl) (R : Reading) (N : Nodes)
       ≡ scope types R N n.body false (input_of (cs ++ n.inputs) (controls ++ vs) (λ x. Absent)) last (since false (at Body (given past G))) (part Body now) = λ d p. t d (Body ∷ p) in
       ap₂ (λ b c. in_node outputs' vs controls b c)
       (subst (λ (z : Names). scope types R N n.body false z last (since false (at Body (given past F))) (part Body now) ≡ scope types R N n.body false z last (since false (at Body (given past G))) (part Body now)) (sym names) body)
-      (guard_alike n n.contract refl vs past F G now u)
+      (observer_alike n n.contract refl vs past F G now u)
 
 -- what is put in place of the given values of controllable variables is the same
 steered_alike : (free other row : Instant) → AgreeElsewhere free other → AgreeElsewhere (steered_by free row) (steered_by other row)

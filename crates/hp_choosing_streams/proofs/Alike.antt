@@ -17,7 +17,7 @@ use Rattle.hp_followed.specs.Programs.{CallsAmong, CallsOnly}
 use Rattle.hp_closed.proofs.ClosedLaws.{each_both}
 use Rattle.hp_on_clocks.specs.Meaning.{AnswersAlike}
 use Rattle.hp_choosing.specs.Choices.{Choices, ChoicesOfKinds, IsSteered, OneReactionLaw, with_chosen}
-use Rattle.hp_choosing.specs.Meaning.{AreInTurn, GivesAnswers, HasOneMeaningUnder}
+use Rattle.hp_choosing.specs.Meaning.{AreInTurn, GivesAnswers}
 use Rattle.hp_choosing_streams.specs.Alike.{AlikeLaw}
 
 -- ---- names

@@ -9,7 +9,7 @@ use Rattle.hp_tree.specs.Blocks.{Decl}
 use Rattle.hp_tree.specs.Programs.{Contract, Node}
 use Rattle.hp_tree.specs.Meaning.{declares, controls_of}
 use Rattle.hp_names.specs.Scopes as names
-use Rattle.hp_names.specs.Rules.{ItemsAreNamed, WellNamed}
+use Rattle.hp_names.specs.Rules.{ItemsAreNamed}
 use Rattle.hp_clocking.specs.Clocking.{Assignment, base_written, contract_with_clocks}
 use Rattle.hp_named.specs.Scopes.{NameScope}
 use Rattle.hp_named.specs.Scoped.{EachNode, also, interface, no_names}

@@ -1,12 +1,11 @@
 -- The one meaning of the clocked equations of a ready program under a choice gives the outputs of its one reaction.
-use Rattle.std.proofs.Common.{◌≡◌, ℕ, suc, ◌≤◌, Bool, true, false, if◌then◌else◌, List, [], ◌∷◌, ◌++◌, length, map, reverse, refl, sym, ap, ap₂, subst, ◌∙◌}
+use Rattle.std.proofs.Common.{◌≡◌, ℕ, suc, ◌≤◌, false, if◌then◌else◌, List, [], ◌∷◌, ◌++◌, length, map, reverse, refl, sym, ap, ap₂, subst, ◌∙◌}
 use Rattle.std.specs.Prelude.{Some, None}
 use Rattle.std.specs.List.{AllByRecursion}
 use Rattle.std.specs.Str.{bytes_eq}
 use Rattle.std.proofs.lemmas.List.{map-append}
 use Rattle.hp_base.specs.Kinds.{KindData, AreOfKinds}
 use Rattle.hp_base.specs.declared.value.Value.{Value}
-use Rattle.hp_obc.specs.Form.{TypesForm}
 use Rattle.hp_obc.specs.Machines.{ObcType}
 use Rattle.hp_obc.specs.Steps.{Names}
 use Rattle.hp_tree.specs.declared.program.Item.{Item}
@@ -22,13 +21,11 @@ use Rattle.hp_causal.specs.Causality.{IsRanked}
 use Rattle.hp_causal.specs.OneReaction.{ReactionOf}
 use Rattle.hp_causal.specs.RanksOfPoints.{AllRanksLaw}
 use Rattle.hp_named.specs.Scoped.{EachNode}
-use Rattle.hp_accepted.specs.Laws.{IsReady}
 use Rattle.hp_accepted.proofs.Assembled.{types_replaced, types_clocked}
 use Rattle.hp_expand.specs.Numbering.{no_node, replaced}
 use Rattle.hp_valued.specs.Values.{Classing, AreAccepted, GivenFits}
 use Rattle.hp_automata.specs.Lowering as lowering
 use Rattle.hp_automata.specs.Lowering.{Enumerations, enumerations, lowered_item, lowered_node, lowered_program}
-use Rattle.hp_lowered.specs.Removable.{IsRemovable}
 use Rattle.hp_lowered.specs.Laws.{RanksLaw}
 use Rattle.hp_lowerable.proofs.Runs.{lowered_there}
 use Rattle.hp_lowerable.proofs.Texts.{clocked_of, each_reverse}
@@ -78,7 +75,7 @@ use Rattle.hp_choosing.specs.Programs.{steered_by, controls_in, TextLaw as Meani
 use Rattle.hp_choosing_runs.specs.Chosen.{chosen_nodes, chosen_meaning}
 use Rattle.hp_choosing_runs.specs.Laws.{ChoosesValues}
 use Rattle.hp_choosing_filled.specs.Ready.{ReadyLaw}
-use Rattle.hp_choosing_flat.specs.Answering.{chosen_filled, AnsweringUnder, ControlsDiffer}
+use Rattle.hp_choosing_flat.specs.Answering.{AnsweringUnder, ControlsDiffer}
 use Rattle.hp_choosing_flat.specs.Laws.{SomeAnswersLaw, EquationsAnswerLaw}
 use Rattle.hp_choosing_flat.proofs.Behave.{outputs_answered}
 use Rattle.hp_choosing_streams.specs.Streams.{StreamLaw, TextLaw}

@@ -1,6 +1,6 @@
 -- Whatever nodes answer with the chosen values is what the one meaning of their clocked equations answers.
 -- Source: own.
-use Rattle.std.specs.Prelude.{ℕ, List, []}
+use Rattle.std.specs.Prelude.{List, []}
 use Rattle.std.specs.List.{AllByRecursion}
 use Rattle.hp_base.specs.Kinds.{KindData}
 use Rattle.hp_obc.specs.Machines.{ObcType}

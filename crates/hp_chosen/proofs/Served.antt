@@ -16,7 +16,7 @@ use Rattle.hp_tree.specs.Blocks.{Decl, Eqns, no_eqn, more_eqns, Eqn, define, swi
 use Rattle.hp_tree.specs.Programs.{TypeDecl, Contract}
 use Rattle.hp_tree.specs.Operators.{abstraction, is_there, is_comparison, two_marked}
 use Rattle.hp_tree.specs.Instant.{Step, Named, Fresh, Head, Tail, Right, Test, States as StatesOf, Unless, First, Second, Third, Args, Instance, Place, Instant, Past, Given, part, parts, nothing, in_row, since, top, Clock, holds, without}
-use Rattle.hp_tree.specs.Meaning.{Names, Nodes, Jump, no_nodes, clock_of, expr, exprs, merged, conditions, equation, equations, states, guard}
+use Rattle.hp_tree.specs.Meaning.{Names, Nodes, Jump, no_nodes, clock_of, expr, exprs, merged, conditions, equation, equations, states, observer}
 use Rattle.hp_causal.specs.Abstract.{callees, contract_alone}
 use Rattle.hp_causal.specs.Sources.{Sources, none, only, both, also, NameSources, Within}
 use Rattle.hp_causal.specs.WhatIsRead.{of_expr}
@@ -90,9 +90,9 @@ star_alike types true false o nil v w e f h k s n = never f
 
 -- ---- instances
 
-guard_named : (types : List TypeDecl) (k : Option Contract) (names last : Names) (g : Given) (now : Instant) (x : List ℕ) → guard types abstraction no_nodes k names last g now (Named x ∷ First ∷ []) ≡ Absent
-guard_named types None names last g now x = refl
-guard_named types (Some c) names last g now x = refl
+observer_named : (types : List TypeDecl) (k : Option Contract) (names last : Names) (g : Given) (now : Instant) (x : List ℕ) → observer types abstraction no_nodes k names last g now (Named x ∷ First ∷ []) ≡ Absent
+observer_named types None names last g now x = refl
+observer_named types (Some c) names last g now x = refl
 
 if_absent : (d : Bool) (v w : Value) → v ≡ Absent → w ≡ Absent → (if d then v else w) ≡ Absent
 if_absent true v w h k = h
@@ -102,7 +102,7 @@ no_operand : (types : List TypeDecl) (items : List Item) (f : List ℕ) (vs : Li
 no_operand types [] f vs g i x = refl
 no_operand types (TypeItem t ∷ items) f vs g i x = no_operand types items f vs g i x
 no_operand types (NodeItem n ∷ items) f vs g i x =
-    by (bytes_eq n.name f) (contract_alone types n vs g i) ((callees types items).instant f vs g i) (guard_named types n.contract _ _ g i x) (no_operand types items f vs g i x)
+    by (bytes_eq n.name f) (contract_alone types n vs g i) ((callees types items).instant f vs g i) (observer_named types n.contract _ _ g i x) (no_operand types items f vs g i x)
   where
     by : (d : Bool) (X Y : Instant) → X (Named x ∷ First ∷ []) ≡ Absent → Y (Named x ∷ First ∷ []) ≡ Absent → (if d then X else Y) (Named x ∷ First ∷ []) ≡ Absent
     by true X Y h k = h

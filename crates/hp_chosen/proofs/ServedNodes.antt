@@ -9,8 +9,8 @@ use Rattle.hp_tree.specs.Expressions.{Expr}
 use Rattle.hp_tree.specs.Blocks.{Decl, Block, block, Eqns}
 use Rattle.hp_tree.specs.Programs.{TypeDecl, Contract, Node}
 use Rattle.hp_tree.specs.Operators.{abstraction, constant_of, marked}
-use Rattle.hp_tree.specs.Instant.{Inputs, Controls, Body, Guard, Assume, Enforce, Named, Equations, Head, Tail, Place, Instant, Past, Given, part, parts, own, nothing, alone, in_row, Clock, holds}
-use Rattle.hp_tree.specs.Meaning.{Names, Nodes, declares, inside, lasts, input_of, given_to, scope, expr, read_in, last_in, guard, node, controls_of}
+use Rattle.hp_tree.specs.Instant.{Inputs, Controls, Body, Observer, Assume, Enforce, Named, Equations, Head, Tail, Place, Instant, Past, Given, part, parts, own, nothing, alone, in_row, Clock, holds}
+use Rattle.hp_tree.specs.Meaning.{Names, Nodes, declares, inside, lasts, input_of, given_to, scope, expr, read_in, last_in, observer, node, controls_of}
 use Rattle.hp_tree.specs.Reaction.{row_of}
 use Rattle.hp_causal.specs.Abstract.{callees}
 use Rattle.hp_causal.specs.Causality.{Ranked}
@@ -101,30 +101,30 @@ module _ (types : List TypeDecl) (items : List Item) (cls : Classing) where
   -- ---- contracts
 
   module _ (s : Scope) (kn : Known) (cl class : Assignment) (reads : NameSources) (rank : Place → ℕ) (outer outer' last : Names) (past : Past) (raw raw' i j : Instant) (fl : Flags i raw) (fl' : Flags j raw') where
-    stands : (b : Block) (assume enforce : Option Expr) → ((x : List ℕ) → class (Guard ∷ Named x ∷ []) ≡ seen_in_block kn (λ q. cl (Guard ∷ q)) b (Named x ∷ [])) → BlockDefinite kn (λ q. cl (Guard ∷ q)) b
+    stands : (b : Block) (assume enforce : Option Expr) → ((x : List ℕ) → class (Observer ∷ Named x ∷ []) ≡ seen_in_block kn (λ q. cl (Observer ∷ q)) b (Named x ∷ [])) → BlockDefinite kn (λ q. cl (Observer ∷ q)) b
         → ContractAt types true callee s class outer b assume enforce i → ContractAt types true callee s class outer' b assume enforce j
-        → ((p : Place) → i (Guard ∷ p) ≡ scope types abstraction N b false outer last (with_past (own (parts Guard past)) (part Guard raw)) (part Guard i) p)
-        → ((p : Place) → j (Guard ∷ p) ≡ scope types abstraction N b false outer' last (with_past (own (parts Guard past)) (part Guard raw')) (part Guard j) p)
-        → ((p : Place) → i (Assume ∷ p) ≡ told assume (read_in types abstraction N b outer (part Guard i)) (last_in types abstraction N b (own (parts Guard past)) last) (with_past (parts Assume past) (part Assume raw)) (part Assume i) p)
-        → ((p : Place) → j (Assume ∷ p) ≡ told assume (read_in types abstraction N b outer' (part Guard j)) (last_in types abstraction N b (own (parts Guard past)) last) (with_past (parts Assume past) (part Assume raw')) (part Assume j) p)
-        → ((p : Place) → i (Enforce ∷ p) ≡ told enforce (read_in types abstraction N b outer (part Guard i)) (last_in types abstraction N b (own (parts Guard past)) last) (with_past (parts Enforce past) (part Enforce raw)) (part Enforce i) p)
-        → ((p : Place) → j (Enforce ∷ p) ≡ told enforce (read_in types abstraction N b outer' (part Guard j)) (last_in types abstraction N b (own (parts Guard past)) last) (with_past (parts Enforce past) (part Enforce raw')) (part Enforce j) p)
-        → ((p : Place) → Within (λ q. rank q < rank (Guard ∷ p)) (in_block b reads (λ q. only (Guard ∷ q)) p))
-        → (p : Place) → by_step ((Guard, free_in_block b) ∷ (Assume, free_in_told assume) ∷ (Enforce, free_in_told enforce) ∷ []) p ≡ Some base → is_seen i p ≡ true → Served j raw' p
-    stands b assume enforce same df h h' g g' a a' f f' falls (Guard ∷ p) e seen =
-        served_below Guard j raw' p (block_served b s kn (λ q. cl (Guard ∷ q)) (λ q. class (Guard ∷ q)) reads (λ q. Guard ∷ q) rank outer outer' last (own (parts Guard past)) (part Guard raw) (part Guard raw') (part Guard i) (part Guard j) same df h.0 h'.0 g g' (λ q. fl (Guard ∷ q)) (λ q. fl' (Guard ∷ q)) falls p e seen)
+        → ((p : Place) → i (Observer ∷ p) ≡ scope types abstraction N b false outer last (with_past (own (parts Observer past)) (part Observer raw)) (part Observer i) p)
+        → ((p : Place) → j (Observer ∷ p) ≡ scope types abstraction N b false outer' last (with_past (own (parts Observer past)) (part Observer raw')) (part Observer j) p)
+        → ((p : Place) → i (Assume ∷ p) ≡ told assume (read_in types abstraction N b outer (part Observer i)) (last_in types abstraction N b (own (parts Observer past)) last) (with_past (parts Assume past) (part Assume raw)) (part Assume i) p)
+        → ((p : Place) → j (Assume ∷ p) ≡ told assume (read_in types abstraction N b outer' (part Observer j)) (last_in types abstraction N b (own (parts Observer past)) last) (with_past (parts Assume past) (part Assume raw')) (part Assume j) p)
+        → ((p : Place) → i (Enforce ∷ p) ≡ told enforce (read_in types abstraction N b outer (part Observer i)) (last_in types abstraction N b (own (parts Observer past)) last) (with_past (parts Enforce past) (part Enforce raw)) (part Enforce i) p)
+        → ((p : Place) → j (Enforce ∷ p) ≡ told enforce (read_in types abstraction N b outer' (part Observer j)) (last_in types abstraction N b (own (parts Observer past)) last) (with_past (parts Enforce past) (part Enforce raw')) (part Enforce j) p)
+        → ((p : Place) → Within (λ q. rank q < rank (Observer ∷ p)) (in_block b reads (λ q. only (Observer ∷ q)) p))
+        → (p : Place) → by_step ((Observer, free_in_block b) ∷ (Assume, free_in_told assume) ∷ (Enforce, free_in_told enforce) ∷ []) p ≡ Some base → is_seen i p ≡ true → Served j raw' p
+    stands b assume enforce same df h h' g g' a a' f f' falls (Observer ∷ p) e seen =
+        served_below Observer j raw' p (block_served b s kn (λ q. cl (Observer ∷ q)) (λ q. class (Observer ∷ q)) reads (λ q. Observer ∷ q) rank outer outer' last (own (parts Observer past)) (part Observer raw) (part Observer raw') (part Observer i) (part Observer j) same df h.0 h'.0 g g' (λ q. fl (Observer ∷ q)) (λ q. fl' (Observer ∷ q)) falls p e seen)
     stands (block ds es) assume enforce same df h h' g g' a a' f f' falls (Assume ∷ p) e seen =
-        served_below Assume j raw' p (told_served ds es s kn (λ q. cl (Guard ∷ q)) (λ q. class (Guard ∷ q)) reads (λ q. Guard ∷ q) rank outer outer' last (own (parts Guard past)) (part Guard raw) (part Guard raw') (part Guard i) (part Guard j) same df h.0 h'.0 g g' (λ q. fl (Guard ∷ q)) (λ q. fl' (Guard ∷ q)) falls
+        served_below Assume j raw' p (told_served ds es s kn (λ q. cl (Observer ∷ q)) (λ q. class (Observer ∷ q)) reads (λ q. Observer ∷ q) rank outer outer' last (own (parts Observer past)) (part Observer raw) (part Observer raw') (part Observer i) (part Observer j) same df h.0 h'.0 g g' (λ q. fl (Observer ∷ q)) (λ q. fl' (Observer ∷ q)) falls
         assume (parts Assume past) (part Assume raw) (part Assume raw') (part Assume i) (part Assume j) h.1.1.0 h'.1.1.0 a a' (λ q. fl (Assume ∷ q)) (λ q. fl' (Assume ∷ q)) p e seen)
     stands (block ds es) assume enforce same df h h' g g' a a' f f' falls (Enforce ∷ p) e seen =
-        served_below Enforce j raw' p (told_served ds es s kn (λ q. cl (Guard ∷ q)) (λ q. class (Guard ∷ q)) reads (λ q. Guard ∷ q) rank outer outer' last (own (parts Guard past)) (part Guard raw) (part Guard raw') (part Guard i) (part Guard j) same df h.0 h'.0 g g' (λ q. fl (Guard ∷ q)) (λ q. fl' (Guard ∷ q)) falls
+        served_below Enforce j raw' p (told_served ds es s kn (λ q. cl (Observer ∷ q)) (λ q. class (Observer ∷ q)) reads (λ q. Observer ∷ q) rank outer outer' last (own (parts Observer past)) (part Observer raw) (part Observer raw') (part Observer i) (part Observer j) same df h.0 h'.0 g g' (λ q. fl (Observer ∷ q)) (λ q. fl' (Observer ∷ q)) falls
         enforce (parts Enforce past) (part Enforce raw) (part Enforce raw') (part Enforce i) (part Enforce j) h.1.1.1 h'.1.1.1 f f' (λ q. fl (Enforce ∷ q)) (λ q. fl' (Enforce ∷ q)) p e seen)
     stands b assume enforce same df h h' g g' a a' f f' falls p e seen = not_free e
 
-    contract_served : (ctl ctl' : Instant) (c : Option Contract) → ((p : Place) → class (Guard ∷ p) ≡ seen_in_contract kn (λ q. cl (Guard ∷ q)) c p) → ContractDefinite kn (λ q. cl (Guard ∷ q)) c → ContractFits types true callee s class outer c i → ContractFits types true callee s class outer' c j
-        → ((p : Place) → i (Guard ∷ p) ≡ guard types abstraction N c outer last (with_past past (steered_by raw ctl)) i (Guard ∷ p)) → ((p : Place) → i (Assume ∷ p) ≡ guard types abstraction N c outer last (with_past past (steered_by raw ctl)) i (Assume ∷ p)) → ((p : Place) → i (Enforce ∷ p) ≡ guard types abstraction N c outer last (with_past past (steered_by raw ctl)) i (Enforce ∷ p))
-        → ((p : Place) → j (Guard ∷ p) ≡ guard types abstraction N c outer' last (with_past past (steered_by raw' ctl')) j (Guard ∷ p)) → ((p : Place) → j (Assume ∷ p) ≡ guard types abstraction N c outer' last (with_past past (steered_by raw' ctl')) j (Assume ∷ p)) → ((p : Place) → j (Enforce ∷ p) ≡ guard types abstraction N c outer' last (with_past past (steered_by raw' ctl')) j (Enforce ∷ p))
-        → ((p : Place) → Within (λ q. rank q < rank (Guard ∷ p)) (in_contract c reads only (Guard ∷ p)))
+    contract_served : (ctl ctl' : Instant) (c : Option Contract) → ((p : Place) → class (Observer ∷ p) ≡ seen_in_contract kn (λ q. cl (Observer ∷ q)) c p) → ContractDefinite kn (λ q. cl (Observer ∷ q)) c → ContractFits types true callee s class outer c i → ContractFits types true callee s class outer' c j
+        → ((p : Place) → i (Observer ∷ p) ≡ observer types abstraction N c outer last (with_past past (steered_by raw ctl)) i (Observer ∷ p)) → ((p : Place) → i (Assume ∷ p) ≡ observer types abstraction N c outer last (with_past past (steered_by raw ctl)) i (Assume ∷ p)) → ((p : Place) → i (Enforce ∷ p) ≡ observer types abstraction N c outer last (with_past past (steered_by raw ctl)) i (Enforce ∷ p))
+        → ((p : Place) → j (Observer ∷ p) ≡ observer types abstraction N c outer' last (with_past past (steered_by raw' ctl')) j (Observer ∷ p)) → ((p : Place) → j (Assume ∷ p) ≡ observer types abstraction N c outer' last (with_past past (steered_by raw' ctl')) j (Assume ∷ p)) → ((p : Place) → j (Enforce ∷ p) ≡ observer types abstraction N c outer' last (with_past past (steered_by raw' ctl')) j (Enforce ∷ p))
+        → ((p : Place) → Within (λ q. rank q < rank (Observer ∷ p)) (in_contract c reads only (Observer ∷ p)))
         → (p : Place) → by_step (free_in_contract c) p ≡ Some base → is_seen i p ≡ true → Served j raw' p
     contract_served ctl ctl' None same df h h' mg ma me mg' ma' me' falls [] e seen = not_free e
     contract_served ctl ctl' None same df h h' mg ma me mg' ma' me' falls (t ∷ p) e seen = not_free e
@@ -166,4 +166,4 @@ node_served types items class n o df vs a past raw raw' ctl ctl' i j h h' fl fl'
     (λ q. refl) df.0
     (subst (λ (ws : List Value). ContractFits types true (CalledFits types true (class_behind class) items) (inside_node s n) cls (λ x. if declares n.outputs x then i (Named x ∷ []) else input_of n.inputs ws (λ y. Absent) x) n.contract i) row h.1)
     (subst (λ (ws : List Value). ContractFits types true (CalledFits types true (class_behind class) items) (inside_node s n) cls (λ x. if declares n.outputs x then j (Named x ∷ []) else input_of n.inputs ws (λ y. Absent) x) n.contract j) row' h'.1)
-    (λ q. m (Guard ∷ q)) (λ q. m (Assume ∷ q)) (λ q. m (Enforce ∷ q)) (λ q. m' (Guard ∷ q)) (λ q. m' (Assume ∷ q)) (λ q. m' (Enforce ∷ q)) (λ q. o.falls (Guard ∷ q)) p e seen
+    (λ q. m (Observer ∷ q)) (λ q. m (Assume ∷ q)) (λ q. m (Enforce ∷ q)) (λ q. m' (Observer ∷ q)) (λ q. m' (Assume ∷ q)) (λ q. m' (Enforce ∷ q)) (λ q. o.falls (Observer ∷ q)) p e seen

@@ -18,4 +18,5 @@ mod words;
 
 pub use circuit::{Circuit, Role, Shape, Slot, Wire};
 pub use error::CircuitErr;
+pub use kind::Kind;
 pub use machine::machine_of;

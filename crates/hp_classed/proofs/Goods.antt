@@ -7,7 +7,7 @@ use Rattle.hp_tree.specs.declared.block.Trans.{Trans}
 use Rattle.hp_tree.specs.Expressions.{Expr}
 use Rattle.hp_tree.specs.Blocks.{Decl, Block, block, Eqns, no_eqn, more_eqns, Eqn, define, switch, reset, automaton, Arms, no_arm, more_arms, States, no_state, more_states}
 use Rattle.hp_tree.specs.Programs.{Contract, Node}
-use Rattle.hp_tree.specs.Instant.{Body, Guard, Equations, Head, Tail, Arms as ArmsOf, States as StatesOf}
+use Rattle.hp_tree.specs.Instant.{Body, Observer, Equations, Head, Tail, Arms as ArmsOf, States as StatesOf}
 use Rattle.hp_causal.specs.Points.{span_of}
 use Rattle.hp_init.specs.Classes.{Classes, Assignment, Known, known_in, known_within, known_outputs, BlockFollows, EqnsFollow, EqnFollows, ArmsFollow, StatesFollow, ContractFollows}
 use Rattle.hp_init.specs.Wants.{Wish, is_first, path_first, definition_met, of_clock, of_decls, of_test, of_tests, of_block, of_eqns, of_eqn, of_arms, of_states, of_told, of_contract}
@@ -205,22 +205,22 @@ contract_right k class (Some c) g =
 -- of a node
 
 pub node_told : (class : Assignment) (n : Node) → HasClasses class n
-    → ContractGood (known_outputs n class) (λ p. class (Guard ∷ p)) n.contract × BlockGood (known_outputs n class) (λ p. class (Body ∷ p)) n.body
+    → ContractGood (known_outputs n class) (λ p. class (Observer ∷ p)) n.contract × BlockGood (known_outputs n class) (λ p. class (Body ∷ p)) n.body
 node_told class n h =
     let k = known_outputs n class in
-    let first = of_contract k (λ p. class (Guard ∷ p)) n.contract in
+    let first = of_contract k (λ p. class (Observer ∷ p)) n.contract in
     let body = of_block k (λ p. class (Body ∷ p)) n.body in (
-      contract_told k (λ p. class (Guard ∷ p)) n.contract h.follow.0 (met_left first body h.met) h.definite.0,
+      contract_told k (λ p. class (Observer ∷ p)) n.contract h.follow.0 (met_left first body h.met) h.definite.0,
       block_told k (λ p. class (Body ∷ p)) n.body h.follow.1 (met_right first body h.met) h.definite.1,
     )
 
-pub node_right : (class : Assignment) (n : Node) → ContractGood (known_outputs n class) (λ p. class (Guard ∷ p)) n.contract → BlockGood (known_outputs n class) (λ p. class (Body ∷ p)) n.body → HasClasses class n
+pub node_right : (class : Assignment) (n : Node) → ContractGood (known_outputs n class) (λ p. class (Observer ∷ p)) n.contract → BlockGood (known_outputs n class) (λ p. class (Body ∷ p)) n.body → HasClasses class n
 node_right class n g h =
     let k = known_outputs n class in
-    let a = contract_right k (λ p. class (Guard ∷ p)) n.contract g in
+    let a = contract_right k (λ p. class (Observer ∷ p)) n.contract g in
     let b = block_right k (λ p. class (Body ∷ p)) n.body h in
     record {
       follow = (a.0, b.0);
-      met = met_append (of_contract k (λ p. class (Guard ∷ p)) n.contract) (of_block k (λ p. class (Body ∷ p)) n.body) a.1.0 b.1.0;
+      met = met_append (of_contract k (λ p. class (Observer ∷ p)) n.contract) (of_block k (λ p. class (Body ∷ p)) n.body) a.1.0 b.1.0;
       definite = (a.1.1, b.1.1);
     }

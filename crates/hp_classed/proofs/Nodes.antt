@@ -5,7 +5,7 @@ use Rattle.hp_base.specs.declared.span.Span.{Span}
 use Rattle.hp_tree.specs.Expressions.{Expr}
 use Rattle.hp_tree.specs.Blocks.{Block, block}
 use Rattle.hp_tree.specs.Programs.{Contract, Node}
-use Rattle.hp_tree.specs.Instant.{Body, Guard, Named, Equations}
+use Rattle.hp_tree.specs.Instant.{Body, Observer, Named, Equations}
 use Rattle.hp_tree.specs.Meaning.{declares}
 use Rattle.hp_init.specs.Classes.{Classes, Assignment, Known, or_first, known_in, known_outputs}
 use Rattle.hp_init.specs.Wants.{is_first}
@@ -28,9 +28,9 @@ module _ (enums : Enumerations) (tys : Types) (k : Known) (same : Relates same_n
   told_kept s t lower None ok h = tt
   told_kept s t lower (Some e) ok h = subst (λ z. IsTrue (is_first t z)) (itself e) (test_kept same_name s t lower e ok h)
 
-  guard_good : (sp : Span) (b : Block) (a e : Option Expr) → BlockOk none_known 0 b → ConditionOk a → ConditionOk e → (class : Assignment) → BlockGood k class b → ToldFirst (known_in b class k).values a → ToldFirst (known_in b class k).values e
+  observer_good : (sp : Span) (b : Block) (a e : Option Expr) → BlockOk none_known 0 b → ConditionOk a → ConditionOk e → (class : Assignment) → BlockGood k class b → ToldFirst (known_in b class k).values a → ToldFirst (known_in b class k).values e
       → (other : Assignment) × (BlockGood k other (lowered_body_of enums tys sp b) × (ToldFirst (known_in (lowered_body_of enums tys sp b) other k).values a × ToldFirst (known_in (lowered_body_of enums tys sp b) other k).values e))
-  guard_good sp (block ds es) a e ok ok_a ok_e class good first_a first_e =
+  observer_good sp (block ds es) a e ok ok_a ok_e class good first_a first_e =
       let out : (x : List ℕ) → false ≡ true → IsFalse (or_first (k.variables x)) = λ x q. absurd (cc q) in
       let old : (x : List ℕ) → false ≡ true → IsOld x = λ x q. absurd (cc q) in
       let inside = known_in (block ds es) class k in
@@ -44,7 +44,7 @@ module _ (enums : Enumerations) (tys : Types) (k : Known) (same : Relates same_n
 
   contract_good : (o : Option Contract) → ContractOk o → (class : Assignment) → ContractGood k class o → (other : Assignment) × ContractGood k other (option_map (lowered_contract enums tys) o)
   contract_good None ok class good = (no_class, tt)
-  contract_good (Some c) ok class good = guard_good c.span c.body c.assume c.enforce ok.0 ok.1 ok.2 class good.0 good.1.0 good.1.1
+  contract_good (Some c) ok class good = observer_good c.span c.body c.assume c.enforce ok.0 ok.1 ok.2 class good.0 good.1.0 good.1.1
 
 module _ (enums : Enumerations) (n : Node) (ok : NodeOk n) (class : Assignment) where
   outputs_new : (y : List ℕ) → (IsOld y → ⊥) → IsFalse (or_first (if declares n.outputs y then Some (class (Named y ∷ [])) else None))
@@ -57,8 +57,8 @@ module _ (enums : Enumerations) (n : Node) (ok : NodeOk n) (class : Assignment) 
   outputs_same : Relates same_name (known_outputs n class) (known_outputs n class)
   outputs_same = record { variables = λ x o. refl; values = λ x o h. h; fresh = record { variables = outputs_new; values = outputs_new } }
 
-  known_same : (guard body : Assignment) → known_outputs n class ≡ known_outputs (lowered_node enums n) (in_node class guard body)
-  known_same guard body =
+  known_same : (observer body : Assignment) → known_outputs n class ≡ known_outputs (lowered_node enums n) (in_node class observer body)
+  known_same observer body =
       λ i. record {
         variables = λ x. if declares n.outputs x then Some (class (Named x ∷ [])) else None;
         values = λ x. or_first (if declares n.outputs x then Some (class (Named x ∷ [])) else None);
@@ -68,8 +68,8 @@ module _ (enums : Enumerations) (n : Node) (ok : NodeOk n) (class : Assignment) 
   node_classes h =
       let k = known_outputs n class in
       let good = node_told class n h in
-      let guard = contract_good enums (types_of n) k outputs_same n.contract ok.contract (λ p. class (Guard ∷ p)) good.0 in
+      let observer = contract_good enums (types_of n) k outputs_same n.contract ok.contract (λ p. class (Observer ∷ p)) good.0 in
       let body = block_good enums itself_renames (types_of n) n.span [] n.body ok.body (λ p. class (Body ∷ p)) k k outputs_same (λ x q. absurd (cc q)) (λ x q. absurd (cc q)) good.1 in (
-        in_node class guard.0 body.0,
-        node_right (in_node class guard.0 body.0) (lowered_node enums n) (subst (λ z. ContractGood z guard.0 (lowered_node enums n).contract) (known_same guard.0 body.0) guard.1) (subst (λ z. BlockGood z body.0 (lowered_node enums n).body) (known_same guard.0 body.0) body.1),
+        in_node class observer.0 body.0,
+        node_right (in_node class observer.0 body.0) (lowered_node enums n) (subst (λ z. ContractGood z observer.0 (lowered_node enums n).contract) (known_same observer.0 body.0) observer.1) (subst (λ z. BlockGood z body.0 (lowered_node enums n).body) (known_same observer.0 body.0) body.1),
       )

@@ -5,7 +5,7 @@ use Rattle.hp_tree.specs.declared.block.Trans.{Trans}
 use Rattle.hp_tree.specs.Expressions.{Expr}
 use Rattle.hp_tree.specs.Blocks.{Decl, Block, block, Eqns, no_eqn, more_eqns, Eqn, define, switch, reset, automaton, Arms, no_arm, more_arms, States, no_state, more_states}
 use Rattle.hp_tree.specs.Programs.{Contract}
-use Rattle.hp_tree.specs.Instant.{Body, Guard, Named, Equations, Head, Tail, Arms as ArmsOf, States as StatesOf}
+use Rattle.hp_tree.specs.Instant.{Body, Observer, Named, Equations, Head, Tail, Arms as ArmsOf, States as StatesOf}
 use Rattle.hp_tree.specs.Meaning.{declares, some_defines}
 use Rattle.hp_init.specs.Classes.{Classes, Assignment, is_second, Known, or_first, known_in, known_within, LeftsFollow}
 use Rattle.hp_init.specs.Wants.{is_first, path_first, definition_met}
@@ -107,7 +107,7 @@ in_arms class p = false
 
 -- of a node, of its outputs, the block of its contract and its body
 abbrev pub in_node : Assignment → Assignment → Assignment → Assignment
-in_node outputs guard body (Named x ∷ []) = outputs (Named x ∷ [])
-in_node outputs guard body (Guard ∷ p) = guard p
-in_node outputs guard body (Body ∷ p) = body p
-in_node outputs guard body p = false
+in_node outputs observer body (Named x ∷ []) = outputs (Named x ∷ [])
+in_node outputs observer body (Observer ∷ p) = observer p
+in_node outputs observer body (Body ∷ p) = body p
+in_node outputs observer body p = false

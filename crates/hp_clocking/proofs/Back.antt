@@ -8,14 +8,14 @@ use Rattle.hp_tree.specs.declared.block.Trans.{Trans}
 use Rattle.hp_tree.specs.Expressions.{Expr}
 use Rattle.hp_tree.specs.Blocks.{Decl, Block, block, Eqns, no_eqn, more_eqns, Eqn, define, switch, reset, automaton, Arms, no_arm, more_arms, States, no_state, more_states}
 use Rattle.hp_tree.specs.Programs.{Contract, Node}
-use Rattle.hp_tree.specs.Instant.{Place, Body, Guard, Named, Equations, Head, Tail, Right, Arms as ArmsOf, States as StatesOf, Clock}
+use Rattle.hp_tree.specs.Instant.{Place, Body, Observer, Named, Equations, Head, Tail, Right, Arms as ArmsOf, States as StatesOf, Clock}
 use Rattle.hp_tree.specs.Meaning.{declares, defines, some_defines, written, clock_in, clock_of}
 use Rattle.hp_causal.specs.Sources.{below}
 use Rattle.hp_tree.specs.Meaning.{controls_of}
 use Rattle.hp_causal.specs.Clocked.{Standing, on_base, standing_in, standing_of, ClockRight, IsOn, ConditionsOn, LeftsOn, LastOnBase, DeclarationsRight, BlockRight, AllRight, OneRight, ArmsRight, StatesRight, TellsOnBase, ContractRight, ClocksRight}
 use Rattle.hp_clocking.specs.Terms.{value}
 use Rattle.hp_causal.specs.Points.{span_of}
-use Rattle.hp_clocking.specs.Clocking.{On, Term, Assignment, Sight, seen_on, standing, controls_define, local_at, local_term, term_in, sight_in, sight_of, declared, tested, AllAre, AllAllow, declarations, conditions, units, units_of_all, units_of_one, units_of_arms, units_of_states, contract_sight, body_sight, told, in_guard, in_body, contract_units, no_sight, sights, sights_of_all, sights_of_one, sights_of_arms, sights_of_states, contract_sights, node_sights, AreClocks, IsAllowed, EachBlock, EachOfAll, EachOfOne, EachOfArms, EachOfStates, EachInContract, AreFound, NodeFound, clocks_of, clocks_of_all, clocks_of_one, clocks_of_arms, clocks_of_states, clocks_of_contract, clocks_of_node}
+use Rattle.hp_clocking.specs.Clocking.{On, Term, Assignment, Sight, seen_on, standing, controls_define, local_at, local_term, term_in, sight_in, sight_of, declared, tested, AllAre, AllAllow, declarations, conditions, units, units_of_all, units_of_one, units_of_arms, units_of_states, contract_sight, body_sight, told, in_observer, in_body, contract_units, no_sight, sights, sights_of_all, sights_of_one, sights_of_arms, sights_of_states, contract_sights, node_sights, AreClocks, IsAllowed, EachBlock, EachOfAll, EachOfOne, EachOfArms, EachOfStates, EachInContract, AreFound, NodeFound, clocks_of, clocks_of_all, clocks_of_one, clocks_of_arms, clocks_of_states, clocks_of_contract, clocks_of_node}
 use Rattle.hp_clocking.proofs.Units.{all_allow}
 use Rattle.hp_clocking.proofs.Written.{value_if, seen_if}
 use Rattle.hp_clocking.proofs.Nodes.{on_known}
@@ -205,22 +205,22 @@ module _ (at : Assignment) where
   told_allows sight None h = tt
   told_allows sight (Some e) h = (h, tt)
 
-  contract_allows : (out : Sight) (c : Option Contract) → EachInContract Found c → Are in_guard (clocks_of_contract c) → ContractRight (standing at out) c → AllAllow at (contract_units out c)
+  contract_allows : (out : Sight) (c : Option Contract) → EachInContract Found c → Are in_observer (clocks_of_contract c) → ContractRight (standing at out) c → AllAllow at (contract_units out c)
   contract_allows out None f k r = tt
   contract_allows out (Some c) f k r =
-      let sight = sight_of c.body in_guard out in
-      let path = of_is c.body in_guard out f k r.0 in
-      (all_allow at (units c.body in_guard out) (told sight c.assume ++ told sight c.enforce)).1 (
-        block_allows c.body in_guard out f k r.0,
+      let sight = sight_of c.body in_observer out in
+      let path = of_is c.body in_observer out f k r.0 in
+      (all_allow at (units c.body in_observer out) (told sight c.assume ++ told sight c.enforce)).1 (
+        block_allows c.body in_observer out f k r.0,
         (all_allow at (told sight c.assume) (told sight c.enforce)).1 (
           told_allows sight c.assume (subst (λ z. TellsOnBase z c.assume) (sym path) r.1),
           told_allows sight c.enforce (subst (λ z. TellsOnBase z c.enforce) (sym path) r.2),
         ),
       )
 
-  contract_stands : (out : Sight) (c : Option Contract) → EachInContract Found c → Are in_guard (clocks_of_contract c) → ContractRight (standing at out) c → Stand in_guard (contract_sights c out)
+  contract_stands : (out : Sight) (c : Option Contract) → EachInContract Found c → Are in_observer (clocks_of_contract c) → ContractRight (standing at out) c → Stand in_observer (contract_sights c out)
   contract_stands out None f k r p = subst (ClockRight (standing at no_sight)) (sym (k p)) tt
-  contract_stands out (Some c) f k r p = block_stands c.body in_guard out f k r.0 p
+  contract_stands out (Some c) f k r p = block_stands c.body in_observer out f k r.0 p
 
   body_on : (n : Node) → standing at (body_sight n) ≡ (λ x. on_base (declares n.inputs x || (declares n.outputs x || declares (controls_of n.contract) x)))
   body_on n =
@@ -238,13 +238,13 @@ pub node_allows : (n : Node) → NodeFound n → ClocksRight n → IsAllowed n (
 node_allows n f r =
     let at = clocks_of_node n in
     let body = subst (λ z. BlockRight z n.body) (sym (body_on at n)) r.body in
-    let guard = subst (λ z. ContractRight z n.contract) (sym (contract_on at n)) r.contract in (
-      stands_at n f body guard,
+    let observer = subst (λ z. ContractRight z n.contract) (sym (contract_on at n)) r.contract in (
+      stands_at n f body observer,
       (all_allow at (contract_units (contract_sight n) n.contract) (units n.body in_body (body_sight n))).1
-          (contract_allows at (contract_sight n) n.contract f.1 (λ p. refl) guard, block_allows at n.body in_body (body_sight n) f.0 (λ p. refl) body),
+          (contract_allows at (contract_sight n) n.contract f.1 (λ p. refl) observer, block_allows at n.body in_body (body_sight n) f.0 (λ p. refl) body),
     )
   where
     stands_at : (n : Node) → NodeFound n → BlockRight (standing (clocks_of_node n) (body_sight n)) n.body → ContractRight (standing (clocks_of_node n) (contract_sight n)) n.contract → AreClocks (node_sights n) (clocks_of_node n)
-    stands_at n f body guard (Guard ∷ p) = contract_stands (clocks_of_node n) (contract_sight n) n.contract f.1 (λ q. refl) guard p
-    stands_at n f body guard (Body ∷ p) = block_stands (clocks_of_node n) n.body in_body (body_sight n) f.0 (λ q. refl) body p
-    stands_at n f body guard p = tt
+    stands_at n f body observer (Observer ∷ p) = contract_stands (clocks_of_node n) (contract_sight n) n.contract f.1 (λ q. refl) observer p
+    stands_at n f body observer (Body ∷ p) = block_stands (clocks_of_node n) n.body in_body (body_sight n) f.0 (λ q. refl) body p
+    stands_at n f body observer p = tt

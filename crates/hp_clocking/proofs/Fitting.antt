@@ -8,12 +8,12 @@ use Rattle.hp_tree.specs.declared.block.Trans.{Trans}
 use Rattle.hp_tree.specs.Expressions.{Expr}
 use Rattle.hp_tree.specs.Blocks.{Decl, Block, block, Eqns, no_eqn, more_eqns, Eqn, define, switch, reset, automaton, Arms, no_arm, more_arms, States, no_state, more_states}
 use Rattle.hp_tree.specs.Programs.{Contract, Node}
-use Rattle.hp_tree.specs.Instant.{Place, Body, Guard, Named, Equations, Head, Tail, Right, Arms as ArmsOf, States as StatesOf, Clock}
+use Rattle.hp_tree.specs.Instant.{Place, Body, Observer, Named, Equations, Head, Tail, Right, Arms as ArmsOf, States as StatesOf, Clock}
 use Rattle.hp_tree.specs.Meaning.{declares, some_defines}
 use Rattle.hp_causal.specs.Sources.{below}
 use Rattle.hp_tree.specs.Meaning.{controls_of}
 use Rattle.hp_causal.specs.Points.{span_of}
-use Rattle.hp_clocking.specs.Clocking.{Term, Seen, nowhere, own, further, from_inside, Sight, controls_define, local_at, local_term, term_in, sight_in, sight_of, declared, tested, declarations, conditions, units, units_of_all, units_of_one, units_of_arms, units_of_states, known_on_base, contract_sight, body_sight, told, in_guard, in_body, contract_units, node_units, no_sight, sights, sights_of_all, sights_of_one, sights_of_arms, sights_of_states, contract_sights, node_sights}
+use Rattle.hp_clocking.specs.Clocking.{Term, Seen, nowhere, own, further, from_inside, Sight, controls_define, local_at, local_term, term_in, sight_in, sight_of, declared, tested, declarations, conditions, units, units_of_all, units_of_one, units_of_arms, units_of_states, known_on_base, contract_sight, body_sight, told, in_observer, in_body, contract_units, node_units, no_sight, sights, sights_of_all, sights_of_one, sights_of_arms, sights_of_states, contract_sights, node_sights}
 use Rattle.hp_clocking.proofs.Cut.{TermFits, SeenFits, SightFits, TermsFit, UnitsFit, units_fit}
 
 -- what is seen stands on a variable or on the base clock
@@ -167,21 +167,21 @@ known_fits : (see : Place → Sight) (b : Bool) → SeenFits see no_sight (known
 known_fits see true = inl refl
 known_fits see false = tt
 
-contract_fits : (see : Place → Sight) (out : Sight) (c : Option Contract) → Bare out → Sees see in_guard (contract_sights c out) → UnitsFit see (contract_units out c)
+contract_fits : (see : Place → Sight) (out : Sight) (c : Option Contract) → Bare out → Sees see in_observer (contract_sights c out) → UnitsFit see (contract_units out c)
 contract_fits see out None f s = tt
 contract_fits see out (Some c) f s =
-    let sight = sight_of c.body in_guard out in
-    let g = of_fits see c.body in_guard out f s in
-    units_fit see (units c.body in_guard out) (told sight c.assume ++ told sight c.enforce)
-    (block_fits see c.body in_guard out f s) (units_fit see (told sight c.assume) (told sight c.enforce) (one_told sight g c.assume) (one_told sight g c.enforce))
+    let sight = sight_of c.body in_observer out in
+    let g = of_fits see c.body in_observer out f s in
+    units_fit see (units c.body in_observer out) (told sight c.assume ++ told sight c.enforce)
+    (block_fits see c.body in_observer out f s) (units_fit see (told sight c.assume) (told sight c.enforce) (one_told sight g c.assume) (one_told sight g c.enforce))
   where
     one_told : (sight : Sight) → SightFits see sight → (e : Option Expr) → UnitsFit see (told sight e)
     one_told sight g None = tt
     one_told sight g (Some e) = (g, tt)
 
-contract_places : (see : Place → Sight) (out : Sight) (c : Option Contract) → Bare out → Sees see in_guard (contract_sights c out) → (p : Place) → SightFits see (contract_sights c out p)
+contract_places : (see : Place → Sight) (out : Sight) (c : Option Contract) → Bare out → Sees see in_observer (contract_sights c out) → (p : Place) → SightFits see (contract_sights c out p)
 contract_places see out None f s p = no_fits see
-contract_places see out (Some c) f s p = places_fit see c.body in_guard out f s p
+contract_places see out (Some c) f s p = places_fit see c.body in_observer out f s p
 
 pub node_fits : (n : Node) → UnitsFit (node_sights n) (node_units n)
 node_fits n =
@@ -190,7 +190,7 @@ node_fits n =
     (block_fits (node_sights n) n.body in_body (body_sight n) (λ x. known_bare (declares n.inputs x || (declares n.outputs x || declares (controls_of n.contract) x))) (λ p. refl))
 
 pub node_places_fit : (n : Node) (p : Place) → SightFits (node_sights n) (node_sights n p)
-node_places_fit n (Guard ∷ p) =
+node_places_fit n (Observer ∷ p) =
     contract_places (node_sights n) (contract_sight n) n.contract (λ x. known_bare (declares n.inputs x || declares n.outputs x)) (λ q. refl) p
 node_places_fit n (Body ∷ p) =
     places_fit (node_sights n) n.body in_body (body_sight n) (λ x. known_bare (declares n.inputs x || (declares n.outputs x || declares (controls_of n.contract) x))) (λ q. refl) p

@@ -7,7 +7,7 @@ use Rattle.hp_tree.specs.Programs.{Contract, Node}
 use Rattle.hp_tree.specs.Instant.{Place, Body, Equations, Head, Tail, Arms as ArmsOf, States as StatesOf}
 use Rattle.hp_causal.specs.Sources.{below}
 use Rattle.hp_causal.specs.Points.{span_of}
-use Rattle.hp_clocking.specs.Clocking.{On, Term, Assignment, Sight, local_term, term_in, sight_in, sight_of, declared, tested, AllAllow, declarations, conditions, units, units_of_all, units_of_one, units_of_arms, units_of_states, contract_sight, body_sight, told, in_guard, in_body, contract_units, node_units, with_clock, base_written, with_clocks, all_with_clocks, one_with_clocks, arms_with_clocks, states_with_clocks, contract_with_clocks, node_with_clocks, EachBlock, EachOfAll, EachOfOne, EachOfArms, EachOfStates, EachInContract, IsWritten, AreWritten, AreOnBase, ControlsWritten, NodeWritten}
+use Rattle.hp_clocking.specs.Clocking.{On, Term, Assignment, Sight, local_term, term_in, sight_in, sight_of, declared, tested, AllAllow, declarations, conditions, units, units_of_all, units_of_one, units_of_arms, units_of_states, contract_sight, body_sight, told, in_observer, in_body, contract_units, node_units, with_clock, base_written, with_clocks, all_with_clocks, one_with_clocks, arms_with_clocks, states_with_clocks, contract_with_clocks, node_with_clocks, EachBlock, EachOfAll, EachOfOne, EachOfArms, EachOfStates, EachInContract, IsWritten, AreWritten, AreOnBase, ControlsWritten, NodeWritten}
 use Rattle.hp_clocking.proofs.Units.{all_allow}
 
 abbrev Writes : List Decl → Eqns → Type 0
@@ -68,9 +68,9 @@ module _ (at : Assignment) where
   contract_kept : (out : Sight) (c : Option Contract) → EachInContract Writes c → ControlsWritten c → AllAllow at (contract_units out c) → contract_with_clocks at c ≡ c
   contract_kept out None w v a = refl
   contract_kept out (Some c) w v a =
-      let r = (all_allow at (units c.body in_guard out) (told (sight_of c.body in_guard out) c.assume ++ told (sight_of c.body in_guard out) c.enforce)).0 a in
+      let r = (all_allow at (units c.body in_observer out) (told (sight_of c.body in_observer out) c.assume ++ told (sight_of c.body in_observer out) c.enforce)).0 a in
       ap₂ (λ z zs. Some (record { body = z; assume = c.assume; enforce = c.enforce; controls = zs; span = c.span }))
-      (block_kept c.body in_guard out w r.0) (base_kept c.controls v)
+      (block_kept c.body in_observer out w r.0) (base_kept c.controls v)
 
   pub node_kept : (n : Node) → NodeWritten n → AllAllow at (node_units n) → node_with_clocks at n ≡ n
   node_kept n w a =

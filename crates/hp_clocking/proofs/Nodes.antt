@@ -5,11 +5,11 @@ use Rattle.std.specs.Str.{bytes_eq}
 use Rattle.hp_tree.specs.Expressions.{Expr}
 use Rattle.hp_tree.specs.Blocks.{Decl, Block, block}
 use Rattle.hp_tree.specs.Programs.{Contract, Node}
-use Rattle.hp_tree.specs.Instant.{Place, Body, Guard}
+use Rattle.hp_tree.specs.Instant.{Place, Body, Observer}
 use Rattle.hp_tree.specs.Meaning.{declares}
 use Rattle.hp_tree.specs.Meaning.{controls_of}
 use Rattle.hp_causal.specs.Clocked.{on_base, ClockRight, BlockRight, TellsOnBase, ContractRight, own_clock, ClocksRight}
-use Rattle.hp_clocking.specs.Clocking.{Assignment, Sight, seen_on, standing, sight_of, AllAllow, units, known_on_base, contract_sight, body_sight, told, in_guard, in_body, contract_units, base_written, with_clock, with_clocks, contract_with_clocks, node_with_clocks, contract_sights, IsAllowed, ContractDefined, locals_declare, NodeDefined}
+use Rattle.hp_clocking.specs.Clocking.{Assignment, Sight, seen_on, standing, sight_of, AllAllow, units, known_on_base, contract_sight, body_sight, told, in_observer, in_body, contract_units, base_written, with_clock, with_clocks, contract_with_clocks, node_with_clocks, contract_sights, IsAllowed, ContractDefined, locals_declare, NodeDefined}
 use Rattle.hp_clocking.proofs.Units.{all_allow}
 use Rattle.hp_clocking.proofs.Written.{declares_kept, undeclared, standing_of_written, block_right}
 
@@ -34,14 +34,14 @@ module _ (at : Assignment) where
   told_on sight None h = tt
   told_on sight (Some e) h = h.0
 
-  contract_right : (out : Sight) (c : Option Contract) → ContractDefined c → AllAllow at (contract_units out c) → ((p : Place) → ClockRight (standing at (contract_sights c out p)) (at (in_guard p))) → ContractRight (standing at out) (contract_with_clocks at c)
+  contract_right : (out : Sight) (c : Option Contract) → ContractDefined c → AllAllow at (contract_units out c) → ((p : Place) → ClockRight (standing at (contract_sights c out p)) (at (in_observer p))) → ContractRight (standing at out) (contract_with_clocks at c)
   contract_right out None l a s = tt
   contract_right out (Some c) l a s =
-      let sight = sight_of c.body in_guard out in
-      let r = (all_allow at (units c.body in_guard out) (told sight c.assume ++ told sight c.enforce)).0 a in
+      let sight = sight_of c.body in_observer out in
+      let r = (all_allow at (units c.body in_observer out) (told sight c.assume ++ told sight c.enforce)).0 a in
       let q = (all_allow at (told sight c.assume) (told sight c.enforce)).0 r.1 in
-      let path = standing_of_written at c.body in_guard out in (
-        block_right at c.body in_guard out l r.0 s,
+      let path = standing_of_written at c.body in_observer out in (
+        block_right at c.body in_observer out l r.0 s,
         subst (λ z. TellsOnBase z c.assume) path (told_on sight c.assume q.0),
         subst (λ z. TellsOnBase z c.enforce) path (told_on sight c.enforce q.1),
       )
@@ -57,12 +57,12 @@ module _ (at : Assignment) where
       λ x. on_known (declares n.inputs x || (declares n.outputs x || declares (controls_of n.contract) x))
       ∙ ap on_base (ap₂ ◌||◌ (ins x) (ap₂ ◌||◌ (outs x) (sym (controls_kept n.contract x)))) in
       λ z x. f x z in
-      let guard_path : standing at (contract_sight n) ≡ (λ x. on_base (declares (map base_written n.inputs) x || declares (map base_written n.outputs) x)) =
+      let observer_path : standing at (contract_sight n) ≡ (λ x. on_base (declares (map base_written n.inputs) x || declares (map base_written n.outputs) x)) =
       let f : (x : List ℕ) → standing at (contract_sight n) x ≡ on_base (declares (map base_written n.inputs) x || declares (map base_written n.outputs) x) =
       λ x. on_known (declares n.inputs x || declares n.outputs x) ∙ ap on_base (ap₂ ◌||◌ (ins x) (outs x)) in
       λ z x. f x z in
       record {
         outputs = outputs_on_base n.body n.outputs d.2;
         body = subst (λ z. BlockRight z (with_clocks at in_body n.body)) body_path (block_right at n.body in_body (body_sight n) d.0 r.1 (λ p. a.0 (Body ∷ p)));
-        contract = subst (λ z. ContractRight z (contract_with_clocks at n.contract)) guard_path (contract_right (contract_sight n) n.contract d.1 r.0 (λ p. a.0 (Guard ∷ p)));
+        contract = subst (λ z. ContractRight z (contract_with_clocks at n.contract)) observer_path (contract_right (contract_sight n) n.contract d.1 r.0 (λ p. a.0 (Observer ∷ p)));
       }

@@ -10,14 +10,14 @@ use Rattle.hp_tree.specs.declared.block.Trans.{Trans}
 use Rattle.hp_tree.specs.Expressions.{Expr}
 use Rattle.hp_tree.specs.Blocks.{Decl, Block, block, Eqns, no_eqn, more_eqns, Eqn, define, switch, reset, automaton, Arms, no_arm, more_arms, States, no_state, more_states}
 use Rattle.hp_tree.specs.Programs.{Contract, Node}
-use Rattle.hp_tree.specs.Instant.{Place, Body, Guard, Named, Equations, Head, Tail, Right, Arms as ArmsOf, States as StatesOf, Clock}
+use Rattle.hp_tree.specs.Instant.{Place, Body, Observer, Named, Equations, Head, Tail, Right, Arms as ArmsOf, States as StatesOf, Clock}
 use Rattle.hp_tree.specs.Meaning.{declares, some_defines, clock_in, clock_told, or_base, clock_of}
 use Rattle.hp_causal.specs.Sources.{below}
 use Rattle.hp_tree.specs.Meaning.{controls_of}
 use Rattle.hp_causal.specs.Clocked.{base_alone, ClockRight, IsOn}
 use Rattle.hp_clocking.specs.Terms.{value, IsPart, IsShortest}
 use Rattle.hp_causal.specs.Points.{span_of}
-use Rattle.hp_clocking.specs.Clocking.{On, Term, Assignment, Seen, own, from_inside, Sight, seen_on, standing, controls_define, local_at, local_term, term_in, sight_in, sight_of, declared, tested, AllAre, AllAllow, declarations, conditions, units, units_of_all, units_of_one, units_of_arms, units_of_states, known_on_base, contract_sight, body_sight, told, in_guard, in_body, contract_units, node_units, with_clock, with_clocks, all_with_clocks, one_with_clocks, arms_with_clocks, states_with_clocks, contract_with_clocks, node_with_clocks, node_sights, IsAllowed, EachBlock, EachOfAll, EachOfOne, EachOfArms, EachOfStates, EachInContract, AreDefined, AreOnce, NodeNamed, clocks_of, clocks_of_all, clocks_of_one, clocks_of_arms, clocks_of_states, clocks_of_contract, clocks_of_node}
+use Rattle.hp_clocking.specs.Clocking.{On, Term, Assignment, Seen, own, from_inside, Sight, seen_on, standing, controls_define, local_at, local_term, term_in, sight_in, sight_of, declared, tested, AllAre, AllAllow, declarations, conditions, units, units_of_all, units_of_one, units_of_arms, units_of_states, known_on_base, contract_sight, body_sight, told, in_observer, in_body, contract_units, node_units, with_clock, with_clocks, all_with_clocks, one_with_clocks, arms_with_clocks, states_with_clocks, contract_with_clocks, node_with_clocks, node_sights, IsAllowed, EachBlock, EachOfAll, EachOfOne, EachOfArms, EachOfStates, EachInContract, AreDefined, AreOnce, NodeNamed, clocks_of, clocks_of_all, clocks_of_one, clocks_of_arms, clocks_of_states, clocks_of_contract, clocks_of_node}
 use Rattle.hp_clocking.proofs.Unify.{one_part}
 use Rattle.hp_clocking.proofs.Units.{all_allow}
 use Rattle.hp_clocking.proofs.Written.{clock_written, some_kept, declares_kept, standing_written, agreeing, seen_inside, told_there, fits, Fits}
@@ -286,29 +286,29 @@ module _ (at : Assignment) where
   told_same new sight s None h = tt
   told_same new sight s (Some e) h = (subst (λ z. IsOn z e []) (sym (stands_alike at new sight s)) h.0, tt)
 
-  contract_same : (new : Assignment) (out : Sight) (c : Option Contract) → EachInContract Good c → Are at new in_guard (clocks_of_contract (contract_with_clocks at c)) → Alike at new out → AllAllow at (contract_units out c) → AllAllow new (contract_units out c)
+  contract_same : (new : Assignment) (out : Sight) (c : Option Contract) → EachInContract Good c → Are at new in_observer (clocks_of_contract (contract_with_clocks at c)) → Alike at new out → AllAllow at (contract_units out c) → AllAllow new (contract_units out c)
   contract_same new out None g k s a = tt
   contract_same new out (Some c) g k s a =
-      let sight = sight_of c.body in_guard out in
-      let alike = of_alike at new c.body in_guard out g k s in
-      let r = (all_allow at (units c.body in_guard out) (told sight c.assume ++ told sight c.enforce)).0 a in
+      let sight = sight_of c.body in_observer out in
+      let alike = of_alike at new c.body in_observer out g k s in
+      let r = (all_allow at (units c.body in_observer out) (told sight c.assume ++ told sight c.enforce)).0 a in
       let q = (all_allow at (told sight c.assume) (told sight c.enforce)).0 r.1 in
-      (all_allow new (units c.body in_guard out) (told sight c.assume ++ told sight c.enforce)).1 (
-        block_same at new c.body in_guard out g k s r.0,
+      (all_allow new (units c.body in_observer out) (told sight c.assume ++ told sight c.enforce)).1 (
+        block_same at new c.body in_observer out g k s r.0,
         (all_allow new (told sight c.assume) (told sight c.enforce)).1 (told_same new sight alike c.assume q.0, told_same new sight alike c.enforce q.1),
       )
 
-  contract_part : (out : Sight) (c : Option Contract) → EachInContract Good c → AllAllow at (contract_units out c) → (p : Place) → IsPart (clocks_of_contract (contract_with_clocks at c) p) (at (in_guard p))
-  contract_part out None g a p = none_part at (in_guard p)
+  contract_part : (out : Sight) (c : Option Contract) → EachInContract Good c → AllAllow at (contract_units out c) → (p : Place) → IsPart (clocks_of_contract (contract_with_clocks at c) p) (at (in_observer p))
+  contract_part out None g a p = none_part at (in_observer p)
   contract_part out (Some c) g a p =
-      let r = (all_allow at (units c.body in_guard out) (told (sight_of c.body in_guard out) c.assume ++ told (sight_of c.body in_guard out) c.enforce)).0 a in
-      block_part at c.body in_guard out g r.0 p
+      let r = (all_allow at (units c.body in_observer out) (told (sight_of c.body in_observer out) c.assume ++ told (sight_of c.body in_observer out) c.enforce)).0 a in
+      block_part at c.body in_observer out g r.0 p
 
   known_alike : (new : Assignment) (b : Bool) → seen_on new (known_on_base b) ≡ seen_on at (known_on_base b)
   known_alike new b = on_known new b ∙ sym (on_known at b)
 
   node_part : (n : Node) → NodeNamed n → AllAllow at (node_units n) → (p : Place) → IsPart (clocks_of_node (node_with_clocks at n) p) (at p)
-  node_part n g a (Guard ∷ p) =
+  node_part n g a (Observer ∷ p) =
       contract_part (contract_sight n) n.contract g.1 ((all_allow at (contract_units (contract_sight n) n.contract) (units n.body in_body (body_sight n))).0 a).0 p
   node_part n g a (Body ∷ p) =
       block_part at n.body in_body (body_sight n) g.0 ((all_allow at (contract_units (contract_sight n) n.contract) (units n.body in_body (body_sight n))).0 a).1 p

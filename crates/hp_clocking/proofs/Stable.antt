@@ -5,7 +5,7 @@ use Rattle.hp_tree.specs.Blocks.{Decl, Block, block, Eqns, no_eqn, more_eqns, Eq
 use Rattle.hp_tree.specs.Programs.{Contract, Node}
 use Rattle.hp_tree.specs.Instant.{Place, Body, Equations, Head, Tail, Arms as ArmsOf, States as StatesOf}
 use Rattle.hp_causal.specs.Sources.{below}
-use Rattle.hp_clocking.specs.Clocking.{Assignment, in_guard, in_body, with_clock, base_written, with_clocks, all_with_clocks, one_with_clocks, arms_with_clocks, states_with_clocks, contract_with_clocks, node_with_clocks, EachBlock, EachOfAll, EachOfOne, EachOfArms, EachOfStates, EachInContract, AreWritten, AreOnBase, ControlsWritten, NodeWritten}
+use Rattle.hp_clocking.specs.Clocking.{Assignment, in_observer, in_body, with_clock, base_written, with_clocks, all_with_clocks, one_with_clocks, arms_with_clocks, states_with_clocks, contract_with_clocks, node_with_clocks, EachBlock, EachOfAll, EachOfOne, EachOfArms, EachOfStates, EachInContract, AreWritten, AreOnBase, ControlsWritten, NodeWritten}
 
 abbrev Writes : List Decl → Eqns → Type 0
 Writes ds es = AreWritten ds
@@ -47,7 +47,7 @@ module _ (at : Assignment) where
 
   contract_written : (c : Option Contract) → EachInContract Writes (contract_with_clocks at c)
   contract_written None = tt
-  contract_written (Some c) = block_written c.body in_guard
+  contract_written (Some c) = block_written c.body in_observer
 
   pub node_written : (n : Node) → NodeWritten (node_with_clocks at n)
   node_written n =

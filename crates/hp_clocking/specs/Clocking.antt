@@ -10,7 +10,7 @@ use Rattle.hp_tree.specs.declared.block.Trans.{Trans}
 use Rattle.hp_tree.specs.Expressions.{Expr}
 use Rattle.hp_tree.specs.Blocks.{Decl, Block, block, Eqns, no_eqn, more_eqns, Eqn, define, switch, reset, automaton, Arms, no_arm, more_arms, States, no_state, more_states}
 use Rattle.hp_tree.specs.Programs.{Contract, Node}
-use Rattle.hp_tree.specs.Instant.{Place, Body, Guard, Named, Equations, Head, Tail, Right, Arms as ArmsOf, States as StatesOf, Clock}
+use Rattle.hp_tree.specs.Instant.{Place, Body, Observer, Named, Equations, Head, Tail, Right, Arms as ArmsOf, States as StatesOf, Clock}
 use Rattle.hp_tree.specs.Meaning.{declares, defines, some_defines, written, clock_in, clock_of}
 use Rattle.hp_causal.specs.Sources.{below}
 use Rattle.hp_tree.specs.Meaning.{controls_of}
@@ -166,8 +166,8 @@ abbrev pub told : Sight → Option Expr → List ClockUnit
 told sight None = []
 told sight (Some e) = tested (span_of e) sight e ∷ []
 
-abbrev pub in_guard : Place → Place
-in_guard p = Guard ∷ p
+abbrev pub in_observer : Place → Place
+in_observer p = Observer ∷ p
 
 abbrev pub in_body : Place → Place
 in_body p = Body ∷ p
@@ -175,7 +175,7 @@ in_body p = Body ∷ p
 abbrev pub contract_units : Sight → Option Contract → List ClockUnit
 contract_units out None = []
 contract_units out (Some c) =
-    units c.body in_guard out ++ (told (sight_of c.body in_guard out) c.assume ++ told (sight_of c.body in_guard out) c.enforce)
+    units c.body in_observer out ++ (told (sight_of c.body in_observer out) c.assume ++ told (sight_of c.body in_observer out) c.enforce)
 
 abbrev pub node_units : Node → List ClockUnit
 node_units n = contract_units (contract_sight n) n.contract ++ units n.body in_body (body_sight n)
@@ -216,7 +216,7 @@ abbrev mutual
 abbrev pub contract_with_clocks : Assignment → Option Contract → Option Contract
 contract_with_clocks at None = None
 contract_with_clocks at (Some c) =
-    Some (record { body = with_clocks at in_guard c.body; assume = c.assume; enforce = c.enforce; controls = map base_written c.controls; span = c.span })
+    Some (record { body = with_clocks at in_observer c.body; assume = c.assume; enforce = c.enforce; controls = map base_written c.controls; span = c.span })
 
 abbrev pub node_with_clocks : Assignment → Node → Node
 node_with_clocks at n =
@@ -265,10 +265,10 @@ abbrev mutual
 
 abbrev pub contract_sights : Option Contract → Sight → Place → Sight
 contract_sights None out p = no_sight
-contract_sights (Some c) out p = sights c.body in_guard out p
+contract_sights (Some c) out p = sights c.body in_observer out p
 
 abbrev pub node_sights : Node → Place → Sight
-node_sights n (Guard ∷ p) = contract_sights n.contract (contract_sight n) p
+node_sights n (Observer ∷ p) = contract_sights n.contract (contract_sight n) p
 node_sights n (Body ∷ p) = sights n.body in_body (body_sight n) p
 node_sights n p = no_sight
 
@@ -420,6 +420,6 @@ clocks_of_contract None p = []
 clocks_of_contract (Some c) p = clocks_of c.body p
 
 abbrev pub clocks_of_node : Node → Assignment
-clocks_of_node n (Guard ∷ p) = clocks_of_contract n.contract p
+clocks_of_node n (Observer ∷ p) = clocks_of_contract n.contract p
 clocks_of_node n (Body ∷ p) = clocks_of n.body p
 clocks_of_node n p = []

@@ -4,7 +4,7 @@ use Rattle.hp_tree.specs.declared.block.Trans.{Trans}
 use Rattle.hp_tree.specs.Expressions.{Expr}
 use Rattle.hp_tree.specs.Blocks.{Decl, Block, block, Eqns, more_eqns, Eqn, define, switch, reset, automaton, Arms, more_arms, States, more_states}
 use Rattle.hp_tree.specs.Programs.{Contract, Node}
-use Rattle.hp_tree.specs.Instant.{Place, Body, Guard, Assume, Enforce, Named, Equations, Head, Tail, Right, Test, Arms as ArmsOf, States as StatesOf, Until, Unless, Clock}
+use Rattle.hp_tree.specs.Instant.{Place, Body, Observer, Assume, Enforce, Named, Equations, Head, Tail, Right, Test, Arms as ArmsOf, States as StatesOf, Until, Unless, Clock}
 use Rattle.hp_tree.specs.Meaning.{clock_in, clock_of}
 use Rattle.hp_clocking.specs.EachExpression.{passed}
 
@@ -50,7 +50,7 @@ every_told None p = []
 every_told (Some e) p = passed e [] p
 
 abbrev pub every_clock_of_contract : Option Contract → Place → Clock
-every_clock_of_contract (Some c) (Guard ∷ p) = every_clock c.body p
+every_clock_of_contract (Some c) (Observer ∷ p) = every_clock c.body p
 every_clock_of_contract (Some c) (Assume ∷ p) = every_told c.assume p
 every_clock_of_contract (Some c) (Enforce ∷ p) = every_told c.enforce p
 every_clock_of_contract contract p = []

@@ -6,10 +6,10 @@ use Rattle.hp_tree.specs.declared.block.Trans.{Trans}
 use Rattle.hp_tree.specs.Expressions.{Expr}
 use Rattle.hp_tree.specs.Blocks.{Decl, Block, block, Eqns, no_eqn, more_eqns, Eqn, define, switch, reset, automaton, Arms, no_arm, more_arms, States, no_state, more_states}
 use Rattle.hp_tree.specs.Programs.{Contract, Node}
-use Rattle.hp_tree.specs.Instant.{Place, Body, Guard, Equations, Head, Tail, Right, Arms as ArmsOf, States as StatesOf, Clock}
+use Rattle.hp_tree.specs.Instant.{Place, Body, Observer, Equations, Head, Tail, Right, Arms as ArmsOf, States as StatesOf, Clock}
 use Rattle.hp_causal.specs.Sources.{below}
 use Rattle.hp_clocking.specs.Terms.{value}
-use Rattle.hp_clocking.specs.Clocking.{Assignment, local_term, in_guard, in_body}
+use Rattle.hp_clocking.specs.Clocking.{Assignment, local_term, in_observer, in_body}
 use Rattle.hp_clocks.specs.Cells.{Clocks}
 use Rattle.hp_clocks.specs.Listed as place
 use Rattle.hp_clocks.specs.Units.{size, size_of, size_of_contract, cell_of, locals, locals_in_all, locals_in_one, locals_in_arms, locals_in_states, locals_of_contract, locals_of_node, rights, rights_in_all, rights_in_one, rights_in_arms, rights_in_states, rights_told, rights_of_contract, rights_of_node, tests, test_of}
@@ -125,24 +125,24 @@ module _ (at : Assignment) (clocks : Clocks) (base : clocks 0 ≡ []) where
 
 -- ---- nodes
 
-contract_locals : (at : Assignment) (clocks : Clocks) (base : clocks 0 ≡ []) (c : Option Contract) → ((p : Place) (i : ℕ) → number_contract c p ≡ Some i → at (Guard ∷ p) ≡ clocks i) → place.locals_of_contract at c ≡ map clocks (locals_of_contract c)
+contract_locals : (at : Assignment) (clocks : Clocks) (base : clocks 0 ≡ []) (c : Option Contract) → ((p : Place) (i : ℕ) → number_contract c p ≡ Some i → at (Observer ∷ p) ≡ clocks i) → place.locals_of_contract at c ≡ map clocks (locals_of_contract c)
 contract_locals at clocks base None t = refl
-contract_locals at clocks base (Some c) t = locals_same at clocks base c.body in_guard 1 t
+contract_locals at clocks base (Some c) t = locals_same at clocks base c.body in_observer 1 t
 
 pub node_locals : (n : Node) (at : Assignment) (clocks : Clocks) → Tied n at clocks → place.locals_of_node at n ≡ map clocks (locals_of_node n)
 node_locals n at clocks t =
     joined at clocks t.base (place.locals_of_contract at n.contract) (place.locals at in_body n.body) (locals_of_contract n.contract) (locals (1 + size_of_contract n.contract) n.body)
-    (contract_locals at clocks t.base n.contract (λ p i e. t.tied (Guard ∷ p) i e))
+    (contract_locals at clocks t.base n.contract (λ p i e. t.tied (Observer ∷ p) i e))
     (locals_same at clocks t.base n.body in_body (1 + size_of_contract n.contract) (λ p i e. t.tied (Body ∷ p) i e))
 
-contract_rights : (at : Assignment) (clocks : Clocks) (base : clocks 0 ≡ []) (c : Option Contract) → ((p : Place) (i : ℕ) → number_contract c p ≡ Some i → at (Guard ∷ p) ≡ clocks i) → place.rights_of_contract at c ≡ map (read_right at clocks base) (rights_of_contract c)
+contract_rights : (at : Assignment) (clocks : Clocks) (base : clocks 0 ≡ []) (c : Option Contract) → ((p : Place) (i : ℕ) → number_contract c p ≡ Some i → at (Observer ∷ p) ≡ clocks i) → place.rights_of_contract at c ≡ map (read_right at clocks base) (rights_of_contract c)
 contract_rights at clocks base None t = refl
 contract_rights at clocks base (Some c) t =
-    both at clocks base (place.rights at in_guard c.body) (place.rights_told c.assume ++ place.rights_told c.enforce) (rights 1 c.body) (rights_told c.assume ++ rights_told c.enforce) (rights_same at clocks base c.body in_guard 1 t)
+    both at clocks base (place.rights at in_observer c.body) (place.rights_told c.assume ++ place.rights_told c.enforce) (rights 1 c.body) (rights_told c.assume ++ rights_told c.enforce) (rights_same at clocks base c.body in_observer 1 t)
     (both at clocks base (place.rights_told c.assume) (place.rights_told c.enforce) (rights_told c.assume) (rights_told c.enforce) (told_rights at clocks base c.assume) (told_rights at clocks base c.enforce))
 
 pub node_rights : (n : Node) (at : Assignment) (clocks : Clocks) (t : Tied n at clocks) → place.rights_of_node at n ≡ map (read_right at clocks t.base) (rights_of_node n)
 node_rights n at clocks t =
     both at clocks t.base (place.rights_of_contract at n.contract) (place.rights at in_body n.body) (rights_of_contract n.contract) (rights (1 + size_of_contract n.contract) n.body)
-    (contract_rights at clocks t.base n.contract (λ p i e. t.tied (Guard ∷ p) i e))
+    (contract_rights at clocks t.base n.contract (λ p i e. t.tied (Observer ∷ p) i e))
     (rights_same at clocks t.base n.body in_body (1 + size_of_contract n.contract) (λ p i e. t.tied (Body ∷ p) i e))

@@ -9,11 +9,11 @@ use Rattle.hp_tree.specs.declared.block.Trans.{Trans}
 use Rattle.hp_tree.specs.Expressions.{Expr, constant, variable, last_of, one, two, choose, pre, fby, arrow, when_is, merge, call, Exprs, no_expr, more_exprs, Parts, no_part, more_parts}
 use Rattle.hp_tree.specs.Blocks.{Decl, Block, block, Eqns, no_eqn, more_eqns, Eqn, define, switch, reset, automaton, Arms, no_arm, more_arms, States, no_state, more_states}
 use Rattle.hp_tree.specs.Programs.{Contract, Node}
-use Rattle.hp_tree.specs.Instant.{Place, Body, Guard, Assume, Enforce, Named, Equations, Head, Tail, Right as RightSide, Test, Arms as ArmsOf, States as StatesOf, Until, Unless, Clock}
+use Rattle.hp_tree.specs.Instant.{Place, Body, Observer, Assume, Enforce, Named, Equations, Head, Tail, Right as RightSide, Test, Arms as ArmsOf, States as StatesOf, Until, Unless, Clock}
 use Rattle.hp_tree.specs.Meaning.{declares, clock_in, clock_of}
 use Rattle.hp_causal.specs.Sources.{below}
 use Rattle.hp_clocking.specs.Terms.{value}
-use Rattle.hp_clocking.specs.Clocking.{Assignment, local_term, with_clock, with_clocks, all_with_clocks, one_with_clocks, arms_with_clocks, states_with_clocks, in_guard, in_body, contract_with_clocks, node_with_clocks, EachBlock, EachOfAll, EachOfOne, EachOfArms, EachOfStates, EachInContract, AreOnce, NamesRight, NodeNamed, clocks_of, clocks_of_all, clocks_of_one, clocks_of_arms, clocks_of_states, clocks_of_contract, clocks_of_node}
+use Rattle.hp_clocking.specs.Clocking.{Assignment, local_term, with_clock, with_clocks, all_with_clocks, one_with_clocks, arms_with_clocks, states_with_clocks, in_observer, in_body, contract_with_clocks, node_with_clocks, EachBlock, EachOfAll, EachOfOne, EachOfArms, EachOfStates, EachInContract, AreOnce, NamesRight, NodeNamed, clocks_of, clocks_of_all, clocks_of_one, clocks_of_arms, clocks_of_states, clocks_of_contract, clocks_of_node}
 use Rattle.hp_clocking.specs.EachExpression.{passed}
 use Rattle.hp_clocking.specs.EveryClock.{of_conditions, every_clock, every_clock_of_all, every_clock_of_one, every_clock_of_arms, every_clock_of_states, every_told, every_clock_of_contract, every_clock_of_node}
 use Rattle.hp_clocking.proofs.Lengths.{greater, no_longer, reached}
@@ -399,27 +399,27 @@ module _ (at : Assignment) where
         rights_either i (rights at inner b) (conditions until ++ (conditions unless ++ rest)) (Head ∷ Body ∷ h.0, h.1)
         (rights_either i (conditions until) (conditions unless ++ rest) (Head ∷ Until ∷ u.0, u.1) (rights_either i (conditions unless) rest (Head ∷ Unless ∷ v.0, v.1) (Tail ∷ l.0, l.1)))
 
-  contract_low : (c : Option Contract) (m : ℕ) → Are in_guard (clocks_of_contract (contract_with_clocks at c)) → longest_local (locals_of_contract at c) ≤ m → longest_right (rights_of_contract at c) ≤ m → (p : Place) → length (every_clock_of_contract (contract_with_clocks at c) p) ≤ m
-  contract_low (Some c) m k h l (Guard ∷ p) =
-      low_block c.body in_guard m k h (rights_first (rights at in_guard c.body) (rights_told c.assume ++ rights_told c.enforce) m l) p
+  contract_low : (c : Option Contract) (m : ℕ) → Are in_observer (clocks_of_contract (contract_with_clocks at c)) → longest_local (locals_of_contract at c) ≤ m → longest_right (rights_of_contract at c) ≤ m → (p : Place) → length (every_clock_of_contract (contract_with_clocks at c) p) ≤ m
+  contract_low (Some c) m k h l (Observer ∷ p) =
+      low_block c.body in_observer m k h (rights_first (rights at in_observer c.body) (rights_told c.assume ++ rights_told c.enforce) m l) p
   contract_low (Some c) m k h l (Assume ∷ p) =
-      told_low c.assume m (rights_first (rights_told c.assume) (rights_told c.enforce) m (rights_then (rights at in_guard c.body) (rights_told c.assume ++ rights_told c.enforce) m l)) p
+      told_low c.assume m (rights_first (rights_told c.assume) (rights_told c.enforce) m (rights_then (rights at in_observer c.body) (rights_told c.assume ++ rights_told c.enforce) m l)) p
   contract_low (Some c) m k h l (Enforce ∷ p) =
-      told_low c.enforce m (rights_then (rights_told c.assume) (rights_told c.enforce) m (rights_then (rights at in_guard c.body) (rights_told c.assume ++ rights_told c.enforce) m l)) p
+      told_low c.enforce m (rights_then (rights_told c.assume) (rights_told c.enforce) m (rights_then (rights at in_observer c.body) (rights_told c.assume ++ rights_told c.enforce) m l)) p
   contract_low c m k h l p = none_longer m
 
   contract_locals_high : (c : Option Contract) → EachInContract NamesRight c → Reached (longest_local (locals_of_contract at c)) (every_clock_of_contract (contract_with_clocks at c))
   contract_locals_high None g = nothing (every_clock_of_contract None)
-  contract_locals_high (Some c) g = let h = locals_high c.body in_guard g in (Guard ∷ h.0, h.1)
+  contract_locals_high (Some c) g = let h = locals_high c.body in_observer g in (Observer ∷ h.0, h.1)
 
-  contract_rights_high : (c : Option Contract) → Are in_guard (clocks_of_contract (contract_with_clocks at c)) → Reached (longest_right (rights_of_contract at c)) (every_clock_of_contract (contract_with_clocks at c))
+  contract_rights_high : (c : Option Contract) → Are in_observer (clocks_of_contract (contract_with_clocks at c)) → Reached (longest_right (rights_of_contract at c)) (every_clock_of_contract (contract_with_clocks at c))
   contract_rights_high None k = nothing (every_clock_of_contract None)
   contract_rights_high (Some c) k =
       let i = every_clock_of_contract (contract_with_clocks at (Some c)) in
-      let h = rights_high c.body in_guard k in
+      let h = rights_high c.body in_observer k in
       let u = told_high c.assume in
       let v = told_high c.enforce in
-      rights_either i (rights at in_guard c.body) (rights_told c.assume ++ rights_told c.enforce) (Guard ∷ h.0, h.1)
+      rights_either i (rights at in_observer c.body) (rights_told c.assume ++ rights_told c.enforce) (Observer ∷ h.0, h.1)
       (rights_either i (rights_told c.assume) (rights_told c.enforce) (Assume ∷ u.0, u.1) (Enforce ∷ v.0, v.1))
 
   -- No clock of the written node is longer than the longest that is listed, and one is as long.
@@ -428,7 +428,7 @@ module _ (at : Assignment) where
       low_block n.body in_body m (λ q. k (Body ∷ q)) (locals_then (locals_of_contract at n.contract) (locals at in_body n.body) m h)
       (rights_then (rights_of_contract at n.contract) (rights at in_body n.body) m l) p
   node_low n m k h l p =
-      contract_low n.contract m (λ q. k (Guard ∷ q)) (locals_first (locals_of_contract at n.contract) (locals at in_body n.body) m h)
+      contract_low n.contract m (λ q. k (Observer ∷ q)) (locals_first (locals_of_contract at n.contract) (locals at in_body n.body) m h)
       (rights_first (rights_of_contract at n.contract) (rights at in_body n.body) m l) p
 
   none_in_body : (c : Option Contract) (p : Place) → length (every_clock_of_contract (contract_with_clocks at c) (Body ∷ p)) ≡ 0
@@ -450,7 +450,7 @@ module _ (at : Assignment) where
 
   node_rights_high : (n : Node) → ((p : Place) → clocks_of_node (node_with_clocks at n) p ≡ at p) → Reached (longest_right (rights_of_node at n)) (every_clock_of_node (node_with_clocks at n))
   node_rights_high n k =
-      let h = contract_rights_high n.contract (λ q. k (Guard ∷ q)) in
+      let h = contract_rights_high n.contract (λ q. k (Observer ∷ q)) in
       let l = rights_high n.body in_body (λ q. k (Body ∷ q)) in
       rights_either (every_clock_of_node (node_with_clocks at n)) (rights_of_contract at n.contract) (rights at in_body n.body)
       (contract_place n (longest_right (rights_of_contract at n.contract)) h.0 h.1) (Body ∷ l.0, l.1)

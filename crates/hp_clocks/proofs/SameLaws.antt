@@ -9,14 +9,14 @@ use Rattle.hp_tree.specs.declared.block.Trans.{Trans}
 use Rattle.hp_tree.specs.Expressions.{Expr}
 use Rattle.hp_tree.specs.Blocks.{Decl, Block, block, Eqns, no_eqn, more_eqns, Eqn, define, switch, reset, automaton, Arms, no_arm, more_arms, States, no_state, more_states}
 use Rattle.hp_tree.specs.Programs.{Contract, Node}
-use Rattle.hp_tree.specs.Instant.{Place, Body, Guard, Named, Equations, Head, Tail, Right, Arms as ArmsOf, States as StatesOf, Clock}
+use Rattle.hp_tree.specs.Instant.{Place, Body, Observer, Named, Equations, Head, Tail, Right, Arms as ArmsOf, States as StatesOf, Clock}
 use Rattle.hp_tree.specs.Meaning.{declares, defines, some_defines, is_among, controls_of}
 use Rattle.hp_causal.specs.Sources.{below}
 use Rattle.hp_causal.specs.Points.{span_of}
 use Rattle.hp_causal.specs.Clocked.{base_alone, ClockRight, IsOn}
 use Rattle.hp_clocking.specs.Terms.{value}
 use Rattle.hp_clocking.specs.Clocking as place
-use Rattle.hp_clocking.specs.Clocking.{Assignment, Term, ClockUnit, Seen, seen_on, controls_define, local_at, local_term, term_in, in_guard, in_body}
+use Rattle.hp_clocking.specs.Clocking.{Assignment, Term, ClockUnit, Seen, seen_on, controls_define, local_at, local_term, term_in, in_observer, in_body}
 use Rattle.hp_clocking.proofs.Generate.{Iff}
 use Rattle.hp_clocks.specs.declared.layer.Seen.{Seen as SeenByCell}
 use Rattle.hp_clocks.specs.declared.layer.Seen.TheVariants as seen
@@ -281,15 +281,15 @@ module _ (Tie : Assignment → Clocks → Type 0) (base_is : (at : Assignment) (
   told_same out see same None = tt
   told_same out see same (Some e) = (test_same out see same e, tt)
 
-  pub contract_same : (c : Option Contract) (k : ℕ) (out : place.Sight) (see : Sight) → ((d : Contract) → c ≡ Some d → TiedIn in_guard (number_block k d.body)) → SameSight out see → AllSame (place.contract_units out c) (contract_units k see c)
+  pub contract_same : (c : Option Contract) (k : ℕ) (out : place.Sight) (see : Sight) → ((d : Contract) → c ≡ Some d → TiedIn in_observer (number_block k d.body)) → SameSight out see → AllSame (place.contract_units out c) (contract_units k see c)
   contract_same None k out see tied same = tt
   contract_same (Some c) k out see tied same =
       let own = tied c refl in
-      let inner = of_block_same c.body in_guard k out see own same in
-      let outer_sight = place.sight_of c.body in_guard out in
+      let inner = of_block_same c.body in_observer k out see own same in
+      let outer_sight = place.sight_of c.body in_observer out in
       let inner_sight = sight_of k c.body see in
-      same_append (place.units c.body in_guard out) (place.told outer_sight c.assume ++ place.told outer_sight c.enforce) (units k c.body see) (told inner_sight c.assume ++ told inner_sight c.enforce)
-      (block_same c.body in_guard k out see own same)
+      same_append (place.units c.body in_observer out) (place.told outer_sight c.assume ++ place.told outer_sight c.enforce) (units k c.body see) (told inner_sight c.assume ++ told inner_sight c.enforce)
+      (block_same c.body in_observer k out see own same)
       (same_append (place.told outer_sight c.assume) (place.told outer_sight c.enforce) (told inner_sight c.assume) (told inner_sight c.enforce) (told_same outer_sight inner_sight inner c.assume)
       (told_same outer_sight inner_sight inner c.enforce))
 
@@ -303,7 +303,7 @@ node_base n at clocks t = t.base
 pub node_same : (n : Node) → AllSame (Tied n) (node_base n) (place.node_units n) (node_units n)
 node_same n =
     same_append (Tied n) (node_base n) (place.contract_units (place.contract_sight n) n.contract) (place.units n.body in_body (place.body_sight n)) (contract_units 1 (contract_sight n) n.contract) (units (1 + size_of_contract n.contract) n.body (body_sight n))
-    (contract_same (Tied n) (node_base n) n.contract 1 (place.contract_sight n) (contract_sight n) (λ d e at clocks t p i q. t.tied (Guard ∷ p) i (ap (λ z. number_contract z p) e ∙ q))
+    (contract_same (Tied n) (node_base n) n.contract 1 (place.contract_sight n) (contract_sight n) (λ d e at clocks t p i q. t.tied (Observer ∷ p) i (ap (λ z. number_contract z p) e ∙ q))
     (based_same (Tied n) (node_base n) (λ x. declares n.inputs x || declares n.outputs x)))
     (block_same (Tied n) (node_base n) n.body in_body (1 + size_of_contract n.contract) (place.body_sight n) (body_sight n) (λ at clocks t p i q. t.tied (Body ∷ p) i q)
     (based_same (Tied n) (node_base n) (λ x. declares n.inputs x || (declares n.outputs x || declares (controls_of n.contract) x))))

@@ -6,9 +6,9 @@ use Rattle.std.specs.Str.{bytes_eq}
 use Rattle.std.proofs.lemmas.Slice.Eq.{bytes_eq-Decides}
 use Rattle.hp_tree.specs.Blocks.{Decl, Block, block, Eqns, no_eqn, more_eqns, Eqn, define, switch, reset, automaton, Arms, no_arm, more_arms, States, no_state, more_states}
 use Rattle.hp_tree.specs.Programs.{Contract, Node}
-use Rattle.hp_tree.specs.Instant.{Place, Body, Guard, Named, Equations, Head, Tail, Right, Arms as ArmsOf, States as StatesOf, Clock}
+use Rattle.hp_tree.specs.Instant.{Place, Body, Observer, Named, Equations, Head, Tail, Right, Arms as ArmsOf, States as StatesOf, Clock}
 use Rattle.hp_causal.specs.Sources.{below}
-use Rattle.hp_clocking.specs.Clocking.{Assignment, in_guard, in_body}
+use Rattle.hp_clocking.specs.Clocking.{Assignment, in_observer, in_body}
 use Rattle.hp_clocks.specs.Cells.{Clocks}
 use Rattle.hp_clocks.specs.Units.{size, size_of, size_of_all, size_of_arms, size_of_states, size_of_contract, size_of_node, number_in}
 
@@ -50,7 +50,7 @@ number_contract None p = None
 number_contract (Some c) p = number_block 1 c.body p
 
 abbrev pub number_node : Node → Numbering
-number_node n (Guard ∷ p) = number_contract n.contract p
+number_node n (Observer ∷ p) = number_contract n.contract p
 number_node n (Body ∷ p) = number_block (1 + size_of_contract n.contract) n.body p
 number_node n p = None
 
@@ -80,7 +80,7 @@ abbrev mutual
 
 abbrev pub values_of_contract : Assignment → Option Contract → List Clock
 values_of_contract at None = []
-values_of_contract at (Some c) = values at in_guard c.body
+values_of_contract at (Some c) = values at in_observer c.body
 
 abbrev pub values_of_node : Assignment → Node → List Clock
 values_of_node at n = values_of_contract at n.contract ++ values at in_body n.body
@@ -118,7 +118,7 @@ module _ (at : Assignment) where
 
   many_in_contract : (c : Option Contract) → length (values_of_contract at c) ≡ size_of_contract c
   many_in_contract None = refl
-  many_in_contract (Some c) = many c.body in_guard
+  many_in_contract (Some c) = many c.body in_observer
 
 -- ---- clocks of cells that have these values
 
@@ -223,13 +223,13 @@ module _ (at : Assignment) (clocks : Clocks) where
         (second_part clocks (values at (below Body (below Head here)) b) (values_of_states at (below Tail here) ss) k (size b) (many at b (below Body (below Head here))) h) p i q)
     at_states ss here k h p i q = absurd (cc q)
 
-  at_contract : (c : Option Contract) → Listed clocks 1 (values_of_contract at c) → (p : Place) (i : ℕ) → number_contract c p ≡ Some i → IsAt clocks 1 (size_of_contract c) (at (Guard ∷ p)) i
+  at_contract : (c : Option Contract) → Listed clocks 1 (values_of_contract at c) → (p : Place) (i : ℕ) → number_contract c p ≡ Some i → IsAt clocks 1 (size_of_contract c) (at (Observer ∷ p)) i
   at_contract None h p i q = absurd (cc q)
-  at_contract (Some c) h p i q = at_block c.body in_guard 1 h p i q
+  at_contract (Some c) h p i q = at_block c.body in_observer 1 h p i q
 
   pub at_node : (n : Node) → Listed clocks 1 (values_of_node at n) → (p : Place) (i : ℕ) → number_node n p ≡ Some i → IsAt clocks 1 (size_of_node n) (at p) i
-  at_node n h (Guard ∷ p) i q =
-      ahead clocks 1 (size_of_contract n.contract) (size n.body) (at (Guard ∷ p)) i
+  at_node n h (Observer ∷ p) i q =
+      ahead clocks 1 (size_of_contract n.contract) (size n.body) (at (Observer ∷ p)) i
       (at_contract n.contract (first_part clocks (values_of_contract at n.contract) (values at in_body n.body) 1 h) p i q)
   at_node n h (Body ∷ p) i q =
       behind clocks 1 (size_of_contract n.contract) (size n.body) (at (Body ∷ p)) i

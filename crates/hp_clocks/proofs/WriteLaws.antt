@@ -10,7 +10,7 @@ use Rattle.hp_tree.specs.declared.program.Item.TheVariants as item
 use Rattle.hp_tree.specs.Instant.{Place, Body, Equations, Head, Tail, Arms as ArmsOf, States as StatesOf, Clock}
 use Rattle.hp_causal.specs.Sources.{below}
 use Rattle.hp_clocking.specs.Terms.{value}
-use Rattle.hp_clocking.specs.Clocking.{Assignment, local_term, with_clock, with_clocks, all_with_clocks, one_with_clocks, arms_with_clocks, states_with_clocks, in_guard, in_body, base_written, contract_with_clocks, node_with_clocks}
+use Rattle.hp_clocking.specs.Clocking.{Assignment, local_term, with_clock, with_clocks, all_with_clocks, one_with_clocks, arms_with_clocks, states_with_clocks, in_observer, in_body, base_written, contract_with_clocks, node_with_clocks}
 use Rattle.hp_clocks.specs.Listed.{locals, locals_in_all, locals_in_one, locals_in_arms, locals_in_states, locals_of_contract}
 use Rattle.hp_clocks.specs.declared.solve.Solution.{Solution}
 use Rattle.hp_clocks.specs.Solved.{clock_read, IsSolved}
@@ -223,25 +223,25 @@ module _ (at : Assignment) where
   contract_clocked : (c : Option Contract) (more : List Path) → contract_written c (paths (locals_of_contract at c) ++ more) ≡ contract_with_clocks at c
   contract_clocked None more = refl
   contract_clocked (Some c) more =
-      ap (λ z. Some (record { body = z; assume = c.assume; enforce = c.enforce; controls = map base_written c.controls; span = c.span })) (block_clocked c.body in_guard more)
+      ap (λ z. Some (record { body = z; assume = c.assume; enforce = c.enforce; controls = map base_written c.controls; span = c.span })) (block_clocked c.body in_observer more)
 
   contract_rest : (c : Option Contract) (more : List Path) → contract_left c (paths (locals_of_contract at c) ++ more) ≡ more
   contract_rest None more = refl
-  contract_rest (Some c) more = block_rest c.body in_guard more
+  contract_rest (Some c) more = block_rest c.body in_observer more
 
   -- A node is written with the clocks of an assignment, and the paths behind its own are left.
   pub node_clocked : (n : Node) (more : List Path) → node_written n (paths_of_node at n ++ more) ≡ node_with_clocks at n
   node_clocked n more =
-      let guards = locals_of_contract at n.contract in
+      let observers = locals_of_contract at n.contract in
       let inner = locals at in_body n.body in
-      ap (λ z. node_written n z) (both guards inner more)
+      ap (λ z. node_written n z) (both observers inner more)
       ∙ ap₂ (made_of n) (contract_clocked n.contract (paths inner ++ more)) (ap (λ z. block_written n.body z) (contract_rest n.contract (paths inner ++ more)) ∙ block_clocked n.body in_body more)
 
   pub node_rest : (n : Node) (more : List Path) → node_left n (paths_of_node at n ++ more) ≡ more
   node_rest n more =
-      let guards = locals_of_contract at n.contract in
+      let observers = locals_of_contract at n.contract in
       let inner = locals at in_body n.body in
-      ap (λ z. node_left n z) (both guards inner more)
+      ap (λ z. node_left n z) (both observers inner more)
       ∙ ap (λ z. block_left n.body z) (contract_rest n.contract (paths inner ++ more))
       ∙ block_rest n.body in_body more
 

@@ -7,7 +7,7 @@ use Rattle.hp_tree.specs.Programs.{Contract, Node}
 use Rattle.hp_tree.specs.Instant.{Place, Body, Equations, Head, Tail, Right as RightSide, Arms as ArmsOf, States as StatesOf, Clock}
 use Rattle.hp_causal.specs.Sources.{below}
 use Rattle.hp_clocking.specs.Terms.{value}
-use Rattle.hp_clocking.specs.Clocking.{Assignment, local_term, open_at, in_guard, in_body}
+use Rattle.hp_clocking.specs.Clocking.{Assignment, local_term, open_at, in_observer, in_body}
 
 -- ---- the clock of each local, a block's own before those of its inner blocks
 
@@ -35,7 +35,7 @@ abbrev mutual
 
 abbrev pub locals_of_contract : Assignment → Option Contract → List Clock
 locals_of_contract at None = []
-locals_of_contract at (Some c) = locals at in_guard c.body
+locals_of_contract at (Some c) = locals at in_observer c.body
 
 abbrev pub locals_of_node : Assignment → Node → List Clock
 locals_of_node at n = locals_of_contract at n.contract ++ locals at in_body n.body
@@ -80,7 +80,7 @@ rights_told (Some e) = on_base e ∷ []
 
 abbrev pub rights_of_contract : Assignment → Option Contract → List Right
 rights_of_contract at None = []
-rights_of_contract at (Some c) = rights at in_guard c.body ++ (rights_told c.assume ++ rights_told c.enforce)
+rights_of_contract at (Some c) = rights at in_observer c.body ++ (rights_told c.assume ++ rights_told c.enforce)
 
 abbrev pub rights_of_node : Assignment → Node → List Right
 rights_of_node at n = rights_of_contract at n.contract ++ rights at in_body n.body

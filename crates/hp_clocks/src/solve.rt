@@ -590,7 +590,7 @@ fn solve_body<'a>(
 }
 
 #[tactic(auto, using(crate::proofs::SolvingRules::nodes))]
-fn solve_guard<'a>(
+fn solve_observer<'a>(
     alloc: Global,
     solution: &mut Solution<'a>,
     node: &'a Node,
@@ -628,7 +628,7 @@ fn solve_parts<'a>(
     match &node.contract {
         None => solve_body(alloc, solution, node, &[]),
         Some(contract) => {
-            solve_guard(alloc, solution, node, contract)?;
+            solve_observer(alloc, solution, node, contract)?;
             solve_body(alloc, solution, node, &contract.controls)
         }
     }

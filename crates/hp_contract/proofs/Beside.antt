@@ -8,7 +8,7 @@ use Rattle.hp_tree.specs.Expressions.{Expr, constant, variable, last_of, one, tw
 use Rattle.hp_tree.specs.Blocks.{Decl, Block, block, Eqns, no_eqn, more_eqns, Eqn, define, switch, reset, automaton, States, no_state, more_states}
 use Rattle.hp_tree.specs.Programs.{Contract, Node}
 use Rattle.hp_tree.specs.Operators.{is_comparison}
-use Rattle.hp_tree.specs.Instant.{Step, Controls, Body, Guard, Assume, Enforce, Named, Equations, Head, Tail, Right, Test, States as StatesOf, Unless, Active, First, Second, Third, Args, Instance, Place, Clock, without}
+use Rattle.hp_tree.specs.Instant.{Step, Controls, Body, Observer, Assume, Enforce, Named, Equations, Head, Tail, Right, Test, States as StatesOf, Unless, Active, First, Second, Third, Args, Instance, Place, Clock, without}
 use Rattle.hp_tree.specs.Meaning.{declares, some_defines, clock_of, controls_of}
 use Rattle.hp_causal.specs.Sources.{Sources, none, only, both, also, IsBeside, NameSources, PlaceSources, below}
 use Rattle.hp_causal.specs.WhatIsRead.{of_clock, of_expr, of_parts, names_in, names_in_block, control_in, has_equation, output_in, at_expr, at_exprs, at_parts, at_conditions, in_block, in_equations, in_equation, in_each_state, at_told, in_contract}
@@ -190,9 +190,9 @@ output_none n k w x = if_none (declares n.outputs x && has_equation n.body x) (k
 contract_none : (c : Option Contract) (names : NameSources) (k : PlaceSources) → NamesNone names → PlacesNone k → (p : Place) → by_step (free_in_contract c) p ≡ Some base → NoneBeside (in_contract c names k p)
 contract_none None names k h w [] e = not_free e
 contract_none None names k h w (s ∷ p) e = not_free e
-contract_none (Some c) names k h w (Guard ∷ p) e = block_none c.body names (below Guard k) h (λ p. w (Guard ∷ p)) p e
-contract_none (Some c) names k h w (Assume ∷ p) e = told_none c.assume (names_in_block c.body names (below Guard k)) (below Assume k) (own_names_none c.body names (below Guard k) h (λ p. w (Guard ∷ p))) (λ p. w (Assume ∷ p)) p e
-contract_none (Some c) names k h w (Enforce ∷ p) e = told_none c.enforce (names_in_block c.body names (below Guard k)) (below Enforce k) (own_names_none c.body names (below Guard k) h (λ p. w (Guard ∷ p))) (λ p. w (Enforce ∷ p)) p e
+contract_none (Some c) names k h w (Observer ∷ p) e = block_none c.body names (below Observer k) h (λ p. w (Observer ∷ p)) p e
+contract_none (Some c) names k h w (Assume ∷ p) e = told_none c.assume (names_in_block c.body names (below Observer k)) (below Assume k) (own_names_none c.body names (below Observer k) h (λ p. w (Observer ∷ p))) (λ p. w (Assume ∷ p)) p e
+contract_none (Some c) names k h w (Enforce ∷ p) e = told_none c.enforce (names_in_block c.body names (below Observer k)) (below Enforce k) (own_names_none c.body names (below Observer k) h (λ p. w (Observer ∷ p))) (λ p. w (Enforce ∷ p)) p e
 contract_none (Some c) names k h w p e = not_free e
 
 pub node_none : (n : Node) (p : Place) → own_free n p ≡ Some base → NoneBeside (sources n p)

@@ -11,8 +11,8 @@ use Rattle.hp_tree.specs.Expressions.{Expr, constant, variable, last_of, one, tw
 use Rattle.hp_tree.specs.Blocks.{Decl, Block, block, Eqns, no_eqn, more_eqns, Eqn, define, switch, reset, automaton, Arms, no_arm, more_arms, States, no_state, more_states}
 use Rattle.hp_tree.specs.Programs.{TypeDecl, Contract, Node}
 use Rattle.hp_tree.specs.Operators.{Reading, is_cons, is_true, if_of, constant_of}
-use Rattle.hp_tree.specs.Instant.{Step, Controls, Body, Guard, Assume, Enforce, in_guard, in_node, Named, Fresh, Equations, Head, Tail, Right, Test, Arms as ArmsOf, States as StatesOf, Until, Unless, First, Second, Third, Args, Instance, Place, Instant, Past, Given, at, part, parts, top, since, own, newest, at_first, nothing, with_one, with_two, with_three, in_row, with_row, with_instance, of_two, in_block, in_right, with_arms, with_body, in_state, with_words, Clock, holds, without}
-use Rattle.hp_tree.specs.Meaning.{Names, Nodes, declares, input_of, controls_of, given_to, guard, node, defines, some_defines, inside, within, lasts, clock_of, names_of, Jump, state_word, selected, first_true, from_state, only_output, expr, exprs, merged, conditions, strong, read_in, last_in, weak_in, weak, from_arm, right, gives, defined, scope, equations, equation, arm, states}
+use Rattle.hp_tree.specs.Instant.{Step, Controls, Body, Observer, Assume, Enforce, in_observer, in_node, Named, Fresh, Equations, Head, Tail, Right, Test, Arms as ArmsOf, States as StatesOf, Until, Unless, First, Second, Third, Args, Instance, Place, Instant, Past, Given, at, part, parts, top, since, own, newest, at_first, nothing, with_one, with_two, with_three, in_row, with_row, with_instance, of_two, in_block, in_right, with_arms, with_body, in_state, with_words, Clock, holds, without}
+use Rattle.hp_tree.specs.Meaning.{Names, Nodes, declares, input_of, controls_of, given_to, observer, node, defines, some_defines, inside, within, lasts, clock_of, names_of, Jump, state_word, selected, first_true, from_state, only_output, expr, exprs, merged, conditions, strong, read_in, last_in, weak_in, weak, from_arm, right, gives, defined, scope, equations, equation, arm, states}
 use Rattle.hp_causal.specs.Sources.{below}
 use Rattle.hp_causal.specs.declared.point.PointKind.TheVariants as kind
 use Rattle.hp_causal.specs.Points.{Placed, Whereabouts, calls, calls_in_all, calls_in_parts, conditions as calls_in_conditions, lefts, defined_by, points_of, points_of_all, points_of_one, points_of_arms, points_of_states, point_at, calls_told, points_of_contract, controls, points}
@@ -278,16 +278,16 @@ module _ (types : List TypeDecl) (R : Reading) (outputs : List ℕ → List (Lis
     told_fresh None names last g now = refl
     told_fresh (Some e) names last g now = expr_fresh e [] names last g now
 
-    guard_known : (c : Option Contract) (names last : Names) (past : Past) (free now : Instant) (w : Whereabouts) → Read w past now → EachCall P (points_of_contract c w) → ((p : Place) → now (Guard ∷ p) ≡ guard types R N c names last (given past free) now (Guard ∷ p)) → ((p : Place) → now (Assume ∷ p) ≡ guard types R N c names last (given past free) now (Assume ∷ p)) → ((p : Place) → now (Enforce ∷ p) ≡ guard types R N c names last (given past free) now (Enforce ∷ p)) → guard types R N c names last (given past free) now ≡ guard types R M c names last (given past free) now
-    guard_known None names last past free now w r k hg ha he = refl
-    guard_known (Some c) names last past free now w r k hg ha he =
-        let own_names = read_in types R N c.body names (part Guard now) in
-        let own_last = last_in types R N c.body (own (parts Guard past)) last in
-        let k' = rest_each P (points_of [] c.body (below Guard w)) (calls_told c.assume (below Assume w) ++ calls_told c.enforce (below Enforce w)) k in
-        let t = block_known [] c.body false names last (own (parts Guard past)) (part Guard free) (part Guard now) (below Guard w) (anew Guard false w past now r (hg (Fresh ∷ []) ∙ block_fresh c.body false names last (since false (at Guard (given past free))) (part Guard now))) (first_each P (points_of [] c.body (below Guard w)) (calls_told c.assume (below Assume w) ++ calls_told c.enforce (below Enforce w)) k) hg in
+    observer_known : (c : Option Contract) (names last : Names) (past : Past) (free now : Instant) (w : Whereabouts) → Read w past now → EachCall P (points_of_contract c w) → ((p : Place) → now (Observer ∷ p) ≡ observer types R N c names last (given past free) now (Observer ∷ p)) → ((p : Place) → now (Assume ∷ p) ≡ observer types R N c names last (given past free) now (Assume ∷ p)) → ((p : Place) → now (Enforce ∷ p) ≡ observer types R N c names last (given past free) now (Enforce ∷ p)) → observer types R N c names last (given past free) now ≡ observer types R M c names last (given past free) now
+    observer_known None names last past free now w r k hg ha he = refl
+    observer_known (Some c) names last past free now w r k hg ha he =
+        let own_names = read_in types R N c.body names (part Observer now) in
+        let own_last = last_in types R N c.body (own (parts Observer past)) last in
+        let k' = rest_each P (points_of [] c.body (below Observer w)) (calls_told c.assume (below Assume w) ++ calls_told c.enforce (below Enforce w)) k in
+        let t = block_known [] c.body false names last (own (parts Observer past)) (part Observer free) (part Observer now) (below Observer w) (anew Observer false w past now r (hg (Fresh ∷ []) ∙ block_fresh c.body false names last (since false (at Observer (given past free))) (part Observer now))) (first_each P (points_of [] c.body (below Observer w)) (calls_told c.assume (below Assume w) ++ calls_told c.enforce (below Enforce w)) k) hg in
         let u = told_known c.assume own_names own_last (parts Assume past) (part Assume free) (part Assume now) (below Assume w) (plain Assume w past now r (ha (Fresh ∷ []) ∙ told_fresh c.assume own_names own_last (at Assume (given past free)) (part Assume now))) (first_each P (calls_told c.assume (below Assume w)) (calls_told c.enforce (below Enforce w)) k') ha in
         let x = told_known c.enforce own_names own_last (parts Enforce past) (part Enforce free) (part Enforce now) (below Enforce w) (plain Enforce w past now r (he (Fresh ∷ []) ∙ told_fresh c.enforce own_names own_last (at Enforce (given past free)) (part Enforce now))) (rest_each P (calls_told c.assume (below Assume w)) (calls_told c.enforce (below Enforce w)) k') he in
-        λ d. in_guard (t d) (u d) (x d)
+        λ d. in_observer (t d) (u d) (x d)
 
     pub node_known : (q : Node) (inputs : List Value) (past : Past) (free now : Instant) → Read (λ p. p) past now → EachCall P (points q) → Fixed (node types R N q inputs (given past free)) now → (p : Place) → node types R N q inputs (given past free) now p ≡ node types R M q inputs (given past free) now p
     node_known q inputs past free now r k h p =
@@ -301,5 +301,5 @@ module _ (types : List TypeDecl) (R : Reading) (outputs : List ℕ → List (Lis
         (block_known (names_of q.outputs) q.body false (input_of cs values outer) last (own (parts Body past)) (part Body free) (part Body now) (below Body here)
         (anew Body false here past now r (h (Body ∷ Fresh ∷ []) ∙ block_fresh q.body false (input_of cs values outer) last (since false (at Body (given past free))) (part Body now)))
         (rest_each P (points_of_contract q.contract here) (points_of (names_of q.outputs) q.body (below Body here)) k') (λ p. h (Body ∷ p)))
-        (guard_known q.contract (λ x. if declares q.outputs x then now (Named x ∷ []) else outer x) last past free now here r
-        (first_each P (points_of_contract q.contract here) (points_of (names_of q.outputs) q.body (below Body here)) k') (λ p. h (Guard ∷ p)) (λ p. h (Assume ∷ p)) (λ p. h (Enforce ∷ p)))
+        (observer_known q.contract (λ x. if declares q.outputs x then now (Named x ∷ []) else outer x) last past free now here r
+        (first_each P (points_of_contract q.contract here) (points_of (names_of q.outputs) q.body (below Body here)) k') (λ p. h (Observer ∷ p)) (λ p. h (Assume ∷ p)) (λ p. h (Enforce ∷ p)))

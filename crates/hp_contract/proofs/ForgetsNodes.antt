@@ -10,15 +10,15 @@ use Rattle.hp_tree.specs.declared.program.Item.TheVariants.{TypeItem, NodeItem}
 use Rattle.hp_tree.specs.Blocks.{Decl}
 use Rattle.hp_tree.specs.Programs.{TypeDecl, Contract, Node}
 use Rattle.hp_tree.specs.Operators.{real, abstraction, constant_of, marked}
-use Rattle.hp_tree.specs.Instant.{Place, Controls, Body, Guard, Assume, Enforce, Named, Head, Tail, Instant, Past, part, parts, own, nothing, alone, in_row, in_guard, in_node}
-use Rattle.hp_tree.specs.Meaning.{Names, Nodes, declares, lasts, input_of, names_of, types_of, read_in, last_in, scope, guard, controls_of, given_to, node, nodes, no_nodes, meaning}
+use Rattle.hp_tree.specs.Instant.{Place, Controls, Body, Observer, Assume, Enforce, Named, Head, Tail, Instant, Past, part, parts, own, nothing, alone, in_row, in_observer, in_node}
+use Rattle.hp_tree.specs.Meaning.{Names, Nodes, declares, lasts, input_of, names_of, types_of, read_in, last_in, scope, observer, controls_of, given_to, node, nodes, no_nodes, meaning}
 use Rattle.hp_causal.specs.Points.{points_of, points_of_contract, calls_told}
 use Rattle.hp_causal.specs.Sources.{below}
 use Rattle.hp_causal.specs.Abstract.{given_outputs, contract_alone, callees, abstract_among, abstract_meaning}
 use Rattle.hp_causal.proofs.Unique.{onto}
 use Rattle.hp_contract.specs.Forgetting.{erased, erase, WellValued, ContractsCallNothing, ErasedLaw}
 use Rattle.hp_contract.proofs.Marks.{marks, if_marked, marked_twice, input_marks}
-use Rattle.hp_contract.proofs.Shapes.{shown, nothing_erased, nothing_shown, guard_erased, node_erased, callee_shown, guard_below, below_erased, own_erased, previous_shown, previous_erased}
+use Rattle.hp_contract.proofs.Shapes.{shown, nothing_erased, nothing_shown, observer_erased, node_erased, callee_shown, observer_below, below_erased, own_erased, previous_shown, previous_erased}
 use Rattle.hp_contract.proofs.Forgets.{given, Like, like_below, May, may_first, may_second, Met, values_below, own_down, lasts_marks, Erases, block_forgets, told_forgets, read_in_marks, last_in_marks, told_really, told_abstractly}
 
 -- ---- contracts
@@ -28,44 +28,44 @@ module _ (types : List TypeDecl) (N N' : Nodes) (may_call : Bool) (same_outputs 
   abbrev pieces : Option Contract → Names → Names → Past → Instant → Instant → Instant
   pieces None names last past' free' now = nothing
   pieces (Some c) names last past' free' now =
-      let own_names = read_in types abstraction N' c.body names (erased (part Guard now)) in
-      let own_last = last_in types abstraction N' c.body (own (parts Guard past')) last in
-      in_guard
-      (scope types abstraction N' c.body false names last (given (own (parts Guard past')) (part Guard free')) (erased (part Guard now)))
+      let own_names = read_in types abstraction N' c.body names (erased (part Observer now)) in
+      let own_last = last_in types abstraction N' c.body (own (parts Observer past')) last in
+      in_observer
+      (scope types abstraction N' c.body false names last (given (own (parts Observer past')) (part Observer free')) (erased (part Observer now)))
       (told_abstractly types N N' may_call same_outputs erases c.assume own_names own_last (given (parts Assume past') (part Assume free')) (erased (part Assume now)))
       (told_abstractly types N N' may_call same_outputs erases c.enforce own_names own_last (given (parts Enforce past') (part Enforce free')) (erased (part Enforce now)))
 
-  pieces_erased : (k : Option Contract) (names last : Names) (past' : Past) (free' now : Instant) → guard types abstraction N' k names last (given past' free') (erased now) ≡ pieces k names last past' free' now
+  pieces_erased : (k : Option Contract) (names last : Names) (past' : Past) (free' now : Instant) → observer types abstraction N' k names last (given past' free') (erased now) ≡ pieces k names last past' free' now
   pieces_erased None names last past' free' now = refl
   pieces_erased (Some c) names last past' free' now = refl
 
-  pieces_shown : (k : Option Contract) (names last : Names) (past' : Past) (free' now : Instant) → guard types abstraction N' k names last (given past' free') (shown now) ≡ pieces k names last past' free' now
+  pieces_shown : (k : Option Contract) (names last : Names) (past' : Past) (free' now : Instant) → observer types abstraction N' k names last (given past' free') (shown now) ≡ pieces k names last past' free' now
   pieces_shown None names last past' free' now = refl
   pieces_shown (Some c) names last past' free' now = refl
 
-  guard_forgets : (k : Option Contract) → May may_call (points_of_contract k (λ p. p)) → (names last : Names) (past past' : Past) → parts Guard past' ≡ erase (parts Guard past) → parts Assume past' ≡ erase (parts Assume past) → parts Enforce past' ≡ erase (parts Enforce past) → (free free' now : Instant) → WellValued now → Like free' now → Met (part Guard now) (part Guard (guard types real N k names last (given past free) now)) → Met (part Assume now) (part Assume (guard types real N k names last (given past free) now)) → Met (part Enforce now) (part Enforce (guard types real N k names last (given past free) now)) → pieces k (marks names) (marks last) past' free' now ≡ erased (guard types real N k names last (given past free) now)
-  guard_forgets None may names last past past' eg ea ee free free' now ok like mg ma me = nothing_erased
-  guard_forgets (Some c) may names last past past' eg ea ee free free' now ok like mg ma me =
-      let of_body = points_of [] c.body (below Guard (λ p. p)) in
+  observer_forgets : (k : Option Contract) → May may_call (points_of_contract k (λ p. p)) → (names last : Names) (past past' : Past) → parts Observer past' ≡ erase (parts Observer past) → parts Assume past' ≡ erase (parts Assume past) → parts Enforce past' ≡ erase (parts Enforce past) → (free free' now : Instant) → WellValued now → Like free' now → Met (part Observer now) (part Observer (observer types real N k names last (given past free) now)) → Met (part Assume now) (part Assume (observer types real N k names last (given past free) now)) → Met (part Enforce now) (part Enforce (observer types real N k names last (given past free) now)) → pieces k (marks names) (marks last) past' free' now ≡ erased (observer types real N k names last (given past free) now)
+  observer_forgets None may names last past past' eg ea ee free free' now ok like mg ma me = nothing_erased
+  observer_forgets (Some c) may names last past past' eg ea ee free free' now ok like mg ma me =
+      let of_body = points_of [] c.body (below Observer (λ p. p)) in
       let of_assume = calls_told c.assume (below Assume (λ p. p)) in
       let of_enforce = calls_told c.enforce (below Enforce (λ p. p)) in
       let may' = may_second may_call of_body (of_assume ++ of_enforce) may in
-      let q = own (parts Guard past) in
-      let e = ap own eg ∙ own_erased (parts Guard past) in
-      let own_names = read_in types real N c.body names (part Guard now) in
+      let q = own (parts Observer past) in
+      let e = ap own eg ∙ own_erased (parts Observer past) in
+      let own_names = read_in types real N c.body names (part Observer now) in
       let own_last = last_in types real N c.body q last in
-      let ns = read_in_marks types N N' may_call same_outputs erases c.body names (part Guard now) in
-      let ls = last_in_marks types N N' may_call same_outputs erases c.body q (own (parts Guard past')) last e in
-      let i = scope types real N c.body false names last (given q (part Guard free)) (part Guard now) in
+      let ns = read_in_marks types N N' may_call same_outputs erases c.body names (part Observer now) in
+      let ls = last_in_marks types N N' may_call same_outputs erases c.body q (own (parts Observer past')) last e in
+      let i = scope types real N c.body false names last (given q (part Observer free)) (part Observer now) in
       let j = told_really types N N' may_call same_outputs erases c.assume own_names own_last (given (parts Assume past) (part Assume free)) (part Assume now) in
       let k = told_really types N N' may_call same_outputs erases c.enforce own_names own_last (given (parts Enforce past) (part Enforce free)) (part Enforce now) in
-      let t = block_forgets types N N' may_call same_outputs erases c.body [] (below Guard (λ p. p)) (may_first may_call of_body (of_assume ++ of_enforce) may) false names last q (own (parts Guard past')) e (part Guard free) (part Guard free') (part Guard now) (values_below Guard now ok) (like_below Guard free' now like) mg in
+      let t = block_forgets types N N' may_call same_outputs erases c.body [] (below Observer (λ p. p)) (may_first may_call of_body (of_assume ++ of_enforce) may) false names last q (own (parts Observer past')) e (part Observer free) (part Observer free') (part Observer now) (values_below Observer now ok) (like_below Observer free' now like) mg in
       let u = ap₂ (λ n l. told_abstractly types N N' may_call same_outputs erases c.assume n l (given (parts Assume past') (part Assume free')) (erased (part Assume now))) ns ls
       ∙ told_forgets types N N' may_call same_outputs erases c.assume (below Assume (λ p. p)) (may_first may_call of_assume of_enforce may') own_names own_last (parts Assume past) (parts Assume past') ea (part Assume free) (part Assume free') (part Assume now) (values_below Assume now ok) (like_below Assume free' now like) ma in
       let v = ap₂ (λ n l. told_abstractly types N N' may_call same_outputs erases c.enforce n l (given (parts Enforce past') (part Enforce free')) (erased (part Enforce now))) ns ls
       ∙ told_forgets types N N' may_call same_outputs erases c.enforce (below Enforce (λ p. p)) (may_second may_call of_assume of_enforce may') own_names own_last (parts Enforce past) (parts Enforce past') ee (part Enforce free) (part Enforce free') (part Enforce now) (values_below Enforce now ok) (like_below Enforce free' now like) me in
-      let together : in_guard (t 0) (u 0) (v 0) ≡ in_guard (t 1) (u 1) (v 1) = λ z. in_guard (t z) (u z) (v z) in
-      together ∙ guard_erased i j k
+      let together : in_observer (t 0) (u 0) (v 0) ≡ in_observer (t 1) (u 1) (v 1) = λ z. in_observer (t z) (u z) (v z) in
+      together ∙ observer_erased i j k
 
 -- ---- nodes
 
@@ -117,8 +117,8 @@ module _ (types : List TypeDecl) (N : Nodes) (n : Node) (vs : List Value) (past 
   abbrev body_now : Instant
   body_now = scope types real N n.body false (input_of (controls_of n.contract) control_values outer) last_now (given (own (parts Body past)) (part Body free)) (part Body now)
 
-  abbrev guard_now : Instant
-  guard_now = guard types real N n.contract seen last_now (given past free) now
+  abbrev observer_now : Instant
+  observer_now = observer types real N n.contract seen last_now (given past free) now
 
   -- a node itself, where its callees are abstract
   module _ (N' : Nodes) (same_outputs : (f : List ℕ) → N'.outputs f ≡ N.outputs f) (erases : Erases N N') where
@@ -133,11 +133,11 @@ module _ (types : List TypeDecl) (N : Nodes) (n : Node) (vs : List Value) (past 
         let s : (λ x. if declares n.outputs x then marked (now (Named x ∷ [])) else input_of n.inputs (map marked vs) (marks absent) x) ≡ marks seen = ap (λ (out : Names). λ (x : List ℕ). if declares n.outputs x then marked (now (Named x ∷ [])) else out x) u ∙ fun_ext (λ x. if_marked (declares n.outputs x) (now (Named x ∷ [])) (outer x)) in
         let i = ap₂ (λ names last. scope types abstraction N' n.body false names last (given (own (parts Body (erase past))) (part Body free')) (erased (part Body now))) b l
         ∙ block_forgets types N N' true (λ t. same_outputs) (λ t. erases) n.body (names_of n.outputs) (λ p. Body ∷ p) tt false (input_of cs control_values outer) last_now (own (parts Body past)) (own (parts Body (erase past))) (own_down Body (λ i. refl) past (erase past) refl) (part Body free) (part Body free') (part Body now) (values_below Body now ok) (like_below Body free' now like) (λ p. met (Body ∷ p)) in
-        let g = ap₂ (λ names last. guard types abstraction N' n.contract names last (given (erase past) free') (erased now)) s l
+        let g = ap₂ (λ names last. observer types abstraction N' n.contract names last (given (erase past) free') (erased now)) s l
         ∙ pieces_erased types N N' true (λ t. same_outputs) (λ t. erases) n.contract (marks seen) (marks last_now) (erase past) free' now
-        ∙ guard_forgets types N N' true (λ t. same_outputs) (λ t. erases) n.contract tt seen last_now past (erase past) (below_erased Guard (λ i. refl) past) (below_erased Assume (λ i. refl) past) (below_erased Enforce (λ i. refl) past) free free' now ok like (λ p. met (Guard ∷ p)) (λ p. met (Assume ∷ p)) (λ p. met (Enforce ∷ p)) in
+        ∙ observer_forgets types N N' true (λ t. same_outputs) (λ t. erases) n.contract tt seen last_now past (erase past) (below_erased Observer (λ i. refl) past) (below_erased Assume (λ i. refl) past) (below_erased Enforce (λ i. refl) past) free free' now ok like (λ p. met (Observer ∷ p)) (λ p. met (Assume ∷ p)) (λ p. met (Enforce ∷ p)) in
         let together : in_node (o 0) (map marked vs) (c 0) (i 0) (g 0) ≡ in_node (o 1) (map marked vs) (c 1) (i 1) (g 1) = λ z. in_node (o z) (map marked vs) (c z) (i z) (g z) in
-        together ∙ node_erased outputs_now vs control_values body_now guard_now
+        together ∙ node_erased outputs_now vs control_values body_now observer_now
 
   -- a callee, whose contract calls nothing
   callee_forgets : (points_none : May false (points_of_contract n.contract (λ p. p))) → contract_alone types n (map marked vs) (given (map shown past) free') (shown now) ≡ shown (node types real N n vs (given past free) now)
@@ -146,10 +146,10 @@ module _ (types : List TypeDecl) (N : Nodes) (n : Node) (vs : List Value) (past 
       let l : lasts (λ c. marked (constant_of types c)) n.outputs (map shown past) (marks absent) ≡ marks last_now = lasts_marks types n.outputs past (map shown past) absent (previous_shown past) in
       let u : input_of n.inputs (map marked vs) (marks absent) ≡ marks outer = input_marks n.inputs vs absent in
       let s : given_outputs n.outputs free' (input_of n.inputs (map marked vs) absent) ≡ marks seen = fun_ext (λ x. outputs_given n.outputs free' (input_of n.inputs (map marked vs) absent) x ∙ ap₂ (λ v (out : Names). if declares n.outputs x then v else out x) (like.alike (Named x ∷ [])) u ∙ if_marked (declares n.outputs x) (now (Named x ∷ [])) (outer x)) in
-      let g = ap₂ (λ names last. guard types abstraction no_nodes n.contract names last (given (map shown past) free') (shown now)) s l
+      let g = ap₂ (λ names last. observer types abstraction no_nodes n.contract names last (given (map shown past) free') (shown now)) s l
       ∙ pieces_shown types N no_nodes false (λ t. absurd (false_is_not t)) (λ t. absurd (false_is_not t)) n.contract (marks seen) (marks last_now) (map shown past) free' now
-      ∙ guard_forgets types N no_nodes false (λ t. absurd (false_is_not t)) (λ t. absurd (false_is_not t)) n.contract points_none seen last_now past (map shown past) (guard_below Guard (λ i. refl) past) (guard_below Assume (λ i. refl) past) (guard_below Enforce (λ i. refl) past) free free' now ok like (λ p. met (Guard ∷ p)) (λ p. met (Assume ∷ p)) (λ p. met (Enforce ∷ p)) in
-      ap₂ (λ os i. in_node os (map marked vs) [] nothing i) o g ∙ callee_shown outputs_now vs control_values body_now guard_now
+      ∙ observer_forgets types N no_nodes false (λ t. absurd (false_is_not t)) (λ t. absurd (false_is_not t)) n.contract points_none seen last_now past (map shown past) (observer_below Observer (λ i. refl) past) (observer_below Assume (λ i. refl) past) (observer_below Enforce (λ i. refl) past) free free' now ok like (λ p. met (Observer ∷ p)) (λ p. met (Assume ∷ p)) (λ p. met (Enforce ∷ p)) in
+      ap₂ (λ os i. in_node os (map marked vs) [] nothing i) o g ∙ callee_shown outputs_now vs control_values body_now observer_now
 
 -- ---- programs
 

@@ -12,7 +12,7 @@ use Rattle.hp_tree.specs.Expressions.{Expr, constant, variable, last_of, one, tw
 use Rattle.hp_tree.specs.Blocks.{Decl, Block, block, Eqns, no_eqn, more_eqns, Eqn, define, switch, reset, automaton, Arms, no_arm, more_arms, States, no_state, more_states}
 use Rattle.hp_tree.specs.Programs.{TypeDecl}
 use Rattle.hp_tree.specs.Operators.{real, is_cons, is_true, constant_of, is_there}
-use Rattle.hp_tree.specs.Instant.{Step, Body, Guard, Named, Fresh, Equations, Head, Tail, Right, Test, Arms as ArmsOf, States as StatesOf, Until, Unless, First, Second, Third, Args, Instance, Place, Instant, Past, Given, part, parts, top, own, nothing, in_row, Clock, holds, without}
+use Rattle.hp_tree.specs.Instant.{Step, Body, Observer, Named, Fresh, Equations, Head, Tail, Right, Test, Arms as ArmsOf, States as StatesOf, Until, Unless, First, Second, Third, Args, Instance, Place, Instant, Past, Given, part, parts, top, own, nothing, in_row, Clock, holds, without}
 use Rattle.hp_tree.specs.Meaning.{Names, Nodes, defines, inside, within, lasts, clock_of, names_of, Jump, selected, expr, exprs, merged, conditions, strong, read_in, last_in, weak_in, scope, equations, equation, arm, states}
 use Rattle.hp_causal.specs.Sources.{below}
 use Rattle.hp_causal.specs.declared.point.PointKind.TheVariants as kind
@@ -68,7 +68,7 @@ cut_by_fresh false past = refl
 -- a step into a block or an instance; a row of arms is passed first, which is known by a flag
 abbrev pub is_block : Bool → Step → Bool
 is_block in_arms Body = true
-is_block in_arms Guard = true
+is_block in_arms Observer = true
 is_block in_arms Instance = true
 is_block in_arms Head = in_arms
 is_block in_arms s = false

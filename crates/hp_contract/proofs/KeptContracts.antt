@@ -15,7 +15,7 @@ use Rattle.hp_tree.specs.Blocks.{Decl}
 use Rattle.hp_tree.specs.Programs.{TypeDecl, Contract, Node}
 use Rattle.hp_tree.specs.Operators.{real, abstraction, constant_of, marked, is_there}
 use Rattle.hp_tree.specs.Instant.{Inputs, Controls, Body, Named, Assume, Enforce, Fresh, Head, Tail, Instance, Place, Instant, Past, Given, part, parts, own, nothing, alone, in_row, in_node}
-use Rattle.hp_tree.specs.Meaning.{Names, Nodes, declares, lasts, types_of, input_of, scope, guard, given_to, controls_of, node, nodes, node_among}
+use Rattle.hp_tree.specs.Meaning.{Names, Nodes, declares, lasts, types_of, input_of, scope, observer, given_to, controls_of, node, nodes, node_among}
 use Rattle.hp_tree.specs.Reaction.{Reaction, row_of, controls_at}
 use Rattle.hp_causal.specs.Points.{Placed, points_of_contract}
 use Rattle.hp_causal.specs.Abstract.{abstract_among, callees}
@@ -74,11 +74,11 @@ inputs_alike (d ∷ ds) (v ∷ vs) [] h x = no_others (bytes_eq d.name x) v (h (
     no_others false v e f = f
 inputs_alike (d ∷ ds) (v ∷ vs) (w ∷ ws) h x = ap₂ (λ a b. if bytes_eq d.name x then a else b) (h (Head ∷ [])) (inputs_alike ds vs ws (λ p. h (Tail ∷ p)) x)
 
-in_inputs : (outputs : Names) (vs ws controls : List Value) (body guard : Instant) → ((p : Place) → in_row (map alone vs) p ≡ in_row (map alone ws) p) → (p : Place) → in_node outputs vs controls body guard p ≡ in_node outputs ws controls body guard p
-in_inputs outputs vs ws controls body guard h (Inputs ∷ p) = h p
-in_inputs outputs vs ws controls body guard h (Named x ∷ []) = refl
-in_inputs outputs vs ws controls body guard h (Fresh ∷ []) = refl
-in_inputs outputs vs ws controls body guard h p = refl
+in_inputs : (outputs : Names) (vs ws controls : List Value) (body observer : Instant) → ((p : Place) → in_row (map alone vs) p ≡ in_row (map alone ws) p) → (p : Place) → in_node outputs vs controls body observer p ≡ in_node outputs ws controls body observer p
+in_inputs outputs vs ws controls body observer h (Inputs ∷ p) = h p
+in_inputs outputs vs ws controls body observer h (Named x ∷ []) = refl
+in_inputs outputs vs ws controls body observer h (Fresh ∷ []) = refl
+in_inputs outputs vs ws controls body observer h p = refl
 
 node_alike : (types : List TypeDecl) (N : Nodes) (n : Node) (g : Given) (now : Instant) (vs ws : List Value) → ((p : Place) → in_row (map alone vs) p ≡ in_row (map alone ws) p) → (p : Place) → node types real N n vs g now p ≡ node types real N n ws g now p
 node_alike types N n g now vs ws h p =
@@ -87,10 +87,10 @@ node_alike types N n g now vs ws h p =
     let last = lasts (constant_of types) n.outputs g.past (λ x. Absent) in
     let outputs : Names = λ x. if declares n.outputs x then now (Body ∷ Named x ∷ []) else Absent in
     let body = λ (outer : Names). scope types real N n.body false (input_of cs controls outer) last (given (own (parts Body g.past)) (part Body g.free)) (part Body now) in
-    let guarded = λ (outer : Names). guard types real N n.contract (λ x. if declares n.outputs x then now (Named x ∷ []) else outer x) last g now in
+    let observed = λ (outer : Names). observer types real N n.contract (λ x. if declares n.outputs x then now (Named x ∷ []) else outer x) last g now in
     let outer : input_of n.inputs vs (λ x. Absent) ≡ input_of n.inputs ws (λ x. Absent) = fun_ext (inputs_alike n.inputs vs ws h) in
-    ap (λ outer. in_node outputs vs controls (body outer) (guarded outer) p) outer
-    ∙ in_inputs outputs vs ws controls (body (input_of n.inputs ws (λ x. Absent))) (guarded (input_of n.inputs ws (λ x. Absent))) h p
+    ap (λ outer. in_node outputs vs controls (body outer) (observed outer) p) outer
+    ∙ in_inputs outputs vs ws controls (body (input_of n.inputs ws (λ x. Absent))) (observed (input_of n.inputs ws (λ x. Absent))) h p
 
 -- ---- Booleans
 
@@ -230,11 +230,11 @@ module _ (program : List Item) where
 
     -- What a node without a contract enforces is nothing.
     nothing_owed : n.contract ≡ None → (past : Past) (now : Instant) → NodeHeld n earlier past now → now (Enforce ∷ []) ≡ Absent
-    nothing_owed e past now h = h.met.1 (Enforce ∷ []) ∙ ap (λ (X : Instant). X (Enforce ∷ [])) (unguarded n.contract e _ _ _)
+    nothing_owed e past now h = h.met.1 (Enforce ∷ []) ∙ ap (λ (X : Instant). X (Enforce ∷ [])) (unobserved n.contract e _ _ _)
       where
-        unguarded : (k : Option Contract) → k ≡ None → (names last : Names) (g : Given) → guard types real N k names last g now ≡ nothing
-        unguarded None e names last g = refl
-        unguarded (Some c) e names last g = absurd (cc)
+        unobserved : (k : Option Contract) → k ≡ None → (names last : Names) (g : Given) → observer types real N k names last g now ≡ nothing
+        unobserved None e names last g = refl
+        unobserved (Some c) e names last g = absurd (cc)
 
     supposed : (past : Past) (now : Instant) → Through (NodeHeld n earlier) past → NodeHeld n earlier past now → AllOwed n (erase past) → IsTrue (assumes now) → IsTrue (hypothesis n (erased now))
     supposed past now hs h owed assumed =

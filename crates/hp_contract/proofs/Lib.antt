@@ -18,7 +18,7 @@ mod WorkedCalls
 mod WorkedComparisons
 mod WorkedGrant
 mod WorkedCallRun
-mod WorkedUnguarded
+mod WorkedUnobserved
 mod WorkedModes
 mod CodeLaws
 mod WorkedSlots

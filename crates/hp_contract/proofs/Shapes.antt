@@ -5,7 +5,7 @@ use Rattle.std.specs.Prelude.{Bool, true, false, ◌||◌, if◌then◌else◌}
 use Rattle.hp_base.specs.declared.value.Value.{Value}
 use Rattle.hp_base.specs.declared.value.Value.TheVariants.{Absent, Nil, B, E, I, Star}
 use Rattle.hp_tree.specs.Operators.{marked}
-use Rattle.hp_tree.specs.Instant.{Step, Inputs, Controls, Body, Guard, Assume, Enforce, Named, Fresh, Equations, Head, Tail, Right, Test, Arms, States, Until, Unless, Active, Next, Pending, First, Second, Third, Args, Instance, Place, Instant, Past, part, parts, top, own_with, own, newest, at_first, or_else, after, nothing, alone, with_one, with_two, with_three, in_row, with_row, with_instance, of_two, in_block, in_right, with_arms, with_body, in_state, with_words, in_guard, in_node}
+use Rattle.hp_tree.specs.Instant.{Step, Inputs, Controls, Body, Observer, Assume, Enforce, Named, Fresh, Equations, Head, Tail, Right, Test, Arms, States, Until, Unless, Active, Next, Pending, First, Second, Third, Args, Instance, Place, Instant, Past, part, parts, top, own_with, own, newest, at_first, or_else, after, nothing, alone, with_one, with_two, with_three, in_row, with_row, with_instance, of_two, in_block, in_right, with_arms, with_body, in_state, with_words, in_observer, in_node}
 use Rattle.hp_tree.specs.Meaning.{Names, selected, previous}
 use Rattle.hp_contract.specs.Forgetting.{begins_hidden, is_forgotten, erased, erase}
 use Rattle.hp_contract.proofs.Marks.{marks, is_true_marked, state_of_marked, or_else_mark, after_mark}
@@ -153,12 +153,12 @@ words_erased active next pending i = fun_ext at_place
     at_place (States ∷ p) = refl
     at_place (s ∷ p) = absent_either (is_forgotten (s ∷ p))
 
-pub guard_erased : (i j k : Instant) → in_guard (erased i) (erased j) (erased k) ≡ erased (in_guard i j k)
-guard_erased i j k = fun_ext at_place
+pub observer_erased : (i j k : Instant) → in_observer (erased i) (erased j) (erased k) ≡ erased (in_observer i j k)
+observer_erased i j k = fun_ext at_place
   where
-    at_place : (p : Place) → in_guard (erased i) (erased j) (erased k) p ≡ erased (in_guard i j k) p
+    at_place : (p : Place) → in_observer (erased i) (erased j) (erased k) p ≡ erased (in_observer i j k) p
     at_place [] = refl
-    at_place (Guard ∷ p) = refl
+    at_place (Observer ∷ p) = refl
     at_place (Assume ∷ p) = refl
     at_place (Enforce ∷ p) = refl
     at_place (s ∷ p) = absent_either (is_forgotten (s ∷ p))
@@ -172,10 +172,10 @@ map_alone (v ∷ vs) = ap₂ (λ i is. i ∷ is) (alone_erased v) (map_alone vs)
 pub values_erased : (vs : List Value) (p : Place) → in_row (map alone (map marked vs)) p ≡ erased (in_row (map alone vs)) p
 values_erased vs p = ap (λ is. in_row is p) (map_alone vs) ∙ in_row_erased (map alone vs) p
 
-pub node_erased : (outputs : Names) (inputs controls : List Value) (body guard : Instant) → in_node (marks outputs) (map marked inputs) (map marked controls) (erased body) (erased guard) ≡ erased (in_node outputs inputs controls body guard)
-node_erased outputs inputs controls body guard = fun_ext at_place
+pub node_erased : (outputs : Names) (inputs controls : List Value) (body observer : Instant) → in_node (marks outputs) (map marked inputs) (map marked controls) (erased body) (erased observer) ≡ erased (in_node outputs inputs controls body observer)
+node_erased outputs inputs controls body observer = fun_ext at_place
   where
-    at_place : (p : Place) → in_node (marks outputs) (map marked inputs) (map marked controls) (erased body) (erased guard) p ≡ erased (in_node outputs inputs controls body guard) p
+    at_place : (p : Place) → in_node (marks outputs) (map marked inputs) (map marked controls) (erased body) (erased observer) p ≡ erased (in_node outputs inputs controls body observer) p
     at_place [] = refl
     at_place (Named x ∷ []) = refl
     at_place (Fresh ∷ []) = refl
@@ -185,10 +185,10 @@ node_erased outputs inputs controls body guard = fun_ext at_place
     at_place p = refl
 
 -- of a callee its body and its controllable variables are not there
-pub callee_shown : (outputs : Names) (inputs controls : List Value) (body guard : Instant) → in_node (marks outputs) (map marked inputs) [] nothing (erased guard) ≡ shown (in_node outputs inputs controls body guard)
-callee_shown outputs inputs controls body guard = fun_ext at_place
+pub callee_shown : (outputs : Names) (inputs controls : List Value) (body observer : Instant) → in_node (marks outputs) (map marked inputs) [] nothing (erased observer) ≡ shown (in_node outputs inputs controls body observer)
+callee_shown outputs inputs controls body observer = fun_ext at_place
   where
-    at_place : (p : Place) → in_node (marks outputs) (map marked inputs) [] nothing (erased guard) p ≡ shown (in_node outputs inputs controls body guard) p
+    at_place : (p : Place) → in_node (marks outputs) (map marked inputs) [] nothing (erased observer) p ≡ shown (in_node outputs inputs controls body observer) p
     at_place [] = refl
     at_place (Named x ∷ []) = refl
     at_place (Fresh ∷ []) = refl
@@ -210,9 +210,9 @@ below_shown [] = refl
 below_shown (i ∷ past) = ap (λ q. shown (part Instance i) ∷ q) (below_shown past)
 
 -- from there to its contract
-pub guard_below : (s : Step) → ((i : Instant) → part s (shown i) ≡ erased (part s i)) → (past : Past) → parts s (map shown past) ≡ erase (parts s past)
-guard_below s h [] = refl
-guard_below s h (i ∷ past) = ap₂ (λ j q. j ∷ q) (h i) (guard_below s h past)
+pub observer_below : (s : Step) → ((i : Instant) → part s (shown i) ≡ erased (part s i)) → (past : Past) → parts s (map shown past) ≡ erase (parts s past)
+observer_below s h [] = refl
+observer_below s h (i ∷ past) = ap₂ (λ j q. j ∷ q) (h i) (observer_below s h past)
 
 own_with_map : (f : Instant → Instant) (v : Value) (i : Instant) (past : Past) → own_with (marked v) (f i) (map f past) ≡ map f (own_with v i past)
 own_with_map f Absent i past = refl

@@ -9,7 +9,7 @@ use Rattle.hp_tree.specs.declared.program.Item.TheVariants.{NodeItem}
 use Rattle.hp_tree.specs.Expressions.{one, two}
 use Rattle.hp_tree.specs.Programs.{Contract, Node}
 use Rattle.hp_tree.specs.Operators.{same_bool, marked}
-use Rattle.hp_tree.specs.Instant.{Body, Guard, Fresh, Assume, Enforce, Equations, Head, Tail, Right, Args, First, Named, Instance, Place, Instant, Past, Clock}
+use Rattle.hp_tree.specs.Instant.{Body, Observer, Fresh, Assume, Enforce, Equations, Head, Tail, Right, Args, First, Named, Instance, Place, Instant, Past, Clock}
 use Rattle.hp_causal.specs.declared.point.PointKind.TheVariants as kind
 use Rattle.hp_causal.specs.Points.{Placed}
 use Rattle.hp_causal.specs.Causality.{Ranked}
@@ -176,7 +176,7 @@ none_early (Body ∷ Equations ∷ Head ∷ Right ∷ Instance ∷ Named w ∷ [
     early.unsteered ((Body ∷ Equations ∷ Head ∷ Right ∷ []) ∷ []) (Head ∷ []) (inr refl, inr (inl refl))
 none_early (Body ∷ Equations ∷ Head ∷ Right ∷ Args ∷ Head ∷ First ∷ p) early = not_free early.on_base
 none_early (Body ∷ Equations ∷ Tail ∷ Head ∷ Right ∷ p) early = not_free early.on_base
-none_early (Guard ∷ Equations ∷ p) early = not_free early.on_base
+none_early (Observer ∷ Equations ∷ p) early = not_free early.on_base
 none_early p early = not_free early.on_base
 
 -- With the variable true the argument is false.

@@ -11,7 +11,7 @@ use Rattle.hp_tree.specs.Expressions.{Expr, constant, variable, last_of, one, tw
 use Rattle.hp_tree.specs.Blocks.{Decl, Block, block, Eqns, no_eqn, more_eqns, Eqn, define, switch, reset, automaton, States, no_state, more_states}
 use Rattle.hp_tree.specs.Programs.{TypeDecl, Contract, Node}
 use Rattle.hp_tree.specs.Operators.{Reading, constructor_from, is_comparison, is_there, marked}
-use Rattle.hp_tree.specs.Instant.{Inputs, Step, Controls, Body, Guard, Assume, Enforce, Named, Fresh, Equations, Head, Tail, Right, Test, States as StatesOf, Unless, First, Second, Third, Args, Instance, Place, Instant, Past, Clock, without}
+use Rattle.hp_tree.specs.Instant.{Inputs, Step, Controls, Body, Observer, Assume, Enforce, Named, Fresh, Equations, Head, Tail, Right, Test, States as StatesOf, Unless, First, Second, Third, Args, Instance, Place, Instant, Past, Clock, without}
 use Rattle.hp_tree.specs.Meaning.{clock_of, types_of, meaning, node_among}
 use Rattle.hp_causal.specs.declared.point.PointKind.{PointKind}
 use Rattle.hp_causal.specs.declared.point.PointKind.TheVariants as kind
@@ -101,7 +101,7 @@ free_in_told (Some e) = free_in e []
 
 abbrev pub free_in_contract : Option Contract → List (Step × FreeClocks)
 free_in_contract None = []
-free_in_contract (Some c) = (Guard, free_in_block c.body) ∷ (Assume, free_in_told c.assume) ∷ (Enforce, free_in_told c.enforce) ∷ []
+free_in_contract (Some c) = (Observer, free_in_block c.body) ∷ (Assume, free_in_told c.assume) ∷ (Enforce, free_in_told c.enforce) ∷ []
 
 abbrev pub own_free : Node → FreeClocks
 own_free n = by_step ((Body, free_in_block n.body) ∷ free_in_contract n.contract)

@@ -10,7 +10,7 @@ use Rattle.hp_tree.specs.Expressions.{Expr, constant, variable, last_of, one, tw
 use Rattle.hp_tree.specs.Blocks.{Decl, Block, block, Eqns, no_eqn, more_eqns, Eqn, define, switch, reset, automaton, Arms, no_arm, more_arms, States, no_state, more_states}
 use Rattle.hp_tree.specs.Programs.{TypeDecl, Contract, Node}
 use Rattle.hp_tree.specs.Operators.{abstraction, constant_of}
-use Rattle.hp_tree.specs.Instant.{Body, Guard, Assume, Enforce, Named, Fresh, Equations, Head, Tail, Right, Test, Arms as ArmsOf, States as StatesOf, Until, Unless, First, Second, Third, Args, Instance, Instant, Past, part, parts, top, own, newest, at_first, nothing, with_one, with_two, with_three, in_row, with_row, with_instance, of_two, in_block, in_right, with_arms, with_body, in_state, with_words, in_guard}
+use Rattle.hp_tree.specs.Instant.{Body, Observer, Assume, Enforce, Named, Fresh, Equations, Head, Tail, Right, Test, Arms as ArmsOf, States as StatesOf, Until, Unless, First, Second, Third, Args, Instance, Instant, Past, part, parts, top, own, newest, at_first, nothing, with_one, with_two, with_three, in_row, with_row, with_instance, of_two, in_block, in_right, with_arms, with_body, in_state, with_words, in_observer}
 use Rattle.hp_tree.specs.Meaning.{Names, lasts, state_word, selected, types_of, node_among}
 use Rattle.hp_contract.specs.Codes.{to_bits}
 use Rattle.hp_contract.specs.Slots.{width_of, Register, registers, zero_at}
@@ -114,8 +114,8 @@ module _ (types : List TypeDecl) (callee : List ℕ → Instant → Past → Ins
   abbrev pub remembers_contract : Option Contract → Instant → Past → Instant
   remembers_contract None zero past = nothing
   remembers_contract (Some c) zero past =
-      in_guard
-      (remembers_block c.body (part Guard zero) (own (parts Guard past)))
+      in_observer
+      (remembers_block c.body (part Observer zero) (own (parts Observer past)))
       (remembers_told c.assume (part Assume zero) (parts Assume past))
       (remembers_told c.enforce (part Enforce zero) (parts Enforce past))
 
@@ -123,9 +123,9 @@ module _ (types : List TypeDecl) (callee : List ℕ → Instant → Past → Ins
 
 -- the memory of `last` outputs, of a body and of a contract's part
 abbrev pub in_memory : Names → Instant → Instant → Instant
-in_memory outputs body guard (Named x ∷ []) = outputs x
-in_memory outputs body guard (Body ∷ p) = body p
-in_memory outputs body guard p = guard p
+in_memory outputs body observer (Named x ∷ []) = outputs x
+in_memory outputs body observer (Body ∷ p) = body p
+in_memory outputs body observer p = observer p
 
 abbrev nothing_called : List ℕ → Instant → Past → Instant
 nothing_called f zero past = nothing

@@ -12,7 +12,7 @@ use Rattle.hp_tree.specs.Expressions.{Expr, constant, variable, last_of, one, tw
 use Rattle.hp_tree.specs.Blocks.{Decl, Block, block, Eqns, no_eqn, more_eqns, Eqn, define, switch, reset, automaton, Arms, no_arm, more_arms, States, no_state, more_states}
 use Rattle.hp_tree.specs.Programs.{TypeDecl, Contract, Node}
 use Rattle.hp_tree.specs.Operators.{is_comparison}
-use Rattle.hp_tree.specs.Instant.{Inputs, Controls, Body, Guard, Assume, Enforce, Named, Fresh, Equations, Head, Tail, Right, Test, Arms as ArmsOf, States as StatesOf, Until, Unless, Next, Pending, First, Second, Third, Args, Instance, Place, Instant}
+use Rattle.hp_tree.specs.Instant.{Inputs, Controls, Body, Observer, Assume, Enforce, Named, Fresh, Equations, Head, Tail, Right, Test, Arms as ArmsOf, States as StatesOf, Until, Unless, Next, Pending, First, Second, Third, Args, Instance, Place, Instant}
 use Rattle.hp_causal.specs.Sources.{below}
 use Rattle.hp_causal.specs.RanksOfPoints.{same_place}
 use Rattle.hp_tree.specs.Meaning.{types_of, controls_of, node_among}
@@ -135,7 +135,7 @@ module _ (types : List TypeDecl) (outputs : List ℕ → List Decl) (callee : Li
   abbrev pub slots_of_contract : Option Contract → Scope → (Place → Place) → List Slot
   slots_of_contract None names w = []
   slots_of_contract (Some c) names w =
-      slots_of_block c.body names (below Guard w) ++ (slots_told c.assume (scope_of c.body names) (below Assume w) ++ slots_told c.enforce (scope_of c.body names) (below Enforce w))
+      slots_of_block c.body names (below Observer w) ++ (slots_told c.assume (scope_of c.body names) (below Assume w) ++ slots_told c.enforce (scope_of c.body names) (below Enforce w))
 
 -- ---- nodes
 

@@ -1,3 +1,4 @@
 pub mod LayerLaws
+pub mod ListedLaws
 pub mod NameLaws
 pub mod Rules

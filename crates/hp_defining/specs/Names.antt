@@ -1,8 +1,14 @@
 -- The names that equations define: which variables a control equation gives a value to, as its parts tell it.
 -- Source: Colaço, Pagano and Pouzet, A conservative extension of synchronous data-flow with state machines (EMSOFT 2005): a block defines for the blocks around it what it defines and does not declare.
-use Rattle.std.specs.Prelude.{ℕ, if◌then◌else◌, List, [], ◌∷◌, ◌++◌, map}
+use Rattle.std.specs.Prelude.{ℕ, Bool, false, ◌||◌, if◌then◌else◌, List, [], ◌∷◌, ◌++◌, map}
+use Rattle.std.specs.Str.{bytes_eq}
 use Rattle.hp_tree.specs.Blocks.{Decl, Block, block, Eqns, no_eqn, more_eqns, Eqn, define, switch, reset, automaton, Arms, no_arm, more_arms, States, no_state, more_states}
 use Rattle.hp_tree.specs.Meaning.{declares}
+
+-- whether a name is among others
+abbrev pub listed : List (List ℕ) → List ℕ → Bool
+listed [] x = false
+listed (y ∷ ys) x = bytes_eq y x || listed ys x
 
 -- those of some names that are not declared
 abbrev pub undeclared : List Decl → List (List ℕ) → List (List ℕ)

@@ -81,18 +81,18 @@ found_there (NodeItem n ∷ items) f m e = by (bytes_eq n.name f) e (found_there
 once_here : (program after : List Item) (ranks : List (List ℕ)) → IsInOrder program after ranks → (earlier : List Item) (n : Node) → Stands after earlier n → DefinedOnce n
 once_here program after ranks o earlier n st = (each_behind DefinedOnce st.0 (NodeItem n ∷ earlier) (subst (EachNode DefinedOnce) st.1 (each_reverse DefinedOnce after (ready_once program after o.ready)))).0
 
-guard_fits : (program after : List Item) (ranks : List (List ℕ)) → IsInOrder program after ranks → (earlier : List Item) (n : Node) → Stands after earlier n → ContractFits (told_of after) n.contract
-guard_fits program after ranks o earlier n st =
+observer_fits : (program after : List Item) (ranks : List (List ℕ)) → IsInOrder program after ranks → (earlier : List Item) (n : Node) → Stands after earlier n → ContractFits (told_of after) n.contract
+observer_fits program after ranks o earlier n st =
     let a = class program after ranks o earlier n st in
     contract-fits (types_of after) (node_among earlier) (told_of after) (λ f m e. told program after ranks o earlier n st f m e) (inside_node (scope_behind earlier) n) (lasts_in n.outputs no_lasts) n.contract a.1.0.sound.1.1.1.1.1 (contract_once n.contract (once_here program after ranks o earlier n st).0)
 
-all_guards_fit : (program after : List Item) (ranks : List (List ℕ)) → IsInOrder program after ranks → (f : List ℕ) (m : Node) → (told_of after).nodes f ≡ Some m → ContractFits (told_of after) m.contract
-all_guards_fit program after ranks o f m e =
+all_observers_fit : (program after : List Item) (ranks : List (List ℕ)) → IsInOrder program after ranks → (f : List ℕ) (m : Node) → (told_of after).nodes f ≡ Some m → ContractFits (told_of after) m.contract
+all_observers_fit program after ranks o f m e =
     let q = found_there (reverse after) f m (sym (table after f) ∙ e) in
-    guard_fits program after ranks o q.1.0 m (q.0, q.1.1)
+    observer_fits program after ranks o q.1.0 m (q.0, q.1.1)
 
 pub fits : FitsLaw
 fits program after ranks o earlier n st =
     let a = class program after ranks o earlier n st in
     let u = once_here program after ranks o earlier n st in
-    node-fits (types_of after) (node_among earlier) (told_of after) (λ f m e. told program after ranks o earlier n st f m e) (scope_behind earlier) n a.1.0.sound (contract_once n.contract u.0) (block_once n.body u.1) (all_guards_fit program after ranks o)
+    node-fits (types_of after) (node_among earlier) (told_of after) (λ f m e. told program after ranks o earlier n st f m e) (scope_behind earlier) n a.1.0.sound (contract_once n.contract u.0) (block_once n.body u.1) (all_observers_fit program after ranks o)

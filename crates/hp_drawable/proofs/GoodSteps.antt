@@ -8,7 +8,7 @@ use Rattle.hp_tree.specs.declared.block.Trans.{Trans}
 use Rattle.hp_tree.specs.Expressions.{Expr, constant, variable, last_of, one, two, choose, pre, fby, arrow, when_is, merge, call, Exprs, no_expr, more_exprs, Parts, no_part, more_parts}
 use Rattle.hp_tree.specs.Blocks.{Decl, Block, block, Eqns, no_eqn, more_eqns, Eqn, define, switch, reset, automaton, Arms, no_arm, more_arms, States, no_state, more_states}
 use Rattle.hp_tree.specs.Programs.{Contract, Node}
-use Rattle.hp_tree.specs.Instant.{Body, Guard, Named, Equations, Head, Tail, Right, Arms as ArmsOf, States as StatesOf, Place, Clock, without}
+use Rattle.hp_tree.specs.Instant.{Body, Observer, Named, Equations, Head, Tail, Right, Arms as ArmsOf, States as StatesOf, Place, Clock, without}
 use Rattle.hp_tree.specs.Meaning.{declares, some_defines, controls_of}
 use Rattle.hp_typing.specs.Scopes.{with_variables, inside}
 use Rattle.hp_typed.specs.Scopes.{Scope}
@@ -16,7 +16,7 @@ use Rattle.hp_causal.specs.Sources.{below}
 use Rattle.hp_causal.specs.Points.{span_of}
 use Rattle.hp_causal.specs.Clocked.{Standing, base_alone, ClockRight, IsOn, ExprsOn, PartsOn}
 use Rattle.hp_clocking.specs.Terms.{value, IsShortest}
-use Rattle.hp_clocking.specs.Clocking.{On, Term, Assignment, open_at, Seen, nowhere, own, further, Sight, from_inside, seen_on, standing, controls_define, local_at, local_term, term_in, sight_in, sight_of, ClockUnit, declared, tested, AllAre, AllAllow, declarations, conditions, units, units_of_all, units_of_one, units_of_arms, units_of_states, known_on_base, contract_sight, body_sight, told, in_guard, in_body, contract_units, no_sight, sights, sights_of_all, sights_of_one, sights_of_arms, sights_of_states, contract_sights, node_sights, IsAllowed}
+use Rattle.hp_clocking.specs.Clocking.{On, Term, Assignment, open_at, Seen, nowhere, own, further, Sight, from_inside, seen_on, standing, controls_define, local_at, local_term, term_in, sight_in, sight_of, ClockUnit, declared, tested, AllAre, AllAllow, declarations, conditions, units, units_of_all, units_of_one, units_of_arms, units_of_states, known_on_base, contract_sight, body_sight, told, in_observer, in_body, contract_units, no_sight, sights, sights_of_all, sights_of_one, sights_of_arms, sights_of_states, contract_sights, node_sights, IsAllowed}
 use Rattle.hp_tested.proofs.GoodClocks.{Good, every, AllGood, ExprGood, ExprsGood, PartsGood, TestsGood, ToldGood, WrittenGood, DeclsGood, reversed, BlockGood, EqnsGood, EqnGood, ArmsGood, StatesGood, LocalsGood, BlockHas, EqnsHave, EqnHas, ArmsHave, StatesHave}
 
 -- ---- a clock without its other steps
@@ -397,7 +397,7 @@ ContractGood B z (Some c) = BlockGood B z c.body × (ToldGood (B (inside z c.bod
 -- and so do the clocks of its locals
 abbrev pub ContractHas : (Scope → Good) → Assignment → Scope → Option Contract → Type 0
 ContractHas B at z None = ⊤
-ContractHas B at z (Some c) = BlockHas B at z in_guard c.body
+ContractHas B at z (Some c) = BlockHas B at z in_observer c.body
 
 abbrev in_contract : (Scope → Good) → Scope → Option Contract → Place → Good
 in_contract B z None p = every
@@ -405,38 +405,38 @@ in_contract B z (Some c) p = goods B z c.body p
 
 -- the contract of a node is read in one scope, its body in another
 abbrev good_at : (Scope → Good) → Scope → Scope → Node → Place → Good
-good_at B y z n (Guard ∷ p) = in_contract B y n.contract p
+good_at B y z n (Observer ∷ p) = in_contract B y n.contract p
 good_at B y z n (Body ∷ p) = goods B z n.body p
 good_at B y z n p = every
 
 module _ (B : Scope → Good) (at : Assignment) (at_place : Place → Good) (z : Scope) where
-  allow_contract : (c : Option Contract) (out : Sight) → Under at at_place in_guard (in_contract B z c) → Bases at at_place out → ContractGood B z c → AllAllow at (contract_units out c) → AllAllow (other at at_place) (contract_units out c)
+  allow_contract : (c : Option Contract) (out : Sight) → Under at at_place in_observer (in_contract B z c) → Bases at at_place out → ContractGood B z c → AllAllow at (contract_units out c) → AllAllow (other at at_place) (contract_units out c)
   allow_contract None out u o m h = tt
   allow_contract (Some c) out u o m h = by c.body c.assume c.enforce u m h
     where
-      by : (b : Block) (assume enforce : Option Expr) → Under at at_place in_guard (goods B z b) → BlockGood B z b × (ToldGood (B (inside z b)) assume × ToldGood (B (inside z b)) enforce)
-          → AllAllow at (units b in_guard out ++ (told (sight_of b in_guard out) assume ++ told (sight_of b in_guard out) enforce))
-          → AllAllow (other at at_place) (units b in_guard out ++ (told (sight_of b in_guard out) assume ++ told (sight_of b in_guard out) enforce))
+      by : (b : Block) (assume enforce : Option Expr) → Under at at_place in_observer (goods B z b) → BlockGood B z b × (ToldGood (B (inside z b)) assume × ToldGood (B (inside z b)) enforce)
+          → AllAllow at (units b in_observer out ++ (told (sight_of b in_observer out) assume ++ told (sight_of b in_observer out) enforce))
+          → AllAllow (other at at_place) (units b in_observer out ++ (told (sight_of b in_observer out) assume ++ told (sight_of b in_observer out) enforce))
       by (block ds es) assume enforce v m i =
-          let within = sight_in ds es in_guard out in
+          let within = sight_in ds es in_observer out in
           let good = B (with_variables z ds) in
-          let f = filters_in at at_place good es in_guard (λ x. v (Named x ∷ [])) ds out o in
-          split at at_place (units (block ds es) in_guard out) (told within assume ++ told within enforce)
-          (λ j. allow_block at at_place B z (block ds es) in_guard out v o m.0 j)
+          let f = filters_in at at_place good es in_observer (λ x. v (Named x ∷ [])) ds out o in
+          split at at_place (units (block ds es) in_observer out) (told within assume ++ told within enforce)
+          (λ j. allow_block at at_place B z (block ds es) in_observer out v o m.0 j)
           (λ j. split at at_place (told within assume) (told within enforce) (λ k. told_allows at at_place good within f assume m.1.0 k) (λ k. told_allows at at_place good within f enforce m.1.1 k) j) i
 
-  right_contract : (c : Option Contract) (out : Sight) → Under at at_place in_guard (in_contract B z c) → Bases at at_place out → (p : Place) → RightAt at at_place (contract_sights c out p) (Guard ∷ p)
-  right_contract None out u o p = right_none at at_place (Guard ∷ p)
-  right_contract (Some c) out u o p = right_block at at_place B z c.body in_guard out u o p
+  right_contract : (c : Option Contract) (out : Sight) → Under at at_place in_observer (in_contract B z c) → Bases at at_place out → (p : Place) → RightAt at at_place (contract_sights c out p) (Observer ∷ p)
+  right_contract None out u o p = right_none at at_place (Observer ∷ p)
+  right_contract (Some c) out u o p = right_block at at_place B z c.body in_observer out u o p
 
-  contract_has : (all : (p : Place) → AllGood (at_place p) (at p)) (c : Option Contract) → Under at at_place in_guard (in_contract B z c) → ContractHas B at z c
+  contract_has : (all : (p : Place) → AllGood (at_place p) (at p)) (c : Option Contract) → Under at at_place in_observer (in_contract B z c) → ContractHas B at z c
   contract_has all None u = tt
-  contract_has all (Some c) u = good_block B at at_place all z c.body in_guard u
+  contract_has all (Some c) u = good_block B at at_place all z c.body in_observer u
 
 pub clocks_good : (B : Scope → Good) (y z : Scope) (n : Node) (at : Assignment) → ContractGood B y n.contract → BlockGood B z n.body → IsShortest (IsAllowed n) at → ContractHas B at y n.contract × BlockHas B at z in_body n.body
 clocks_good B y z n at mc m s =
     let there = good_at B y z n in
-    let ug : Under at there in_guard (in_contract B y n.contract) = λ p. refl in
+    let ug : Under at there in_observer (in_contract B y n.contract) = λ p. refl in
     let ub : Under at there in_body (goods B z n.body) = λ p. refl in
     let on_base : (b : Bool) → SeenBase at there (known_on_base b) = λ b. based b in
     let og : Bases at there (contract_sight n) = λ x. on_base (declares n.inputs x || declares n.outputs x) in
@@ -452,7 +452,7 @@ clocks_good B y z n at mc m s =
     based true = λ e. refl
     based false = tt
 
-    right : (there : Place → Good) → Under at there in_guard (in_contract B y n.contract) → Under at there in_body (goods B z n.body) → Bases at there (contract_sight n) → Bases at there (body_sight n) → (p : Place) → RightAt at there (node_sights n p) p
-    right there ug ub og ob (Guard ∷ p) = right_contract B at there y n.contract (contract_sight n) ug og p
+    right : (there : Place → Good) → Under at there in_observer (in_contract B y n.contract) → Under at there in_body (goods B z n.body) → Bases at there (contract_sight n) → Bases at there (body_sight n) → (p : Place) → RightAt at there (node_sights n p) p
+    right there ug ub og ob (Observer ∷ p) = right_contract B at there y n.contract (contract_sight n) ug og p
     right there ug ub og ob (Body ∷ p) = right_block at there B z n.body in_body (body_sight n) ub ob p
     right there ug ub og ob p = right_none at there p

@@ -228,10 +228,10 @@ module _ (known : Scope) (nodes : List ℕ → Node) (bodies : (f : List ℕ) �
   condition_tidy D k None i s = (tt, tt)
   condition_tidy D k (Some e) i s = expr_tidy D k e i s
 
-  guard_tidy : (G : Around) (k : ℕ) (b : Block) (assume enforce : Option Expr) → BlockInlines (Free nodes) b → ConditionFree (Free nodes) assume → ConditionFree (Free nodes) enforce → BlockTidy known G b
+  observer_tidy : (G : Around) (k : ℕ) (b : Block) (assume enforce : Option Expr) → BlockInlines (Free nodes) b → ConditionFree (Free nodes) assume → ConditionFree (Free nodes) enforce → BlockTidy known G b
       → BlockTidy known G (block (locals_of b ++ ((in_eqns nodes k (equations_of b)).locals ++ ((in_condition nodes (in_eqns nodes k (equations_of b)).next assume).locals ++ (in_condition nodes (in_condition nodes (in_eqns nodes k (equations_of b)).next assume).next enforce).locals)))
       (eqns_of (list_of_eqns (in_eqns nodes k (equations_of b)).part ++ ((in_condition nodes (in_eqns nodes k (equations_of b)).next assume).before ++ (in_condition nodes (in_condition nodes (in_eqns nodes k (equations_of b)).next assume).next enforce).before))))
-  guard_tidy G k (block ds es) assume enforce ib ia ie h =
+  observer_tidy G k (block ds es) assume enforce ib ia ie h =
       let q = in_eqns nodes k es in
       let a = in_condition nodes q.next assume in
       let c = in_condition nodes a.next enforce in
@@ -252,4 +252,4 @@ module _ (known : Scope) (nodes : List ℕ → Node) (bodies : (f : List ℕ) �
 
   pub contract_tidy : (G : Around) (o : Option Contract) → ContractFree (Free nodes) o → ContractTidy known G o → ContractTidy known G (in_contract nodes 1 o).part
   contract_tidy G None i h = tt
-  contract_tidy G (Some c) i h = guard_tidy G 1 c.body c.assume c.enforce i.0 i.1.0 i.1.1 h
+  contract_tidy G (Some c) i h = observer_tidy G 1 c.body c.assume c.enforce i.0 i.1.0 i.1.1 h

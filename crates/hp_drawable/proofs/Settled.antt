@@ -14,7 +14,7 @@ use Rattle.hp_typing.specs.Types.{type_of}
 use Rattle.hp_typed.specs.Scopes.{Scope}
 use Rattle.hp_causal.specs.Sources.{below}
 use Rattle.hp_clocking.specs.Terms.{value, IsShortest}
-use Rattle.hp_clocking.specs.Clocking.{Assignment, IsAllowed, AreOnce, local_term, with_clock, base_written, with_clocks, all_with_clocks, one_with_clocks, arms_with_clocks, states_with_clocks, in_guard, in_body, contract_with_clocks, node_with_clocks}
+use Rattle.hp_clocking.specs.Clocking.{Assignment, IsAllowed, AreOnce, local_term, with_clock, base_written, with_clocks, all_with_clocks, one_with_clocks, arms_with_clocks, states_with_clocks, in_observer, in_body, contract_with_clocks, node_with_clocks}
 use Rattle.hp_named.specs.Scoped.{no_names, also, interface, NodeScoped}
 use Rattle.hp_named.proofs.Sets.{or_right, same_name}
 use Rattle.hp_once.specs.Once.{BlockOnce, AllOnce, OneOnce, ArmsOnce, StatesOnce, ContractOnce, DefinedOnce}
@@ -147,7 +147,7 @@ module _ (types : List TypeDecl) (nodes : List ℕ → Option Node) (known : Sco
   contract_drawable : (o : Option Contract) (s : Scope) (G : Around) (lasts : Lasts) → Same known s → Rich types s → ContractTidy known G o → ContractSound types nodes s lasts (contract_with_clocks at o) → ContractHas fitting at s o
       → ContractOnce (contract_with_clocks at o) → ContractSingle (contract_with_clocks at o) → ContractHasFirsts types (contract_with_clocks at o) → ContractDrawable s (contract_with_clocks at o)
   contract_drawable None s G lasts same r a ok has once single firsts = tt
-  contract_drawable (Some c) s G lasts same r a ok has once single firsts = block_drawable c.body in_guard s G lasts same r a ok.0 has once single firsts
+  contract_drawable (Some c) s G lasts same r a ok has once single firsts = block_drawable c.body in_observer s G lasts same r a ok.0 has once single firsts
 
 -- ---- nodes
 
@@ -195,7 +195,7 @@ node_drawable types nodes s owned own rich empty at m short a sc ok scy single o
     let er = body_same at m s in
     let lasts = lasts_in y.outputs no_lasts in
     let sound : BlockSound types nodes r lasts y.body = subst (λ z. BlockSound types nodes z lasts y.body) er ok.1.1.1.1.0 in
-    let guard : ContractSound types nodes i lasts y.contract = subst (λ z. ContractSound types nodes z lasts y.contract) ei ok.1.1.1.1.1 in
+    let observer : ContractSound types nodes i lasts y.contract = subst (λ z. ContractSound types nodes z lasts y.contract) ei ok.1.1.1.1.1 in
     let own_in : HaveOwnTypes types nodes r y.inputs = subst (λ z. HaveOwnTypes types nodes z y.inputs) er ok.1.0.0 in
     let own_out : HaveOwnTypes types nodes r y.outputs = subst (λ z. HaveOwnTypes types nodes z y.outputs) er ok.1.0.1 in
     let own_con : HaveOwnTypes types nodes r (map base_written cs) = subst (λ z. HaveOwnTypes types nodes r z) (controls_written at m.contract) (subst (λ z. HaveOwnTypes types nodes z (controls_of y.contract)) er ok.1.1.0) in
@@ -208,11 +208,11 @@ node_drawable types nodes s owned own rich empty at m short a sc ok scy single o
     let rich_i : Rich types i = subst (Rich types) ei (rich_more types y.outputs (with_variables s y.inputs) firsts.outputs (rich_more types y.inputs s firsts.inputs rich)) in
     let rich_r : Rich types r = subst (Rich types) er (rich_more types (controls_of y.contract) (inside_node s y) firsts.controls (subst (Rich types) (sym ei) rich_i)) in
     let good_r = block_good types nodes s at m.body in_body r (also (interface m) cs) (also no_names m.outputs) (among I cs) lasts same_r (told_body types nodes r m own_in own_out own_con) unknown_r sc.body a.1.0 sound in
-    let good_i = contract_good types nodes s at m.contract i (interface m) I lasts same_i (told_interface types nodes i m in_in in_out) unknown_i sc.contract a.1.1 guard in
+    let good_i = contract_good types nodes s at m.contract i (interface m) I lasts same_i (told_interface types nodes i m in_in in_out) unknown_i sc.contract a.1.1 observer in
     let has = clocks_good fitting i r m at good_i good_r short in
     record {
       outputs = apart_of y.outputs (once_then y.inputs y.outputs scy.once);
       inputs = λ x h. none_later y.inputs y.outputs x scy.once h;
       body = subst (λ z. BlockDrawable z y.body) (sym er) (block_drawable types nodes s owned own at m.body in_body r (among I cs) lasts same_r rich_r a.1.0 sound has.1 once.1 single.1 firsts.body);
-      contract = subst (λ z. ContractDrawable z y.contract) (sym ei) (contract_drawable types nodes s owned own at m.contract i I lasts same_i rich_i a.1.1 guard has.0 once.0 single.0 firsts.contract);
+      contract = subst (λ z. ContractDrawable z y.contract) (sym ei) (contract_drawable types nodes s owned own at m.contract i I lasts same_i rich_i a.1.1 observer has.0 once.0 single.0 firsts.contract);
     }

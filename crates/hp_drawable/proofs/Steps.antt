@@ -16,7 +16,7 @@ use Rattle.hp_typing.specs.Scopes.{with_variables, inside}
 use Rattle.hp_typing.specs.Types.{type_of, types_in, cons_type, same_type, agrees, args_fit}
 use Rattle.hp_typed.specs.Scopes.{Scope}
 use Rattle.hp_causal.specs.Sources.{below}
-use Rattle.hp_clocking.specs.Clocking.{Assignment, with_clock, with_clocks, all_with_clocks, one_with_clocks, arms_with_clocks, states_with_clocks, in_guard, contract_with_clocks}
+use Rattle.hp_clocking.specs.Clocking.{Assignment, with_clock, with_clocks, all_with_clocks, one_with_clocks, arms_with_clocks, states_with_clocks, in_observer, contract_with_clocks}
 use Rattle.hp_named.specs.Scoped.{Names, no_names, also, BlockScoped, EqnsScoped, EqnScoped, ArmsScoped, StatesScoped, ContractScoped}
 use Rattle.hp_valued.specs.Judged.{Lasts, lasts_in, lasts_of, of_parts, HaveOwnTypes, RightSound, TestsSound, ToldSound, BlockSound, EqnsSound, EqnSound, ArmsSound, StatesSound, ContractSound}
 use Rattle.hp_valued.proofs.Scoped.{still_known, not_declared}
@@ -186,18 +186,18 @@ module _ (types : List TypeDecl) (nodes : List ℕ → Option Node) where
             (tests_good (with_variables s ds) (lasts_in ds' lasts) until inner, (tests_good s lasts unless ok.1.1.1.0, states_good ss (below Tail here) z s seen own G lasts same w u sc.1 a.1 ok.1.1.1.1)),
           )
 
-    guard_good : (b : Block) (assume enforce : Option Expr) (s : Scope) (seen : Names) (G : Around) (lasts : Lasts) → Same known s → Told G s → Unknown seen s → BlockScoped seen no_names b → BlockTidy known G b → BlockSound types nodes s lasts (with_clocks at in_guard b)
-        → ToldSound types nodes (inside s (with_clocks at in_guard b)) (lasts_of (with_clocks at in_guard b) lasts) assume → ToldSound types nodes (inside s (with_clocks at in_guard b)) (lasts_of (with_clocks at in_guard b) lasts) enforce
+    observer_good : (b : Block) (assume enforce : Option Expr) (s : Scope) (seen : Names) (G : Around) (lasts : Lasts) → Same known s → Told G s → Unknown seen s → BlockScoped seen no_names b → BlockTidy known G b → BlockSound types nodes s lasts (with_clocks at in_observer b)
+        → ToldSound types nodes (inside s (with_clocks at in_observer b)) (lasts_of (with_clocks at in_observer b) lasts) assume → ToldSound types nodes (inside s (with_clocks at in_observer b)) (lasts_of (with_clocks at in_observer b) lasts) enforce
         → BlockGood fitting s b × (ToldGood (fitting (inside s b)) assume × ToldGood (fitting (inside s b)) enforce)
-    guard_good (block ds es) assume enforce s seen G lasts same w u sc a ok oka oke =
-        let ds' = map (with_clock at es in_guard) ds in
+    observer_good (block ds es) assume enforce s seen G lasts same w u sc a ok oka oke =
+        let ds' = map (with_clock at es in_observer) ds in
         let s' = with_variables s ds in
         let lasts' = lasts_in ds' lasts in
-        let e = local_written at es in_guard ds s in (
-          block_good (block ds es) in_guard s seen no_names G lasts same w u sc a ok,
+        let e = local_written at es in_observer ds s in (
+          block_good (block ds es) in_observer s seen no_names G lasts same w u sc a ok,
           (told_good s' lasts' assume (subst (λ r. ToldSound types nodes r lasts' assume) e oka), told_good s' lasts' enforce (subst (λ r. ToldSound types nodes r lasts' enforce) e oke)),
         )
 
     pub contract_good : (o : Option Contract) (s : Scope) (seen : Names) (G : Around) (lasts : Lasts) → Same known s → Told G s → Unknown seen s → ContractScoped seen o → ContractTidy known G o → ContractSound types nodes s lasts (contract_with_clocks at o) → ContractGood fitting s o
     contract_good None s seen G lasts same w u sc a ok = tt
-    contract_good (Some c) s seen G lasts same w u sc a ok = guard_good c.body c.assume c.enforce s seen G lasts same w u sc a ok.0 ok.1.0 ok.1.1
+    contract_good (Some c) s seen G lasts same w u sc a ok = observer_good c.body c.assume c.enforce s seen G lasts same w u sc a ok.0 ok.1.0 ok.1.1

@@ -66,7 +66,7 @@ replaced_tidy known nodes bodies ready n can ib ic h =
     let m = in_node nodes n in
     let sc = in_node_scoped nodes ready n can.scoped can.plain can.fits can.few_calls in
     let body : BlockTidy known G m.body = block_tidy known nodes bodies G G (λ x t g. g) k n.body ib h.1.0 in
-    let guard : ContractTidy known I m.contract = contract_tidy known nodes bodies I n.contract ic h.1.1 in
+    let observer : ContractTidy known I m.contract = contract_tidy known nodes bodies I n.contract ic h.1.1 in
     let cs : controls_of m.contract ≡ controls_of n.contract = controls_in nodes n.contract in
     let all : controls_of (replaced_node nodes n).contract ≡ controls_of n.contract = controls_numbered m.contract ∙ cs in
     let s_I : Seen (interface m) I = seen_interface n in (
@@ -75,7 +75,7 @@ replaced_tidy known nodes bodies ready n can ib ic h =
         subst (λ z. BlockTidy known (among I z) (replaced_node nodes n).body) (sym all)
             (block_numbered known (also (interface m) (controls_of m.contract)) (also no_names m.outputs) same_name (behind m.contract) G G m.body sc.body
             (subst (λ z. Seen (also (interface m) z) G) (sym cs) (seen_more (interface n) I (controls_of n.contract) s_I)) (λ x t g. g) body),
-        contract_numbered known (interface m) I m.contract sc.contract s_I guard,
+        contract_numbered known (interface m) I m.contract sc.contract s_I observer,
       ),
     )
 

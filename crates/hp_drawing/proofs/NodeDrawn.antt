@@ -10,14 +10,14 @@ use Rattle.hp_drawing.specs.declared.parts.Callee as code_callee
 use Rattle.hp_drawing.specs.declared.parts.Place.{Place}
 use Rattle.hp_drawing.specs.Kept.{input, control, kept_as}
 use Rattle.hp_drawing.specs.Told.{Told, type_shape}
-use Rattle.hp_drawing.specs.Planned.{Callee, unseen, over, with_row, with_lasts, with_declared, declaring, planned_block, planned_told, planned_contract, planned_guard, planned_node, contract_names, no_callee, called, called_of}
+use Rattle.hp_drawing.specs.Planned.{Callee, unseen, over, with_row, with_lasts, with_declared, declaring, planned_block, planned_told, planned_contract, planned_observer, planned_node, contract_names, no_callee, called, called_of}
 use Rattle.hp_drawing.specs.Sketch as sketch
 use Rattle.hp_drawing.specs.Sketch.{Sketch, next_wire, empty}
 use Rattle.hp_drawing.specs.Places.{top_place, called_at}
 use Rattle.hp_drawing.specs.Scopes.{Scope, Layer, no_scope, add, entry_at, unseen_entry, add_lasts, push_values, push_lasts, pop_values, value_in, shapes_in}
 use Rattle.hp_drawing.specs.DrawnExpressions.{Brings}
 use Rattle.hp_drawing.specs.DrawnBlocks.{drawn_block}
-use Rattle.hp_drawing.specs.DrawnNodes.{put_from, put_row, put_outputs, contract_layer, scope_over, contract_scope, body_layer, drawn_told, drawn_contract, no_brings, drawn_called_if, contracts, add_one_given, add_given, define_from, drawn_guard, body_scope, drawn_body, with_outputs, with_inputs, with_controls, node_scope, node_rows, drawn_node_from}
+use Rattle.hp_drawing.specs.DrawnNodes.{put_from, put_row, put_outputs, contract_layer, scope_over, contract_scope, body_layer, drawn_told, drawn_contract, no_brings, drawn_called_if, contracts, add_one_given, add_given, define_from, drawn_observer, body_scope, drawn_body, with_outputs, with_inputs, with_controls, node_scope, node_rows, drawn_node_from}
 use Rattle.hp_drawing.specs.Laws.{SlotsPlannedLaw}
 use Rattle.hp_drawing.proofs.KeptLaws.{kept_at, given-kept, define-kept, called-kept, call-kept, finish-kept, empty-kept}
 use Rattle.hp_drawing.proofs.NamesLaws.{says, said-add, over-declared, shapes-pushed, shapes-lasts}
@@ -119,9 +119,9 @@ outputs-defined : (z : Scope) (first k : ℕ) (ds : List Decl) (s : Sketch) → 
 outputs-defined z first k [] s = refl
 outputs-defined z first k (d ∷ ds) s = outputs-defined z first (k + 1) ds (sketch.define (first + k) (value_in z d.name) s) ∙ define-kept (first + k) (value_in z d.name) s
 
-guard-planned : (t : Told) (z : Scope) (o : Option Contract) (s : Sketch) → kept_at (drawn_guard t z o s).1 ≡ planned_guard t called o (shapes_in z) (kept_at s)
-guard-planned t z None s = refl
-guard-planned t z (Some c) s = contract-planned t contracts called (agrees t) z top_place c s
+observer-planned : (t : Told) (z : Scope) (o : Option Contract) (s : Sketch) → kept_at (drawn_observer t z o s).1 ≡ planned_observer t called o (shapes_in z) (kept_at s)
+observer-planned t z None s = refl
+observer-planned t z (Some c) s = contract-planned t contracts called (agrees t) z top_place c s
 
 body-planned : (t : Told) (z : Scope) (l : Layer) (n : Node) (outputs : ℕ) (s : Sketch) → kept_at (drawn_body t z l n outputs s) ≡ planned_block t called n.body (shapes_in (body_scope l z)) (kept_at s)
 body-planned t z l n outputs s =
@@ -134,15 +134,15 @@ from-planned t n s =
     let before = with_inputs t n s in
     let z = node_scope t n s in
     let rows = node_rows t n s z.1 in
-    let g = drawn_guard t z.0 n.contract (with_controls t n z.1) in
+    let g = drawn_observer t z.0 n.contract (with_controls t n z.1) in
     let l = body_layer t n rows.inputs rows.controls in
     let names = contract_names t n in
     let seen : shapes_in (body_scope l z.0) ≡ declaring t (controls_of n.contract) names =
     body-shapes t n l z.0 (around-nothing t top_place n inputs (next_wire s) before) ∙ body-said t n rows.inputs rows.controls in
     finish-kept g.0.assume g.0.enforce (drawn_body t z.0 l n rows.outputs g.1) ∙ body-planned t z.0 l n rows.outputs g.1
-    ∙ (λ j. planned_block t called n.body (seen j) (guard-planned t z.0 n.contract (with_controls t n z.1) j))
-    ∙ (λ j. planned_block t called n.body (declaring t (controls_of n.contract) names) (planned_guard t called n.contract (scope-shapes t top_place n inputs (next_wire s) before j) (given-row t role.Control (controls_of n.contract) z.1 j)))
-    ∙ ap (λ k. planned_block t called n.body (declaring t (controls_of n.contract) names) (planned_guard t called n.contract names (with_row control t (controls_of n.contract) k)))
+    ∙ (λ j. planned_block t called n.body (seen j) (observer-planned t z.0 n.contract (with_controls t n z.1) j))
+    ∙ (λ j. planned_block t called n.body (declaring t (controls_of n.contract) names) (planned_observer t called n.contract (scope-shapes t top_place n inputs (next_wire s) before j) (given-row t role.Control (controls_of n.contract) z.1 j)))
+    ∙ ap (λ k. planned_block t called n.body (declaring t (controls_of n.contract) names) (planned_observer t called n.contract names (with_row control t (controls_of n.contract) k)))
     (scope-kept t top_place n inputs (next_wire s) before ∙ ap (λ k. with_lasts t n.outputs k) (given-row t role.Input n.inputs (with_outputs t n s) ∙ ap (λ k. with_row input t n.inputs k) (holes-kept t n.outputs s)))
 
 pub node-planned : SlotsPlannedLaw

@@ -53,12 +53,12 @@ body_layer t n inputs controls = put_outputs t n.outputs (put_row t n.inputs inp
 -- ---- contracts
 
 -- the wires of what a contract assumes and enforces
-pub record Guard : Type 0 where
+pub record Observer : Type 0 where
   pub assume : ℕ
   pub enforce : ℕ
 
-abbrev pub guard : ℕ → ℕ → Guard
-guard assume enforce = record { assume = assume; enforce = enforce }
+abbrev pub observer : ℕ → ℕ → Observer
+observer assume enforce = record { assume = assume; enforce = enforce }
 
 abbrev pub wire_of : Value × Sketch → ℕ × Sketch
 wire_of d = (d.0.wire, d.1)
@@ -68,12 +68,12 @@ abbrev pub drawn_told : Told → Brings → Scope → Place → Option Expr → 
 drawn_told t brings z place None s = (high, s)
 drawn_told t brings z place (Some e) s = wire_of (drawn t brings z place e s)
 
-abbrev pub drawn_contract : Told → Brings → Scope → Place → Contract → Sketch → Guard × Sketch
+abbrev pub drawn_contract : Told → Brings → Scope → Place → Contract → Sketch → Observer × Sketch
 drawn_contract t brings z place c s =
     let inside = drawn_block t brings z place c.body s in
     let assume = drawn_told t brings inside.0 place c.assume inside.1 in
     let enforce = drawn_told t brings inside.0 place c.enforce assume.1 in
-    (guard assume.0 enforce.0, enforce.1)
+    (observer assume.0 enforce.0, enforce.1)
 
 -- where nothing is called
 abbrev pub no_brings : Brings
@@ -112,9 +112,9 @@ define_from z first k (d ∷ ds) s = define_from z first (k + 1) ds (sketch.defi
 abbrev pub define_outputs : Scope → List Decl → ℕ → Sketch → Sketch
 define_outputs z ds first s = define_from z first 0 ds s
 
-abbrev pub drawn_guard : Told → Scope → Option Contract → Sketch → Guard × Sketch
-drawn_guard t z None s = (guard high high, s)
-drawn_guard t z (Some c) s = drawn_contract t contracts z top_place c s
+abbrev pub drawn_observer : Told → Scope → Option Contract → Sketch → Observer × Sketch
+drawn_observer t z None s = (observer high high, s)
+drawn_observer t z (Some c) s = drawn_contract t contracts z top_place c s
 
 -- the scope of the body, in place of what the contract sees
 abbrev pub body_scope : Layer → Scope → Scope
@@ -148,7 +148,7 @@ with_controls t n s = add_given t role.Control (controls_of n.contract) s
 abbrev pub node_scope : Told → Node → Sketch → Scope × Sketch
 node_scope t n s = contract_scope t top_place n (next_wire (with_outputs t n s)) (next_wire s) (with_inputs t n s)
 
-abbrev pub node_rest : Told → Node → Rows → Scope → Guard × Sketch → Sketch
+abbrev pub node_rest : Told → Node → Rows → Scope → Observer × Sketch → Sketch
 node_rest t n rows z g =
     finish g.0.assume g.0.enforce
     (drawn_body t z (body_layer t n rows.inputs rows.controls) n rows.outputs g.1)
@@ -159,7 +159,7 @@ node_rows t n before s = rows_of (next_wire before) (next_wire (with_outputs t n
 abbrev pub drawn_node_from : Told → Node → Sketch → Sketch
 drawn_node_from t n s =
     let z = node_scope t n s in
-    node_rest t n (node_rows t n s z.1) z.0 (drawn_guard t z.0 n.contract (with_controls t n z.1))
+    node_rest t n (node_rows t n s z.1) z.0 (drawn_observer t z.0 n.contract (with_controls t n z.1))
 
 abbrev pub drawn_node : Told → Node → Sketch
 drawn_node t n = drawn_node_from t n empty

@@ -209,9 +209,9 @@ abbrev pub planned_contract : Told → Callee → Contract → Names → List Ke
 planned_contract t callee c names before =
     planned_told t callee c.enforce (in_block t c.body names) (planned_told t callee c.assume (in_block t c.body names) (planned_block t callee c.body names before))
 
-abbrev pub planned_guard : Told → Callee → Option Contract → Names → List Kept → List Kept
-planned_guard t callee None names before = before
-planned_guard t callee (Some c) names before = planned_contract t callee c names before
+abbrev pub planned_observer : Told → Callee → Option Contract → Names → List Kept → List Kept
+planned_observer t callee None names before = before
+planned_observer t callee (Some c) names before = planned_contract t callee c names before
 
 -- what a contract sees: inputs and outputs
 abbrev pub contract_names : Told → Node → Names
@@ -233,5 +233,5 @@ called t n before = called_of t n.contract n before
 abbrev pub planned_node : Told → Node → List Kept → List Kept
 planned_node t n before =
     planned_block t called n.body (declaring t (controls_of n.contract) (contract_names t n))
-    (planned_guard t called n.contract (contract_names t n)
+    (planned_observer t called n.contract (contract_names t n)
     (with_row control t (controls_of n.contract) (with_lasts t n.outputs (with_row input t n.inputs before))))

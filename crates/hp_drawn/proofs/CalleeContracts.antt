@@ -4,7 +4,7 @@ use Rattle.hp_base.specs.declared.value.Value.{Value}
 use Rattle.hp_base.specs.declared.value.Value.TheVariants.{Absent}
 use Rattle.hp_base.specs.declared.ty.Ty.{Ty}
 use Rattle.hp_tree.specs.ExpressionTypes.{typed_in, untyped}
-use Rattle.hp_tree.specs.Instant.{Named, Guard, Assume, Enforce, Instant, Clock, holds, nothing, Place as TreePlace}
+use Rattle.hp_tree.specs.Instant.{Named, Observer, Assume, Enforce, Instant, Clock, holds, nothing, Place as TreePlace}
 use Rattle.hp_tree.specs.Meaning.{Names, declares, input_of}
 use Rattle.hp_tree.specs.Programs.{TypeDecl, Contract, Node}
 use Rattle.hp_known.specs.Known.{lookup}
@@ -152,7 +152,7 @@ module _ (slot : ℕ → ℕ) (raw next given : Instant) (supposes owes : Placed
       in
       let nk : NamesAre types (inside_node sc n) V.standing reads = λ x ck t on l. subst (λ v. IsWire types t v) (same x) (contract-reads types (callee_wires types []) among sc n ins now hi ho ai yo x ck t on l) in
       let gc = contract-drawn F K T c V m now stay w i.0 here' cut kept z.1 sc'.0 N sc'.3 nk (outputs_last types among (inside_node sc n) n.outputs m.memory ho k.0) r free.0 k.1 g y dr
-      (part-at F Guard m now stay w here' cut kept begin after shown solved_by pb) (λ u. part-at F Assume m now stay w here' cut kept begin after shown solved_by pb) (λ u. part-at F Enforce m now stay w here' cut kept begin after shown solved_by pb) sc'.2
+      (part-at F Observer m now stay w here' cut kept begin after shown solved_by pb) (λ u. part-at F Assume m now stay w here' cut kept begin after shown solved_by pb) (λ u. part-at F Enforce m now stay w here' cut kept begin after shown solved_by pb) sc'.2
       (held-behind slot next supposes owes raw given i.1 a.0 ls [] z.1 sc'.0 gl sc'.1 h1) in
       let b = drawn_contract told no_brings z.0 i.0 c z.1 in
       let sup' = supposes_on showing wires in

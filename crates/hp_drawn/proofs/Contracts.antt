@@ -7,7 +7,7 @@ use Rattle.hp_tree.specs.Blocks.{Decl}
 use Rattle.hp_tree.specs.Expressions.{Expr}
 use Rattle.hp_tree.specs.ExpressionTypes as types_shown
 use Rattle.hp_tree.specs.ExpressionTypes.{scope_of}
-use Rattle.hp_tree.specs.Instant.{Guard, Assume, Enforce, Instant, Past, part, top, nothing, Place as TreePlace}
+use Rattle.hp_tree.specs.Instant.{Observer, Assume, Enforce, Instant, Past, part, top, nothing, Place as TreePlace}
 use Rattle.hp_tree.specs.Meaning.{node_among}
 use Rattle.hp_tree.specs.Operators.{is_true}
 use Rattle.hp_tree.specs.Programs.{TypeDecl, Contract}
@@ -74,8 +74,8 @@ module _ (F : Frame) (K : FrameCalls F) (T : CalleesTyped F.types (callee_wires 
   ToldPart V o m now stay w here cut kept =
       IsPart F m now stay w here cut kept (told_remembers F.types circuits.remembers o m.start []) (next_told F.types circuits o V.names m now) (shown_told F.types circuits o V.names m now) (wired_told F.types circuits o V.names V.last m now)
 
-  abbrev pub GuardPart : Sight → Contract → Held → Instant → Instant → (TreePlace → TreePlace) → Bool → Bool → Bool → Type 0
-  GuardPart V c m now stay w here cut kept =
+  abbrev pub ObserverPart : Sight → Contract → Held → Instant → Instant → (TreePlace → TreePlace) → Bool → Bool → Bool → Type 0
+  ObserverPart V c m now stay w here cut kept =
       IsPart F m now stay w here cut kept (remembers_block F.types circuits.remembers c.body m.start []) (next_block F.types circuits c.body V.names V.last m now) (shown_block F.types circuits c.body V.names V.last m now) (wired_block F.types circuits c.body false V.names V.last m now)
 
   -- what is told holds where it is missing
@@ -92,26 +92,26 @@ module _ (F : Frame) (K : FrameCalls F) (T : CalleesTyped F.types (callee_wires 
   pub contract-drawn : (c : Contract) (V : Sight) (m : Held) (now stay : Instant) (w : TreePlace → TreePlace) (place : Place) (here cut kept : Bool) (d : Sketch) (ns : List ℕ) → AreNumbered F.types F.told V.scope → AreShaped V.scope V.has_last V.types V.drawn_scope
       → NamesAre F.types V.scope V.standing V.names → LastsAre F.types V.scope V.has_last V.last → ContractRight V.standing (Some c) → ContractSound F.types (node_among F.earlier) V.scope V.has_last (Some c)
       → ContractKept F.types (CalleeKept F.types F.earlier) V.scope (Some c) m.start m.memory → ContractGiven F.types (CalleeGiven F.types F.earlier) V.scope (Some c) m.free → ContractTyped F.types (CalleeTyped F.types F.earlier) V.scope (Some c) now → BlockDrawable V.scope c.body
-      → GuardPart V c (held_at Guard m) (part Guard now) (part Guard stay) (below Guard w) here cut kept
-      → ((z : Scope) → ToldPart (inside_sight V c.body (held_at Guard m) (part Guard now) z) c.assume (held_at Assume m) (part Assume now) (part Assume stay) (below Assume w) here cut kept)
-      → ((z : Scope) → ToldPart (inside_sight V c.body (held_at Guard m) (part Guard now) z) c.enforce (held_at Enforce m) (part Enforce now) (part Enforce stay) (below Enforce w) here cut kept)
+      → ObserverPart V c (held_at Observer m) (part Observer now) (part Observer stay) (below Observer w) here cut kept
+      → ((z : Scope) → ToldPart (inside_sight V c.body (held_at Observer m) (part Observer now) z) c.assume (held_at Assume m) (part Assume now) (part Assume stay) (below Assume w) here cut kept)
+      → ((z : Scope) → ToldPart (inside_sight V c.body (held_at Observer m) (part Observer now) z) c.enforce (held_at Enforce m) (part Enforce now) (part Enforce stay) (below Enforce w) here cut kept)
       → Ready F K V place here cut kept d ns
-      → Holds F K (slots_of_block F.types F.outs F.callee c.body V.types (below Guard w) ++ (told_slots F.types F.outs F.callee c.assume (scope_of c.body V.types) (below Assume w) ++ told_slots F.types F.outs F.callee c.enforce (scope_of c.body V.types) (below Enforce w))) d
-      → (ns' : List ℕ) × Draws F K d ns (slots_of_block F.types F.outs F.callee c.body V.types (below Guard w) ++ (told_slots F.types F.outs F.callee c.assume (scope_of c.body V.types) (below Assume w) ++ told_slots F.types F.outs F.callee c.enforce (scope_of c.body V.types) (below Enforce w)))
-      (calls_in_block c.body (below Guard w) ++ (calls_told c.assume (below Assume w) ++ calls_told c.enforce (below Enforce w))) (drawn_contract F.told F.brings V.drawn_scope place c d).1 ns'
+      → Holds F K (slots_of_block F.types F.outs F.callee c.body V.types (below Observer w) ++ (told_slots F.types F.outs F.callee c.assume (scope_of c.body V.types) (below Assume w) ++ told_slots F.types F.outs F.callee c.enforce (scope_of c.body V.types) (below Enforce w))) d
+      → (ns' : List ℕ) × Draws F K d ns (slots_of_block F.types F.outs F.callee c.body V.types (below Observer w) ++ (told_slots F.types F.outs F.callee c.assume (scope_of c.body V.types) (below Assume w) ++ told_slots F.types F.outs F.callee c.enforce (scope_of c.body V.types) (below Enforce w)))
+      (calls_in_block c.body (below Observer w) ++ (calls_told c.assume (below Assume w) ++ calls_told c.enforce (below Enforce w))) (drawn_contract F.told F.brings V.drawn_scope place c d).1 ns'
       × Has ns' (drawn_contract F.told F.brings V.drawn_scope place c d).0.assume (truth (assumes now)) × Has ns' (drawn_contract F.told F.brings V.drawn_scope place c d).0.enforce (truth (enforces now))
   contract-drawn c V m now stay w place here cut kept d ns N S nk lk r ok k g y dr pg pa pe rd h =
-      let ss = slots_of_block F.types F.outs F.callee c.body V.types (below Guard w) in
+      let ss = slots_of_block F.types F.outs F.callee c.body V.types (below Observer w) in
       let ts = told_slots F.types F.outs F.callee c.assume (scope_of c.body V.types) (below Assume w) in
       let us = told_slots F.types F.outs F.callee c.enforce (scope_of c.body V.types) (below Enforce w) in
-      let cs = calls_in_block c.body (below Guard w) in
+      let cs = calls_in_block c.body (below Observer w) in
       let ds = calls_told c.assume (below Assume w) in
       let es = calls_told c.enforce (below Enforce w) in
       let outer : OuterAre F.types (node_among F.earlier) c.body V.standing V.scope V.names = λ x t nb on l. nk x [] t on l in
-      let x = block-drawn F K T c.body false V (held_at Guard m) (part Guard now) (part Guard stay) (below Guard w) place here cut kept d ns N S outer lk r.0 ok.0 k.0 g.0 y.0 dr pg rd (held-first F.slot F.raw F.given ss (ts ++ us) (length d.slots) h) in
+      let x = block-drawn F K T c.body false V (held_at Observer m) (part Observer now) (part Observer stay) (below Observer w) place here cut kept d ns N S outer lk r.0 ok.0 k.0 g.0 y.0 dr pg rd (held-first F.slot F.raw F.given ss (ts ++ us) (length d.slots) h) in
       let b = drawn_block F.told F.brings V.drawn_scope place c.body d in
-      let Vi = inside_sight V c.body (held_at Guard m) (part Guard now) b.0 in
-      let Si : IsSight F Vi = record { numbered = numbered-in-block F.types F.told V.scope c.body N; named = seen_in F.types (node_among F.earlier) (CalleeTyped F.types F.earlier) c.body V.standing V.scope V.has_last V.names (part Guard now) ok.0 outer y.0; shaped = x.3 } in
+      let Vi = inside_sight V c.body (held_at Observer m) (part Observer now) b.0 in
+      let Si : IsSight F Vi = record { numbered = numbered-in-block F.types F.told V.scope c.body N; named = seen_in F.types (node_among F.earlier) (CalleeTyped F.types F.earlier) c.body V.standing V.scope V.has_last V.names (part Observer now) ok.0 outer y.0; shaped = x.3 } in
       let h1 = behind-held F K d ns ss cs b.1 x.0 (ts ++ us) x.1 h in
       let a = told-drawn c.assume Vi (held_at Assume m) (part Assume now) (part Assume stay) (below Assume w) place here cut kept b.1 x.0 Si r.1 ok.1.0 k.1.0 g.1.0 y.1.0 (pa b.0) x.2 (held-first F.slot F.raw F.given ts us (length b.1.slots) h1) in
       let sa = drawn_told F.told F.brings b.0 place c.assume b.1 in

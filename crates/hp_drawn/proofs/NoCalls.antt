@@ -4,7 +4,7 @@ use Rattle.hp_base.specs.declared.span.Span.{Span}
 use Rattle.hp_tree.specs.declared.block.Trans.{Trans}
 use Rattle.hp_tree.specs.Blocks.{Block, block, Eqns, no_eqn, more_eqns, Eqn, define, switch, reset, automaton, Arms, no_arm, more_arms, States, no_state, more_states}
 use Rattle.hp_tree.specs.Expressions.{Expr, constant, variable, last_of, one, two, choose, pre, fby, arrow, when_is, merge, call, Parts, no_part, more_parts}
-use Rattle.hp_tree.specs.Instant.{Body, Guard, Assume, Enforce, Equations, Head, Tail, Right, Test, Arms as ArmsOf, States as StatesOf, Until, Unless, First, Second, Third, Args, Instant, part, Place}
+use Rattle.hp_tree.specs.Instant.{Body, Observer, Assume, Enforce, Equations, Head, Tail, Right, Test, Arms as ArmsOf, States as StatesOf, Until, Unless, First, Second, Third, Args, Instant, part, Place}
 use Rattle.hp_tree.specs.Meaning.{node_among}
 use Rattle.hp_tree.specs.Programs.{TypeDecl, Contract, Node}
 use Rattle.hp_causal.specs.Points.{Placed, calls, calls_in_parts, calls_told}
@@ -15,7 +15,7 @@ use Rattle.hp_valued.specs.Judged.{Lasts, lasts_in as known_lasts, lasts_of as k
 use Rattle.hp_wiretyped.specs.Typed.{ExprTyped, PartsTyped, TestsTyped, BlockTyped, EqnsTyped, EqnTyped, ArmsTyped, StatesTyped, ToldTyped, ContractTyped}
 use Rattle.hp_wiretyped.specs.Callees.{none_typed}
 use Rattle.hp_drawn.proofs.CallLists.{calls_in_conditions, calls_in_block, calls_in_eqns, calls_in_eqn, calls_in_arms, calls_in_states}
-use Rattle.hp_drawn.proofs.Nodes.{guard_calls}
+use Rattle.hp_drawn.proofs.Nodes.{observer_calls}
 
 both-empty : (xs ys : List Placed) → xs ≡ [] → ys ≡ [] → xs ++ ys ≡ []
 both-empty xs ys e f = ap (λ l. l ++ ys) e ∙ f
@@ -128,10 +128,10 @@ module _ (types : List TypeDecl) (among : List ℕ → Option Node) where
   told-free None s l i w ok y = (tt, refl)
   told-free (Some e) s l i w ok y = let x = expr-free s l e i w ok.0 y in ((x.0, ok.1), x.1)
 
-  pub contract-free : (o : Option Contract) (s : Scope) (l : Lasts) (i : Instant) (w : Place → Place) → ContractSound types among s l o → ContractTyped types none_typed s o i → ContractSound types nobody s l o × (guard_calls o w ≡ [])
+  pub contract-free : (o : Option Contract) (s : Scope) (l : Lasts) (i : Instant) (w : Place → Place) → ContractSound types among s l o → ContractTyped types none_typed s o i → ContractSound types nobody s l o × (observer_calls o w ≡ [])
   contract-free None s l i w ok y = (tt, refl)
   contract-free (Some c) s l i w ok y =
-      let x = block-free c.body s l (part Guard i) (below Guard w) ok.0 y.0 in
+      let x = block-free c.body s l (part Observer i) (below Observer w) ok.0 y.0 in
       let a = told-free c.assume (inside s c.body) (known_of c.body l) (part Assume i) (below Assume w) ok.1.0 y.1.0 in
       let e = told-free c.enforce (inside s c.body) (known_of c.body l) (part Enforce i) (below Enforce w) ok.1.1 y.1.1 in
-      ((x.0, (a.0, e.0)), both-empty (calls_in_block c.body (below Guard w)) (calls_told c.assume (below Assume w) ++ calls_told c.enforce (below Enforce w)) x.1 (both-empty (calls_told c.assume (below Assume w)) (calls_told c.enforce (below Enforce w)) a.1 e.1))
+      ((x.0, (a.0, e.0)), both-empty (calls_in_block c.body (below Observer w)) (calls_told c.assume (below Assume w) ++ calls_told c.enforce (below Enforce w)) x.1 (both-empty (calls_told c.assume (below Assume w)) (calls_told c.enforce (below Enforce w)) a.1 e.1))

@@ -6,7 +6,7 @@ use Rattle.hp_base.specs.declared.value.Value.{Value}
 use Rattle.hp_tree.specs.Blocks.{Decl}
 use Rattle.hp_tree.specs.Expressions.{Expr}
 use Rattle.hp_tree.specs.ExpressionTypes.{typed_in, untyped}
-use Rattle.hp_tree.specs.Instant.{Step, Controls, Tail, Body, Guard, Assume, Enforce, Instant, part, top, Place as TreePlace}
+use Rattle.hp_tree.specs.Instant.{Step, Controls, Tail, Body, Observer, Assume, Enforce, Instant, part, top, Place as TreePlace}
 use Rattle.hp_tree.specs.Meaning.{Names, node_among, declares, controls_of, input_of, names_of}
 use Rattle.hp_tree.specs.Programs.{Contract, Node}
 use Rattle.hp_known.specs.Known.{lookup}
@@ -21,7 +21,7 @@ use Rattle.hp_contract.specs.Memory.{number_in, remembers_contract}
 use Rattle.hp_contract.specs.Slots.{is_int, slots_of_contract}
 use Rattle.hp_circuit.specs.Meaning.{truth}
 use Rattle.hp_wires.specs.Wired.{Held, held_at, Callees, absent}
-use Rattle.hp_wires.specs.WiredNodes.{wired_guard, shown_guard, next_guard}
+use Rattle.hp_wires.specs.WiredNodes.{wired_observer, shown_observer, next_observer}
 use Rattle.hp_wires.specs.WiredCallees.{callee_wires}
 use Rattle.hp_wiretyped.specs.Typed.{AreWires, ContractTyped}
 use Rattle.hp_wiretyped.specs.Kept.{ContractKept, ContractGiven}
@@ -36,7 +36,7 @@ use Rattle.hp_drawing.specs.Places.{top_place}
 use Rattle.hp_drawing.specs.DrawnExpressions.{Brings}
 use Rattle.hp_drawing.specs.DrawnBlocks.{drawn_block}
 use Rattle.hp_drawing.specs.DrawnNodes as drawing
-use Rattle.hp_drawing.specs.DrawnNodes.{contracts, guard, drawn_contract, body_layer, body_scope as drawn_body_scope, contract_scope, put_row, put_outputs, put_from, add_given, define_outputs, drawn_node, with_outputs, with_inputs, with_controls, node_scope}
+use Rattle.hp_drawing.specs.DrawnNodes.{contracts, observer, drawn_contract, body_layer, body_scope as drawn_body_scope, contract_scope, put_row, put_outputs, put_from, add_given, define_outputs, drawn_node, with_outputs, with_inputs, with_controls, node_scope}
 use Rattle.hp_drawn.specs.Solving.{Has}
 use Rattle.hp_drawn.specs.Drawing.{IsReady, AreShaped}
 use Rattle.hp_drawn.specs.Typing.{AreNumbered}
@@ -54,22 +54,22 @@ use Rattle.hp_drawn.proofs.ContractScopes.{found-none}
 
 -- ---- what is drawn of a node, with what the nodes bring that it calls
 
-abbrev pub guard_by : Brings → Told → Scope → Option Contract → Sketch → drawing.Guard × Sketch
-guard_by brings t z None s = (guard high high, s)
-guard_by brings t z (Some c) s = drawn_contract t brings z top_place c s
+abbrev pub observer_by : Brings → Told → Scope → Option Contract → Sketch → drawing.Observer × Sketch
+observer_by brings t z None s = (observer high high, s)
+observer_by brings t z (Some c) s = drawn_contract t brings z top_place c s
 
 module _ (brings : Brings) (t : Told) (n : Node) (s : Sketch) where
   abbrev pub rows_behind : Scope × Sketch
   rows_behind = node_scope t n s
 
-  abbrev pub guard_behind : drawing.Guard × Sketch
-  guard_behind = guard_by brings t rows_behind.0 n.contract (with_controls t n rows_behind.1)
+  abbrev pub observer_behind : drawing.Observer × Sketch
+  observer_behind = observer_by brings t rows_behind.0 n.contract (with_controls t n rows_behind.1)
 
   abbrev pub body_behind : Scope × Sketch
-  body_behind = drawn_block t brings (drawn_body_scope (body_layer t n (next_wire (with_outputs t n s)) (next_wire rows_behind.1)) rows_behind.0) top_place n.body guard_behind.1
+  body_behind = drawn_block t brings (drawn_body_scope (body_layer t n (next_wire (with_outputs t n s)) (next_wire rows_behind.1)) rows_behind.0) top_place n.body observer_behind.1
 
   abbrev pub node_by : Sketch
-  node_by = finish guard_behind.0.assume guard_behind.0.enforce (define_outputs body_behind.0 n.outputs (next_wire s) body_behind.1)
+  node_by = finish observer_behind.0.assume observer_behind.0.enforce (define_outputs body_behind.0 n.outputs (next_wire s) body_behind.1)
 
 pub same-node : (t : Told) (n : Node) → node_by contracts t n empty ≡ drawn_node t n
 same-node t n = by n.contract refl
@@ -79,28 +79,28 @@ same-node t n = by n.contract refl
 
 -- ---- the calls of a node
 
-abbrev pub guard_calls : Option Contract → (TreePlace → TreePlace) → List Placed
-guard_calls None w = []
-guard_calls (Some c) w = calls_in_block c.body (below Guard w) ++ (calls_told c.assume (below Assume w) ++ calls_told c.enforce (below Enforce w))
+abbrev pub observer_calls : Option Contract → (TreePlace → TreePlace) → List Placed
+observer_calls None w = []
+observer_calls (Some c) w = calls_in_block c.body (below Observer w) ++ (calls_told c.assume (below Assume w) ++ calls_told c.enforce (below Enforce w))
 
 told-called : (o : Option Expr) (w : TreePlace → TreePlace) → called (calls_told o w) ≡ calls_told o w
 told-called None w = refl
 told-called (Some e) w = all-called e w
 
-guard-called : (o : Option Contract) (w : TreePlace → TreePlace) → called (points_of_contract o w) ≡ guard_calls o w
-guard-called None w = refl
-guard-called (Some c) w =
-    called-join (points_of [] c.body (below Guard w)) (calls_told c.assume (below Assume w) ++ calls_told c.enforce (below Enforce w)) (calls_in_block c.body (below Guard w)) (calls_told c.assume (below Assume w) ++ calls_told c.enforce (below Enforce w)) (block-called [] c.body (below Guard w))
+observer-called : (o : Option Contract) (w : TreePlace → TreePlace) → called (points_of_contract o w) ≡ observer_calls o w
+observer-called None w = refl
+observer-called (Some c) w =
+    called-join (points_of [] c.body (below Observer w)) (calls_told c.assume (below Assume w) ++ calls_told c.enforce (below Enforce w)) (calls_in_block c.body (below Observer w)) (calls_told c.assume (below Assume w) ++ calls_told c.enforce (below Enforce w)) (block-called [] c.body (below Observer w))
     (called-join (calls_told c.assume (below Assume w)) (calls_told c.enforce (below Enforce w)) (calls_told c.assume (below Assume w)) (calls_told c.enforce (below Enforce w)) (told-called c.assume (below Assume w)) (told-called c.enforce (below Enforce w)))
 
 controls-called : (ds : List Decl) (w : TreePlace → TreePlace) → called (controls ds w) ≡ []
 controls-called [] w = refl
 controls-called (d ∷ ds) w = controls-called ds (below Tail w)
 
-pub node-called : (n : Node) → calls_of n ≡ guard_calls n.contract (λ p. p) ++ calls_in_block n.body (λ p. Body ∷ p)
+pub node-called : (n : Node) → calls_of n ≡ observer_calls n.contract (λ p. p) ++ calls_in_block n.body (λ p. Body ∷ p)
 node-called n =
-    called-join (controls (controls_of n.contract) (λ p. Controls ∷ p)) (points_of_contract n.contract (λ p. p) ++ points_of (names_of n.outputs) n.body (λ p. Body ∷ p)) [] (guard_calls n.contract (λ p. p) ++ calls_in_block n.body (λ p. Body ∷ p)) (controls-called (controls_of n.contract) (λ p. Controls ∷ p))
-    (called-join (points_of_contract n.contract (λ p. p)) (points_of (names_of n.outputs) n.body (λ p. Body ∷ p)) (guard_calls n.contract (λ p. p)) (calls_in_block n.body (λ p. Body ∷ p)) (guard-called n.contract (λ p. p)) (block-called (names_of n.outputs) n.body (λ p. Body ∷ p)))
+    called-join (controls (controls_of n.contract) (λ p. Controls ∷ p)) (points_of_contract n.contract (λ p. p) ++ points_of (names_of n.outputs) n.body (λ p. Body ∷ p)) [] (observer_calls n.contract (λ p. p) ++ calls_in_block n.body (λ p. Body ∷ p)) (controls-called (controls_of n.contract) (λ p. Controls ∷ p))
+    (called-join (points_of_contract n.contract (λ p. p)) (points_of (names_of n.outputs) n.body (λ p. Body ∷ p)) (observer_calls n.contract (λ p. p)) (calls_in_block n.body (λ p. Body ∷ p)) (observer-called n.contract (λ p. p)) (block-called (names_of n.outputs) n.body (λ p. Body ∷ p)))
 
 -- ---- a contract, if there is one
 
@@ -110,16 +110,16 @@ module _ (F : Frame) (K : FrameCalls F) (T : CalleesTyped F.types (callee_wires 
 
   abbrev pub PartAt : Step → Option Contract → Names → Names → Held → Instant → Type 0
   PartAt step o names last m now =
-      IsPart F (held_at step m) (part step now) (part step m.memory) (below step (λ p. p)) true false false (part step (remembers_contract F.types circuits.remembers o m.start [])) (part step (next_guard F.types circuits o names last m now))
-      (part step (shown_guard F.types circuits o names last m now)) (part step (wired_guard F.types circuits o names last m now))
+      IsPart F (held_at step m) (part step now) (part step m.memory) (below step (λ p. p)) true false false (part step (remembers_contract F.types circuits.remembers o m.start [])) (part step (next_observer F.types circuits o names last m now))
+      (part step (shown_observer F.types circuits o names last m now)) (part step (wired_observer F.types circuits o names last m now))
 
-  pub guard-drawn : (o : Option Contract) (V : Sight) (m : Held) (now : Instant) (d : Sketch) (ns : List ℕ) → AreNumbered F.types F.told V.scope → AreShaped V.scope V.has_last V.types V.drawn_scope → NamesAre F.types V.scope V.standing V.names → LastsAre F.types V.scope V.has_last V.last
+  pub observer-drawn : (o : Option Contract) (V : Sight) (m : Held) (now : Instant) (d : Sketch) (ns : List ℕ) → AreNumbered F.types F.told V.scope → AreShaped V.scope V.has_last V.types V.drawn_scope → NamesAre F.types V.scope V.standing V.names → LastsAre F.types V.scope V.has_last V.last
       → ContractRight V.standing o → ContractSound F.types (node_among F.earlier) V.scope V.has_last o → ContractKept F.types (CalleeKept F.types F.earlier) V.scope o m.start m.memory → ContractGiven F.types (CalleeGiven F.types F.earlier) V.scope o m.free → ContractTyped F.types (CalleeTyped F.types F.earlier) V.scope o now
-      → ContractDrawable V.scope o → PartAt Guard o V.names V.last m now → PartAt Assume o V.names V.last m now → PartAt Enforce o V.names V.last m now
+      → ContractDrawable V.scope o → PartAt Observer o V.names V.last m now → PartAt Assume o V.names V.last m now → PartAt Enforce o V.names V.last m now
       → Ready F K V top_place true false false d ns → Holds F K (slots_of_contract F.types F.outs F.callee o V.types (λ p. p)) d
-      → (ns' : List ℕ) × Draws F K d ns (slots_of_contract F.types F.outs F.callee o V.types (λ p. p)) (guard_calls o (λ p. p)) (guard_by F.brings F.told V.drawn_scope o d).1 ns'
-      × Has ns' (guard_by F.brings F.told V.drawn_scope o d).0.assume (truth (assumes now)) × Has ns' (guard_by F.brings F.told V.drawn_scope o d).0.enforce (truth (enforces now))
-  guard-drawn None V m now d ns N S nk lk r ok k g y dr pg pa pe rd h =
+      → (ns' : List ℕ) × Draws F K d ns (slots_of_contract F.types F.outs F.callee o V.types (λ p. p)) (observer_calls o (λ p. p)) (observer_by F.brings F.told V.drawn_scope o d).1 ns'
+      × Has ns' (observer_by F.brings F.told V.drawn_scope o d).0.assume (truth (assumes now)) × Has ns' (observer_by F.brings F.told V.drawn_scope o d).0.enforce (truth (enforces now))
+  observer-drawn None V m now d ns N S nk lk r ok k g y dr pg pa pe rd h =
       let high-is : (b : Bool) → b ≡ true → Has ns high (truth b) = λ b e. subst (λ c. Has ns high (truth c)) (sym e) rd.solved.high_is in (
         ns,
         nothing-drawn F.slot F.next (supposes_on F.showing F.wires) (owes_on F.showing F.wires) d ns rd.solved,
@@ -129,7 +129,7 @@ module _ (F : Frame) (K : FrameCalls F) (T : CalleesTyped F.types (callee_wires 
     where
       holds : Value → Bool
       holds v = holds_or_missing v
-  guard-drawn (Some c) V m now d ns N S nk lk r ok k g y dr pg pa pe rd h = contract-drawn F K T c V m now m.memory (λ p. p) top_place true false false d ns N S nk lk r ok k g y dr pg (λ z. pa) (λ z. pe) rd h
+  observer-drawn (Some c) V m now d ns N S nk lk r ok k g y dr pg pa pe rd h = contract-drawn F K T c V m now m.memory (λ p. p) top_place true false false d ns N S nk lk r ok k g y dr pg (λ z. pa) (λ z. pe) rd h
 
 -- ---- what the body sees
 

@@ -8,7 +8,7 @@ use Rattle.hp_base.specs.declared.value.Value.{Value}
 use Rattle.hp_base.specs.declared.value.Value.TheVariants.{Absent}
 use Rattle.hp_tree.specs.Blocks.{Decl}
 use Rattle.hp_tree.specs.ExpressionTypes.{Scope as ScopeOfTypes, typed_in, untyped}
-use Rattle.hp_tree.specs.Instant.{Step, Named, Inputs, Controls, Body, Guard, Assume, Enforce, Instant, part, Place as TreePlace}
+use Rattle.hp_tree.specs.Instant.{Step, Named, Inputs, Controls, Body, Observer, Assume, Enforce, Instant, part, Place as TreePlace}
 use Rattle.hp_tree.specs.Meaning.{Names, node_among, declares, controls_of, input_of}
 use Rattle.hp_tree.specs.Programs.{Node}
 use Rattle.hp_known.specs.Known.{lookup}
@@ -42,7 +42,7 @@ use Rattle.std.specs.Str.{bytes_eq}
 use Rattle.hp_drawn.proofs.Layers.{self-name}
 use Rattle.hp_drawing.specs.Places.{top_place}
 use Rattle.hp_drawing.specs.DrawnNodes as drawing
-use Rattle.hp_drawing.specs.DrawnNodes.{contracts, guard, drawn_contract, body_layer, body_scope as drawn_body_scope, contract_scope, put_row, put_outputs, put_from, add_given, define_outputs, drawn_node, with_outputs, with_inputs, with_controls, node_scope}
+use Rattle.hp_drawing.specs.DrawnNodes.{contracts, observer, drawn_contract, body_layer, body_scope as drawn_body_scope, contract_scope, put_row, put_outputs, put_from, add_given, define_outputs, drawn_node, with_outputs, with_inputs, with_controls, node_scope}
 use Rattle.hp_drawn.specs.Solving.{Has, Solved}
 use Rattle.hp_drawn.specs.Drawing.{AreHeld, AreLaid, IsSolved, IsTold, IsPlace, IsReady, IsStored, AreShaped}
 use Rattle.hp_drawn.specs.Typing.{AreNumbered}
@@ -59,7 +59,7 @@ use Rattle.hp_drawn.proofs.Blocks.{Ready, Holds, more-ready, more-has, then-draw
 use Rattle.hp_drawn.proofs.Wholes.{block-drawn}
 use Rattle.hp_drawn.proofs.Rows.{RowHas, row-more, holes-drawn, input-kind, control-kind, row-given}
 use Rattle.hp_drawn.proofs.ContractScopes.{output_values, outputs-wires, contract-scoped}
-use Rattle.hp_drawn.proofs.Nodes.{rows_behind, guard_behind, body_behind, node_by, same-node, guard_calls, node-called, guard-drawn, body-seen, body-shaped}
+use Rattle.hp_drawn.proofs.Nodes.{rows_behind, observer_behind, body_behind, node_by, same-node, observer_calls, node-called, observer-drawn, body-seen, body-shaped}
 use Rattle.std.proofs.lemmas.List.{append_assoc}
 use Rattle.hp_drawn.proofs.NodeParts.{row-is-given, controls-are-given, own-known, body-known, body-outer, body-last, contract-reads, read-defined, Same, outputs-defined, finished}
 
@@ -211,8 +211,8 @@ module _ (F : Frame) (class : Classing) (n : Node) (inputs : List Value) (m : He
   abbrev s4 : Sketch
   s4 = with_controls F.told n cs.1
 
-  abbrev gs : drawing.Guard × Sketch
-  gs = guard_behind F.brings F.told n empty
+  abbrev gs : drawing.Observer × Sketch
+  gs = observer_behind F.brings F.told n empty
 
   abbrev Vc : Sight
   Vc =
@@ -226,9 +226,9 @@ module _ (F : Frame) (class : Classing) (n : Node) (inputs : List Value) (m : He
         drawn_scope = cs.0;
       }
 
-  guarded : (ns5 : List ℕ) × Draws F K empty ns0 ((slots_a ++ slots_b) ++ (slots_c ++ slots_d)) (guard_calls n.contract here) gs.1 ns5 × Ready F K Vc top_place true false false gs.1 ns5 × AreShaped (inside_node around n) (known_lasts n.outputs no_lasts) seen cs.0
+  observed : (ns5 : List ℕ) × Draws F K empty ns0 ((slots_a ++ slots_b) ++ (slots_c ++ slots_d)) (observer_calls n.contract here) gs.1 ns5 × Ready F K Vc top_place true false false gs.1 ns5 × AreShaped (inside_node around n) (known_lasts n.outputs no_lasts) seen cs.0
       × RowHas ns5 (next_wire empty) values × RowHas ns5 (next_wire s1) inputs × RowHas ns5 (next_wire cs.1) own_values × Has ns5 gs.0.assume (truth (assumes now)) × Has ns5 gs.0.enforce (truth (enforces now))
-  guarded =
+  observed =
       let r = scoped in
       let h3 = behind-held F K empty ns0 (slots_a ++ slots_b) [] cs.1 r.0 all_slots r.1 held-all in
       let c = row-given F.slot F.next sup owe F.raw F.given control (control-kind F.slot F.next sup owe F.raw F.given) F.types F.told role.Control (controls_of n.contract) own_values (below Controls here) cs.1 r.0 (row_wires F.types (controls_of n.contract) (part Controls m.free) I.fits.0)
@@ -236,15 +236,15 @@ module _ (F : Frame) (class : Classing) (n : Node) (inputs : List Value) (m : He
       let h4 = behind-held F K cs.1 r.0 slots_c [] s4 c.0 (slots_d ++ slots_e) c.1 h3 in
       let more4 = more-has F K cs.1 r.0 slots_c [] s4 c.0 c.1 in
       let rd4 = more-ready F K Vc top_place true false false cs.1 r.0 slots_c [] s4 c.0 c.1 r.2 in
-      let g = guard-drawn F K T n.contract Vc m now s4 c.0 numbered-own r.3 (contract-reads F.types circuits (node_among F.earlier) around n inputs now ok.0.0 ok.0.1 I.values I.typed.0) (outputs_last F.types (node_among F.earlier) (inside_node around n) n.outputs m.memory ok.0.1 I.shape.0)
-      I.accepted.0.clocks.contract ok.1.1.1.1.1 I.shape.1.1 I.fits.1.1 I.typed.1.1 I.drawable.contract (node-part Guard (λ p. sym (I.given (Guard ∷ p)))) (node-part Assume (λ p. sym (I.given (Assume ∷ p)))) (node-part Enforce (λ p. sym (I.given (Enforce ∷ p)))) rd4
+      let g = observer-drawn F K T n.contract Vc m now s4 c.0 numbered-own r.3 (contract-reads F.types circuits (node_among F.earlier) around n inputs now ok.0.0 ok.0.1 I.values I.typed.0) (outputs_last F.types (node_among F.earlier) (inside_node around n) n.outputs m.memory ok.0.1 I.shape.0)
+      I.accepted.0.clocks.contract ok.1.1.1.1.1 I.shape.1.1 I.fits.1.1 I.typed.1.1 I.drawable.contract (node-part Observer (λ p. sym (I.given (Observer ∷ p)))) (node-part Assume (λ p. sym (I.given (Assume ∷ p)))) (node-part Enforce (λ p. sym (I.given (Enforce ∷ p)))) rd4
       (held-first F.slot F.raw F.given slots_d slots_e (length s4.slots) h4) in
-      let more5 = more-has F K s4 c.0 slots_d (guard_calls n.contract here) gs.1 g.0 g.1 in
+      let more5 = more-has F K s4 c.0 slots_d (observer_calls n.contract here) gs.1 g.0 g.1 in
       let more : (w k : ℕ) → Has r.0 w k → Has g.0 w k = λ w k q. more5 w k (more4 w k q) in
-      let d1 = then-drawn F K cs.1 r.0 slots_c [] s4 c.0 slots_d (guard_calls n.contract here) gs.1 g.0 c.1 g.1 in (
+      let d1 = then-drawn F K cs.1 r.0 slots_c [] s4 c.0 slots_d (observer_calls n.contract here) gs.1 g.0 c.1 g.1 in (
         g.0,
-        then-drawn F K empty ns0 (slots_a ++ slots_b) [] cs.1 r.0 (slots_c ++ slots_d) (guard_calls n.contract here) gs.1 g.0 r.1 d1,
-        more-ready F K Vc top_place true false false s4 c.0 slots_d (guard_calls n.contract here) gs.1 g.0 g.1 rd4,
+        then-drawn F K empty ns0 (slots_a ++ slots_b) [] cs.1 r.0 (slots_c ++ slots_d) (observer_calls n.contract here) gs.1 g.0 r.1 d1,
+        more-ready F K Vc top_place true false false s4 c.0 slots_d (observer_calls n.contract here) gs.1 g.0 g.1 rd4,
         r.3,
         row-more r.0 g.0 (next_wire empty) values more r.4,
         row-more r.0 g.0 (next_wire s1) inputs more r.5,
@@ -284,11 +284,11 @@ module _ (F : Frame) (class : Classing) (n : Node) (inputs : List Value) (m : He
       let q = outputs_last F.types (node_among F.earlier) (inside_node around n) n.outputs m.memory ok.0.1 I.shape.0 x h in
       q.1.0 ∙ ap Some (same_Some q.0 t (sym (still_known x (controls_of n.contract) (inside_node around n) q.0 q.1.0) ∙ l))
 
-  with-body : (ns6 : List ℕ) × Draws F K empty ns0 (slots_a ++ (slots_b ++ (slots_c ++ (slots_d ++ slots_e)))) (guard_calls n.contract here ++ body_calls) bs.1 ns6 × ((x : List ℕ) → Has ns6 (value_in bs.0 x).wire (number_in (read_of n.body body_reads (part Body now) x)))
+  with-body : (ns6 : List ℕ) × Draws F K empty ns0 (slots_a ++ (slots_b ++ (slots_c ++ (slots_d ++ slots_e)))) (observer_calls n.contract here ++ body_calls) bs.1 ns6 × ((x : List ℕ) → Has ns6 (value_in bs.0 x).wire (number_in (read_of n.body body_reads (part Body now) x)))
       × RowHas ns6 (next_wire empty) values × Has ns6 gs.0.assume (truth (assumes now)) × Has ns6 gs.0.enforce (truth (enforces now))
   with-body =
-      let r = guarded in
-      let gc = guard_calls n.contract here in
+      let r = observed in
+      let gc = observer_calls n.contract here in
       let front = (slots_a ++ slots_b) ++ (slots_c ++ slots_d) in
       let held : Holds F K (front ++ slots_e) empty = subst (λ l. Holds F K l empty) (ap (λ l. (slots_a ++ slots_b) ++ l) (sym (append_assoc slots_c slots_d slots_e)) ∙ sym (append_assoc (slots_a ++ slots_b) (slots_c ++ slots_d) slots_e)) held-all in
       let h5 = behind-held F K empty ns0 front gc gs.1 r.0 slots_e r.1 held in
@@ -321,7 +321,7 @@ module _ (F : Frame) (class : Classing) (n : Node) (inputs : List Value) (m : He
   node-drew : NodeDrew (node_by F.brings F.told n empty)
   node-drew =
       let r = with-body in
-      let cl = guard_calls n.contract here ++ body_calls in
+      let cl = observer_calls n.contract here ++ body_calls in
       let named : (x : List ℕ) → declares n.outputs x ≡ true → read_of n.body body_reads (part Body now) x ≡ now (Named x ∷ []) = λ x q.
       read-defined n.body body_reads (part Body now) x (defined_here F.types (node_among F.earlier) n.body n.outputs x ok.1.1.1.0 q) ∙ sym (ap (λ i. i (Named x ∷ [])) I.solves ∙ ap (λ b. if b then now (Body ∷ Named x ∷ []) else Absent) q)
       in

@@ -27,7 +27,7 @@ use Rattle.hp_drawing.specs.Sketch.{Sketch, high, next_wire, push, add_clock, no
 use Rattle.hp_drawing.specs.Places.{top_place}
 use Rattle.hp_drawing.specs.Scopes.{Scope, Layer, unseen_entry, entry_in, add, value_by, shape_by, or_found, found, outer_layers, value_in, last_in, shapes_in, push_values, pop_values, push_lasts}
 use Rattle.hp_drawing.specs.DrawnBlocks.{drawn_block}
-use Rattle.hp_drawing.specs.DrawnNodes.{put_row, put_outputs, contract_scope, body_layer, body_scope, contracts, define_from, define_outputs, drawn_guard, drawn_body, with_outputs, with_inputs, with_controls, node_scope, drawn_node}
+use Rattle.hp_drawing.specs.DrawnNodes.{put_row, put_outputs, contract_scope, body_layer, body_scope, contracts, define_from, define_outputs, drawn_observer, drawn_body, with_outputs, with_inputs, with_controls, node_scope, drawn_node}
 use Rattle.hp_drawn.specs.Drawable.{ContractDrawable}
 use Rattle.hp_drawn.proofs.Layers.{same-name, self-name, Knows, knows-add, knows-added, or-cases}
 use Rattle.hp_drawn.proofs.Own.{AllEntries}
@@ -199,20 +199,20 @@ module _ (types : List TypeDecl) (t : Told) (F : FirstsFit types t) (items : Lis
 
   -- ---- the contract
 
-  guard-step : (z : Scope) (s : Sketch) → IsFormed [] s → AreSeen t own lasting none_lacks z s → (let d = drawn_guard t z n.contract s in Step [] s d.1 × Has d.1.shapes d.0.assume Truth × Has d.1.shapes d.0.enforce Truth)
-  guard-step z s a seen = by n.contract refl
+  observer-step : (z : Scope) (s : Sketch) → IsFormed [] s → AreSeen t own lasting none_lacks z s → (let d = drawn_observer t z n.contract s in Step [] s d.1 × Has d.1.shapes d.0.assume Truth × Has d.1.shapes d.0.enforce Truth)
+  observer-step z s a seen = by n.contract refl
     where
-      by : (o : Option Contract) → n.contract ≡ o → (let d = drawn_guard t z o s in Step [] s d.1 × Has d.1.shapes d.0.assume Truth × Has d.1.shapes d.0.enforce Truth)
+      by : (o : Option Contract) → n.contract ≡ o → (let d = drawn_observer t z o s in Step [] s d.1 × Has d.1.shapes d.0.assume Truth × Has d.1.shapes d.0.enforce Truth)
       by None e = (still [] s a, a.high_is, a.high_is)
       by (Some c) e =
           contract-step types among t contracts K F c own lasting z top_place [] s (own-counted types t F items n r) (subst (ContractSound types among own lasting) e r.sound.1.1.1.1.1) (subst (ContractDrawable own) e r.drawable.contract) (subst PlainContract e r.plain_contract)
           (subst (ContractHasFirsts types) e r.firsts.contract) (record { formed = a; placed = top-placed s a; seen = seen })
 
   rest-step : (z : Scope) (inputs controls outputs : ℕ) (s : Sketch) → IsFormed [] s → outer_layers z.values ≡ [] → AreSeen t own lasting none_lacks z s → AreRow t s inputs n.inputs → AreRow t s controls (controls_of n.contract) → AreHoles t s outputs n.outputs
-      → Step [] s (let g = drawn_guard t z n.contract s in finish g.0.assume g.0.enforce (drawn_body t z (body_layer t n inputs controls) n outputs g.1))
+      → Step [] s (let g = drawn_observer t z n.contract s in finish g.0.assume g.0.enforce (drawn_body t z (body_layer t n inputs controls) n outputs g.1))
   rest-step z inputs controls outputs s a alone seen i c o =
-      let g = drawn_guard t z n.contract s in
-      let x = guard-step z s a seen in
+      let g = drawn_observer t z n.contract s in
+      let x = observer-step z s a seen in
       let l = body_layer t n inputs controls in
       let d = drawn_body t z l n outputs g.1 in
       let y = body-step z inputs controls outputs g.1 x.0.formed alone (seen-on t own lasting none_lacks z [] s g.1 x.0 seen) (row-on t [] s g.1 inputs n.inputs x.0 i) (row-on t [] s g.1 controls (controls_of n.contract) x.0 c) (holes-on t [] s g.1 outputs n.outputs x.0 o) in

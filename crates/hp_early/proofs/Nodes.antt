@@ -3,7 +3,7 @@ use Rattle.std.proofs.Common.{◌≡◌, ℕ, Bool, true, false, List, [], ◌�
 use Rattle.hp_tree.specs.declared.program.Item.{Item}
 use Rattle.hp_tree.specs.Blocks.{Decl}
 use Rattle.hp_tree.specs.Expressions.{Expr}
-use Rattle.hp_tree.specs.Instant.{Body, Guard, Assume, Enforce, Place}
+use Rattle.hp_tree.specs.Instant.{Body, Observer, Assume, Enforce, Place}
 use Rattle.hp_tree.specs.Meaning.{controls_of, node_among}
 use Rattle.hp_tree.specs.Programs.{Contract, Node}
 use Rattle.hp_causal.specs.Sources.{only}
@@ -20,9 +20,9 @@ use Rattle.hp_drawing.specs.Places.{top_place, called_at}
 use Rattle.hp_drawing.specs.Scopes.{Scope}
 use Rattle.hp_drawing.specs.DrawnExpressions.{Brings}
 use Rattle.hp_drawing.specs.DrawnBlocks.{drawn_block}
-use Rattle.hp_drawing.specs.DrawnNodes.{contract_scope, body_layer, body_scope, drawn_told, drawn_contract, no_brings, drawn_called_if, contracts, add_one_given, add_given, define_from, drawn_guard, with_outputs, with_inputs, with_controls, node_scope, node_rows, drawn_node}
+use Rattle.hp_drawing.specs.DrawnNodes.{contract_scope, body_layer, body_scope, drawn_told, drawn_contract, no_brings, drawn_called_if, contracts, add_one_given, add_given, define_from, drawn_observer, with_outputs, with_inputs, with_controls, node_scope, node_rows, drawn_node}
 use Rattle.hp_steered.specs.Placed.{Held, none_held, ToldPlaced, ContractPlaced, CalledPlaced, contracts_held}
-use Rattle.hp_steered.specs.Nodes.{GuardPlaced, NodePlaced}
+use Rattle.hp_steered.specs.Nodes.{ObserverPlaced, NodePlaced}
 use Rattle.hp_steered.specs.Laid.{laid, slot_place}
 use Rattle.hp_steered.specs.Stands.{NodeStands}
 use Rattle.hp_steered.proofs.StandingNodes.{node-placed}
@@ -60,11 +60,11 @@ module _ (place : ℕ → Place) (clocks : FreeClocks) where
     told-goes None z spot own at s h f l = flags.stays place clocks s
     told-goes (Some e) z spot own at s h f l = expr-goes place clocks t brings held b z e spot own [] at s h f l
 
-    contract-goes : (c : Contract) (z : Scope) (spot : Spot) (own : Bool) (at : Place → Place) (s : Sketch) → At s spot own → Frees place clocks (λ p. at (Guard ∷ p)) own (free_in_block c.body) → Frees place clocks (λ p. at (Assume ∷ p)) own (free_in_told c.assume)
+    contract-goes : (c : Contract) (z : Scope) (spot : Spot) (own : Bool) (at : Place → Place) (s : Sketch) → At s spot own → Frees place clocks (λ p. at (Observer ∷ p)) own (free_in_block c.body) → Frees place clocks (λ p. at (Assume ∷ p)) own (free_in_told c.assume)
         → Frees place clocks (λ p. at (Enforce ∷ p)) own (free_in_told c.enforce) → ((q : Place) → ContractPlaced (standing place q) t brings (held q) z spot c (λ p. only (at p)) s) → G s (drawn_contract t brings z spot c s).1
     contract-goes c z spot own at s h f u v l =
         let inner = drawn_block t brings z spot c.body s in
-        let g0 = block-goes place clocks t brings held b c.body z spot own (λ p. at (Guard ∷ p)) s h f (λ r. (l r).0) in
+        let g0 = block-goes place clocks t brings held b c.body z spot own (λ p. at (Observer ∷ p)) s h f (λ r. (l r).0) in
         let assume = drawn_told t brings inner.0 spot c.assume inner.1 in
         let g1 = on s inner.1 assume.1 g0 (told-goes c.assume inner.0 spot own (λ p. at (Assume ∷ p)) inner.1 (behind s inner.1 spot own g0 h) u (λ r. (l r).1)) in
         on s assume.1 (drawn_told t brings inner.0 spot c.enforce assume.1).1 g1 (told-goes c.enforce inner.0 spot own (λ p. at (Enforce ∷ p)) assume.1 (behind s assume.1 spot own g1 h) v (λ r. (l r).2))
@@ -76,7 +76,7 @@ module _ (place : ℕ → Place) (clocks : FreeClocks) where
     none-inside : (at : Place → Place) (free : FreeClocks) → ((p : Place) → clocks (at p) ≡ None) → Frees place clocks at false free
     none-inside at free f p = f p
 
-    called-goes : (o : Option Contract) (spot : Spot) (n : Node) (c : Callee) (s : Sketch) (at : Place → Place) → HasBase s.clocks → ((p : Place) → clocks (at (Guard ∷ p)) ≡ None) → ((p : Place) → clocks (at (Assume ∷ p)) ≡ None) → ((p : Place) → clocks (at (Enforce ∷ p)) ≡ None)
+    called-goes : (o : Option Contract) (spot : Spot) (n : Node) (c : Callee) (s : Sketch) (at : Place → Place) → HasBase s.clocks → ((p : Place) → clocks (at (Observer ∷ p)) ≡ None) → ((p : Place) → clocks (at (Assume ∷ p)) ≡ None) → ((p : Place) → clocks (at (Enforce ∷ p)) ≡ None)
         → ((q : Place) → CalledPlaced (standing place q) t spot n o c s (λ p. only (at p))) → G s (drawn_called_if t spot n o c s)
     called-goes None spot n c s at base f u v l = flags.stays place clocks s
     called-goes (Some contract) spot n c s at base f u v l =
@@ -87,7 +87,7 @@ module _ (place : ℕ → Place) (clocks : FreeClocks) where
         let g1 = on s inside.1 z.1 g0 (scope-runs G (going place clocks) t inside.0 n c.inputs c.outputs inside.1) in
         let here : At z.1 inside.0 false = record { based = base-later s.clocks z.1.clocks g1.later base; clock_is = o.1; outside = o.0 } in
         let d = drawn_contract t no_brings z.0 inside.0 contract z.1 in
-        let g2 = on s z.1 d.1 g1 (contract-goes t no_brings (λ q. none_held) none-brings contract z.0 inside.0 false at z.1 here (none-inside (λ p. at (Guard ∷ p)) (free_in_block contract.body) f) (none-inside (λ p. at (Assume ∷ p)) (free_in_told contract.assume) u)
+        let g2 = on s z.1 d.1 g1 (contract-goes t no_brings (λ q. none_held) none-brings contract z.0 inside.0 false at z.1 here (none-inside (λ p. at (Observer ∷ p)) (free_in_block contract.body) f) (none-inside (λ p. at (Assume ∷ p)) (free_in_told contract.assume) u)
         (none-inside (λ p. at (Enforce ∷ p)) (free_in_told contract.enforce) v) l) in
         on s d.1 (add_call inside.0.here d.0.assume d.0.enforce d.1) g2 (call-runs G (going place clocks) inside.0.here d.0.assume d.0.enforce d.1)
 
@@ -100,14 +100,14 @@ module _ (place : ℕ → Place) (clocks : FreeClocks) where
     given-go r [] s h = flags.stays place clocks s
     given-go r (d ∷ ds) s h = let s1 = add_one_given r (type_shape t d.ty) s in on s s1 (add_given t r ds s1) (given-runs G (going place clocks) r (type_shape t d.ty) s h) (given-go r ds s1 h)
 
-    guard-goes : (o : Option Contract) (z : Scope) (s : Sketch) → At s top_place true → ((c : Contract) → o ≡ Some c → Frees place clocks (λ p. Guard ∷ p) true (free_in_block c.body) × Frees place clocks (λ p. Assume ∷ p) true (free_in_told c.assume) × Frees place clocks (λ p. Enforce ∷ p) true (free_in_told c.enforce))
-        → ((q : Place) → GuardPlaced (standing place q) t z o s) → G s (drawn_guard t z o s).1
-    guard-goes None z s h f l = flags.stays place clocks s
-    guard-goes (Some c) z s h f l = let k = f c refl in contract-goes t contracts (λ q. contracts_held (standing place q) t) contracts-go c z top_place true (λ p. p) s h k.0 k.1 k.2 l
+    observer-goes : (o : Option Contract) (z : Scope) (s : Sketch) → At s top_place true → ((c : Contract) → o ≡ Some c → Frees place clocks (λ p. Observer ∷ p) true (free_in_block c.body) × Frees place clocks (λ p. Assume ∷ p) true (free_in_told c.assume) × Frees place clocks (λ p. Enforce ∷ p) true (free_in_told c.enforce))
+        → ((q : Place) → ObserverPlaced (standing place q) t z o s) → G s (drawn_observer t z o s).1
+    observer-goes None z s h f l = flags.stays place clocks s
+    observer-goes (Some c) z s h f l = let k = f c refl in contract-goes t contracts (λ q. contracts_held (standing place q) t) contracts-go c z top_place true (λ p. p) s h k.0 k.1 k.2 l
 
     abbrev pub FreesOf : Node → Type 0
     FreesOf n =
-        ((c : Contract) → n.contract ≡ Some c → Frees place clocks (λ p. Guard ∷ p) true (free_in_block c.body) × Frees place clocks (λ p. Assume ∷ p) true (free_in_told c.assume) × Frees place clocks (λ p. Enforce ∷ p) true (free_in_told c.enforce))
+        ((c : Contract) → n.contract ≡ Some c → Frees place clocks (λ p. Observer ∷ p) true (free_in_block c.body) × Frees place clocks (λ p. Assume ∷ p) true (free_in_told c.assume) × Frees place clocks (λ p. Enforce ∷ p) true (free_in_told c.enforce))
         × Frees place clocks (λ p. Body ∷ p) true (free_in_block n.body)
 
     -- what stands before the contract
@@ -129,8 +129,8 @@ module _ (place : ℕ → Place) (clocks : FreeClocks) where
         let start : At empty top_place true = record { based = (empty-flagged place clocks).1; clock_is = refl; outside = refl } in
         let here = behind empty s top_place true (rows-go n) start in
         let rows = node_rows t n empty z.1 in
-        let g = drawn_guard t z.0 n.contract s in
-        let g4 = guard-goes n.contract z.0 s here f.0 (λ q. (l q).0) in
+        let g = drawn_observer t z.0 n.contract s in
+        let g4 = observer-goes n.contract z.0 s here f.0 (λ q. (l q).0) in
         let y = body_scope (body_layer t n rows.inputs rows.controls) z.0 in
         let d = drawn_block t contracts y top_place n.body g.1 in
         let g5 = on s g.1 d.1 g4 (block-goes place clocks t contracts (λ q. contracts_held (standing place q) t) contracts-go n.body y top_place true (λ p. Body ∷ p) g.1 (behind s g.1 top_place true g4 here) f.1 (λ q. (l q).1)) in
@@ -146,10 +146,10 @@ module _ (place : ℕ → Place) (clocks : FreeClocks) where
 body-free : (n : Node) (p : Place) → own_free n (Body ∷ p) ≡ free_in_block n.body p
 body-free n p = refl
 
-contract-free : (n : Node) (c : Contract) → n.contract ≡ Some c → ((p : Place) → own_free n (Guard ∷ p) ≡ free_in_block c.body p) × ((p : Place) → own_free n (Assume ∷ p) ≡ free_in_told c.assume p) × ((p : Place) → own_free n (Enforce ∷ p) ≡ free_in_told c.enforce p)
+contract-free : (n : Node) (c : Contract) → n.contract ≡ Some c → ((p : Place) → own_free n (Observer ∷ p) ≡ free_in_block c.body p) × ((p : Place) → own_free n (Assume ∷ p) ≡ free_in_told c.assume p) × ((p : Place) → own_free n (Enforce ∷ p) ≡ free_in_told c.enforce p)
 contract-free n c e =
     let by : (p : Place) → own_free n p ≡ by_step ((Body, free_in_block n.body) ∷ free_in_contract (Some c)) p = λ p. ap (λ o. by_step ((Body, free_in_block n.body) ∷ free_in_contract o) p) e in
-    (λ p. by (Guard ∷ p), λ p. by (Assume ∷ p), λ p. by (Enforce ∷ p))
+    (λ p. by (Observer ∷ p), λ p. by (Assume ∷ p), λ p. by (Enforce ∷ p))
 
 pub node-frees : (place : ℕ → Place) (t : Told) (n : Node) → FreesOf place (own_free n) t n
 node-frees place t n = (contract-free n, body-free n)

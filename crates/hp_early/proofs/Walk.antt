@@ -3,7 +3,7 @@ use Rattle.std.proofs.Common.{◌≡◌, ℕ, ◌+◌, Bool, true, false, ◌&&�
 use Rattle.hp_base.specs.declared.span.Span.{Span}
 use Rattle.hp_tree.specs.Blocks.{Decl}
 use Rattle.hp_tree.specs.Expressions.{Expr, constant, variable, last_of, one, two, choose, pre, fby, arrow, when_is, merge, call, Exprs, no_expr, more_exprs, Parts, no_part, more_parts}
-use Rattle.hp_tree.specs.Instant.{Step, Named, Guard, Assume, Enforce, Head, Tail, First, Second, Third, Args, Instance, Place, Clock, without}
+use Rattle.hp_tree.specs.Instant.{Step, Named, Observer, Assume, Enforce, Head, Tail, First, Second, Third, Args, Instance, Place, Clock, without}
 use Rattle.hp_tree.specs.Meaning as meaning
 use Rattle.hp_tree.specs.Operators.{is_comparison}
 use Rattle.hp_tree.specs.Programs.{Node}
@@ -60,7 +60,7 @@ module _ (place : ℕ → Place) (clocks : FreeClocks) where
   -- What the contract of a node brings that is called goes on; nothing in it stands free in the node itself.
   abbrev pub BringsGo : Told → Brings → (Place → Held) → Type 0
   BringsGo t brings held =
-      (spot : Spot) (n : Node) (c : Callee) (s : Sketch) (at : Place → Place) → HasBase s.clocks → ((p : Place) → clocks (at (Guard ∷ p)) ≡ None) → ((p : Place) → clocks (at (Assume ∷ p)) ≡ None) → ((p : Place) → clocks (at (Enforce ∷ p)) ≡ None)
+      (spot : Spot) (n : Node) (c : Callee) (s : Sketch) (at : Place → Place) → HasBase s.clocks → ((p : Place) → clocks (at (Observer ∷ p)) ≡ None) → ((p : Place) → clocks (at (Assume ∷ p)) ≡ None) → ((p : Place) → clocks (at (Enforce ∷ p)) ≡ None)
       → ((q : Place) → held q spot n c s (λ p. only (at p))) → G s (brings t spot n c s)
 
   module _ (t : Told) (brings : Brings) (held : Place → Held) (b : BringsGo t brings held) (z : Scope) where
@@ -105,7 +105,7 @@ module _ (place : ℕ → Place) (clocks : FreeClocks) where
         let to_ins = both s outs ins (both s reads.1 outs g0 g1) g2 in
         let c0 = callee_of (next_wire reads.1) (next_wire outs) reads.0 in
         both s ins (brings t spot n c0 ins) to_ins
-        (b spot n c0 ins inside (base-later s.clocks ins.clocks to_ins.later h.based) (λ p. c (Guard ∷ p) ∙ none-own own) (λ p. c (Assume ∷ p) ∙ none-own own) (λ p. c (Enforce ∷ p) ∙ none-own own) (λ q. (l q).1))
+        (b spot n c0 ins inside (base-later s.clocks ins.clocks to_ins.later h.based) (λ p. c (Observer ∷ p) ∙ none-own own) (λ p. c (Assume ∷ p) ∙ none-own own) (λ p. c (Enforce ∷ p) ∙ none-own own) (λ q. (l q).1))
 
     call-begins : (f : List ℕ) (spot : Spot) (own : Bool) (clock : Clock) (at : Place → Place) (s : Sketch) → At s spot own clock → Frees (λ p. at (Instance ∷ p)) own (outputs_free clock)
         → ((q : Place) → CallPlaced (standing place q) t brings (held q) spot (t.nodes f) (λ p. only (at p)) s) → G s (begin_call t brings spot f s).1

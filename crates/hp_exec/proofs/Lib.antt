@@ -38,4 +38,5 @@ pub mod SeatLaws
 pub mod InlineLaws
 pub mod CalledLaws
 pub mod WholeLaws
+mod FlatKinds
 mod KindedLaws

@@ -2,7 +2,9 @@
 use Rattle.std.proofs.Common.{◌≡◌, Bool, true, false, if◌then◌else◌, List, [], ◌∷◌, Option, None, Some, ◌⊎◌, inl, inr, fold, refl, sym, ap, subst, ◌∙◌, arith}
 use Rattle.std.proofs.lemmas.Bool.Decides.{nat_tests}
 use Rattle.hp_base.specs.declared.span.Span.{Span}
-use Rattle.hp_expand.specs.Shapes.{Found, Breach, Mark, plain_at, bound_at, integer_at, nothing, see, sooner, is_before, found_after, breach_at, earlier, breach_among, in_contract, in_block}
+use Rattle.hp_first.specs.First.{is_before, itself, sooner, merged}
+use Rattle.hp_first.proofs.FirstLaws.{not_before_trans}
+use Rattle.hp_expand.specs.Shapes.{Found, Breach, Mark, plain_at, bound_at, integer_at, nothing, see, found_after, breach_at, place_of, breach_among, in_contract, in_block}
 use Rattle.hp_expand.specs.declared.error.Shape.{Shape}
 use Rattle.hp_expand.specs.declared.error.Shape.TheVariants.{Call, Inline, WrongType}
 use Rattle.hp_expand.specs.FirstBreach.{IsPlain, IsBound, IsInteger, IsBroken, FirstIsNamed}
@@ -14,9 +16,6 @@ never-itself p = grind (arith, nat_tests)
 before-both : (x q r : Span) → is_before r q ≡ true → is_before x q ≡ false → is_before x r ≡ false
 before-both x q r h k = grind (arith, nat_tests)
 
-behind-both : (x q r : Span) → is_before r q ≡ false → is_before x r ≡ false → is_before x q ≡ false
-behind-both x q r h k = grind (arith, nat_tests)
-
 turned : (q r : Span) → is_before r q ≡ true → is_before q r ≡ false
 turned q r h = grind (arith, nat_tests)
 
@@ -26,7 +25,7 @@ Least None P = (p : Span) → P p → ⊥
 Least (Some q) P = P q × ((p : Span) → P p → is_before p q ≡ false)
 
 -- one place more
-least-more : (P : Span → Type 0) (o : Option Span) (at : Span) → Least o P → Least (sooner o at) (λ p. P p ⊎ (p ≡ at))
+least-more : (P : Span → Type 0) (o : Option Span) (at : Span) → Least o P → Least (sooner itself o at) (λ p. P p ⊎ (p ≡ at))
 least-more P None at h = (inr refl, λ p k. by p k)
   where
     by : (p : Span) → P p ⊎ (p ≡ at) → is_before p at ≡ false
@@ -114,7 +113,7 @@ first-at : (shape : Shape) (o : Option Span) (M : Span → Type 0) → Least o M
 first-at shape None M h = λ s p k. h p k.1
 first-at shape (Some q) M h = ((refl, h.0), λ s p k. h.1 p k.1)
 
-first-both : (P Q : Shape → Span → Type 0) (a b : Option Breach) → First a P → First b Q → First (earlier a b) (λ s p. P s p ⊎ Q s p)
+first-both : (P Q : Shape → Span → Type 0) (a b : Option Breach) → First a P → First b Q → First (merged place_of a b) (λ s p. P s p ⊎ Q s p)
 first-both P Q None None h k = λ s p. by s p
   where
     by : (s : Shape) (p : Span) → P s p ⊎ Q s p → ⊥
@@ -138,7 +137,7 @@ first-both P Q (Some a) (Some b) h k = by (is_before b.at a.at) refl
 
     to_a : is_before b.at a.at ≡ false → (s : Shape) (p : Span) → P s p ⊎ Q s p → is_before p a.at ≡ false
     to_a e s p (inl x) = h.1 s p x
-    to_a e s p (inr x) = behind-both p a.at b.at e (k.1 s p x)
+    to_a e s p (inr x) = not_before_trans p b.at a.at (k.1 s p x) e
 
     by : (d : Bool) → is_before b.at a.at ≡ d → First (if◌then◌else◌ {A = Option Breach} d (Some b) (Some a)) (λ s p. P s p ⊎ Q s p)
     by true e = (inr k.0, to_b e)
@@ -175,7 +174,7 @@ module _ (cs bs : List Mark) where
       let others = begun (IsBound bs) b.bound (bound-least bs nothing (λ p. ⊥) (λ p k. k)) in
       first-same Apart (IsBroken cs bs) (breach_among c b) joined parted
       (first-both (λ s p. ((s ≡ Call) × IsPlain cs p) ⊎ ((s ≡ Inline) × IsBound cs p)) (λ s p. ((s ≡ WrongType) × IsInteger cs p) ⊎ ((s ≡ Inline) × IsBound bs p))
-      (earlier (breach_at Call c.plain) (breach_at Inline c.bound)) (earlier (breach_at WrongType c.integer) (breach_at Inline b.bound))
+      (merged place_of (breach_at Call c.plain) (breach_at Inline c.bound)) (merged place_of (breach_at WrongType c.integer) (breach_at Inline b.bound))
       (first-both (λ s p. (s ≡ Call) × IsPlain cs p) (λ s p. (s ≡ Inline) × IsBound cs p) (breach_at Call c.plain) (breach_at Inline c.bound)
       (first-at Call c.plain (IsPlain cs) calls) (first-at Inline c.bound (IsBound cs) inlines))
       (first-both (λ s p. (s ≡ WrongType) × IsInteger cs p) (λ s p. (s ≡ Inline) × IsBound bs p) (breach_at WrongType c.integer) (breach_at Inline b.bound)

@@ -9,10 +9,12 @@ use Rattle.hp_base.specs.declared.span.Span.{Span}
 use Rattle.hp_tree.specs.declared.program.Item.{Item}
 use Rattle.hp_tree.specs.declared.program.Item.TheVariants.{TypeItem, NodeItem}
 use Rattle.hp_tree.specs.Programs.{Node}
+use Rattle.hp_first.specs.First.{itself, merged}
+use Rattle.hp_first.proofs.FirstLaws.{sooner-found, merged-none}
 use Rattle.hp_expand.specs.Sizes as sizes
 use Rattle.hp_expand.specs.Sizes.{Size}
 use Rattle.hp_expand.specs.Shapes as shapes
-use Rattle.hp_expand.specs.Shapes.{Form, Found, Breach, Mark, plain_at, bound_at, integer_at, nothing, see, sooner, is_before, found_after, breach_at, earlier, breach_among, breach_of}
+use Rattle.hp_expand.specs.Shapes.{Form, Found, Breach, Mark, plain_at, bound_at, integer_at, nothing, see, found_after, breach_at, place_of, breach_among, breach_of}
 use Rattle.hp_expand.specs.declared.error.Shape.{Shape}
 use Rattle.hp_expand.specs.declared.error.Shape.TheVariants.{Call, Inline, WrongType}
 use Rattle.hp_expand.specs.Counts as counts
@@ -22,15 +24,6 @@ use Rattle.hp_expand.specs.Formed.{MakeNoPlainCall, InlineNoContract, HaveNoInte
 
 -- ---- marks
 
--- what is found is never lost
-sooner-found : (o : Option Span) (at : Span) → sooner o at ≡ None → ⊥
-sooner-found None at h = cc
-sooner-found (Some first) at h = by (is_before at first) h
-  where
-    by : (b : Bool) → if◌then◌else◌ {A = Option Span} b (Some at) (Some first) ≡ None → ⊥
-    by true p = cc
-    by false p = cc
-
 plain-empty : (ms : List Mark) (f : Found) → f.plain ≡ None → MakeNoPlainCall ms → (fold see f ms).plain ≡ None
 plain-empty [] f h k = h
 plain-empty (plain_at at ∷ ms) f h k = absurd k
@@ -39,7 +32,7 @@ plain-empty (integer_at at ∷ ms) f h k = plain-empty ms (see f (integer_at at)
 
 plain-none : (ms : List Mark) (f : Found) → (fold see f ms).plain ≡ None → (f.plain ≡ None) × MakeNoPlainCall ms
 plain-none [] f h = (h, tt)
-plain-none (plain_at at ∷ ms) f h = absurd (sooner-found f.plain at (plain-none ms (see f (plain_at at)) h).0)
+plain-none (plain_at at ∷ ms) f h = absurd (sooner-found itself f.plain at (plain-none ms (see f (plain_at at)) h).0)
 plain-none (bound_at at ∷ ms) f h = plain-none ms (see f (bound_at at)) h
 plain-none (integer_at at ∷ ms) f h = plain-none ms (see f (integer_at at)) h
 
@@ -52,7 +45,7 @@ bound-empty (integer_at at ∷ ms) f h k = bound-empty ms (see f (integer_at at)
 bound-none : (ms : List Mark) (f : Found) → (fold see f ms).bound ≡ None → (f.bound ≡ None) × InlineNoContract ms
 bound-none [] f h = (h, tt)
 bound-none (plain_at at ∷ ms) f h = bound-none ms (see f (plain_at at)) h
-bound-none (bound_at at ∷ ms) f h = absurd (sooner-found f.bound at (bound-none ms (see f (bound_at at)) h).0)
+bound-none (bound_at at ∷ ms) f h = absurd (sooner-found itself f.bound at (bound-none ms (see f (bound_at at)) h).0)
 bound-none (integer_at at ∷ ms) f h = bound-none ms (see f (integer_at at)) h
 
 integer-empty : (ms : List Mark) (f : Found) → f.integer ≡ None → HaveNoInteger ms → (fold see f ms).integer ≡ None
@@ -65,7 +58,7 @@ integer-none : (ms : List Mark) (f : Found) → (fold see f ms).integer ≡ None
 integer-none [] f h = (h, tt)
 integer-none (plain_at at ∷ ms) f h = integer-none ms (see f (plain_at at)) h
 integer-none (bound_at at ∷ ms) f h = integer-none ms (see f (bound_at at)) h
-integer-none (integer_at at ∷ ms) f h = absurd (sooner-found f.integer at (integer-none ms (see f (integer_at at)) h).0)
+integer-none (integer_at at ∷ ms) f h = absurd (sooner-found itself f.integer at (integer-none ms (see f (integer_at at)) h).0)
 
 -- ---- the breach of a node
 
@@ -73,27 +66,9 @@ at-none : (shape : Shape) (o : Option Span) → breach_at shape o ≡ None → o
 at-none shape None h = refl
 at-none shape (Some at) h = absurd cc
 
-earlier-left : (a b : Option Breach) → earlier a b ≡ None → a ≡ None
-earlier-left None b h = refl
-earlier-left (Some a) None h = h
-earlier-left (Some a) (Some b) h = by (is_before b.at a.at) h
-  where
-    by : (d : Bool) → if◌then◌else◌ {A = Option Breach} d (Some b) (Some a) ≡ None → Some a ≡ None
-    by true p = absurd cc
-    by false p = p
-
-earlier-right : (a b : Option Breach) → earlier a b ≡ None → b ≡ None
-earlier-right None b h = h
-earlier-right (Some a) None h = refl
-earlier-right (Some a) (Some b) h = by (is_before b.at a.at) h
-  where
-    by : (d : Bool) → if◌then◌else◌ {A = Option Breach} d (Some b) (Some a) ≡ None → Some b ≡ None
-    by true p = p
-    by false p = absurd cc
-
 none-among : (c b : Found) → c.plain ≡ None → c.bound ≡ None → c.integer ≡ None → b.bound ≡ None → breach_among c b ≡ None
 unfolding breach_among
-none-among c b h1 h2 h3 h4 = λ i. earlier (earlier (breach_at Call (h1 i)) (breach_at Inline (h2 i))) (earlier (breach_at WrongType (h3 i)) (breach_at Inline (h4 i)))
+none-among c b h1 h2 h3 h4 = λ i. merged place_of (merged place_of (breach_at Call (h1 i)) (breach_at Inline (h2 i))) (merged place_of (breach_at WrongType (h3 i)) (breach_at Inline (h4 i)))
 
 record Nothing (c b : Found) : Type 0 where
   plain : c.plain ≡ None
@@ -104,15 +79,16 @@ record Nothing (c b : Found) : Type 0 where
 among-none : (c b : Found) → breach_among c b ≡ None → Nothing c b
 unfolding breach_among
 among-none c b h =
-    let first = earlier (breach_at Call c.plain) (breach_at Inline c.bound) in
-    let second = earlier (breach_at WrongType c.integer) (breach_at Inline b.bound) in
-    let l = earlier-left first second h in
-    let r = earlier-right first second h in
+    let first = merged place_of (breach_at Call c.plain) (breach_at Inline c.bound) in
+    let second = merged place_of (breach_at WrongType c.integer) (breach_at Inline b.bound) in
+    let both = merged-none place_of first second h in
+    let calls = merged-none place_of (breach_at Call c.plain) (breach_at Inline c.bound) both.0 in
+    let others = merged-none place_of (breach_at WrongType c.integer) (breach_at Inline b.bound) both.1 in
     record {
-      plain = at-none Call c.plain (earlier-left (breach_at Call c.plain) (breach_at Inline c.bound) l);
-      bound = at-none Inline c.bound (earlier-right (breach_at Call c.plain) (breach_at Inline c.bound) l);
-      integer = at-none WrongType c.integer (earlier-left (breach_at WrongType c.integer) (breach_at Inline b.bound) r);
-      body = at-none Inline b.bound (earlier-right (breach_at WrongType c.integer) (breach_at Inline b.bound) r);
+      plain = at-none Call c.plain calls.0;
+      bound = at-none Inline c.bound calls.1;
+      integer = at-none WrongType c.integer others.0;
+      body = at-none Inline b.bound others.1;
     }
 
 node-shaped : (forms : List ℕ → Form) (n : Node) → IsShaped forms n → breach_of forms n ≡ None

@@ -156,8 +156,8 @@ module _ (n other : Node) (ls kept : List Layer) (k : ℕ) (none : ls ≡ []) (s
   pub node-numbered : other.name ≡ n.name → other.span ≡ n.span → other.inputs ≡ n.inputs → other.outputs ≡ n.outputs
       → other.contract ≡ option_map (numbered_contract (said_in ls) 1) n.contract → other.body ≡ in_block (said_in kept) k n.body → other ≡ numbered n
   node-numbered name span inputs outputs contract body =
-      let guard : other.contract ≡ option_map in_contract n.contract =
+      let observer : other.contract ≡ option_map in_contract n.contract =
       contract ∙ ap (λ l. option_map (numbered_contract (said_in l) 1) n.contract) none ∙ contract-numbered n.contract in
       let inner : other.body ≡ in_block same_name (behind n.contract) n.body =
       body ∙ ap (λ l. in_block (said_in l) k n.body) (same ∙ none) ∙ ap (λ m. in_block same_name m n.body) (next ∙ sym (behind-new n.contract)) in
-      λ j. record { name = name j; span = span j; inputs = inputs j; outputs = outputs j; contract = guard j; body = inner j }
+      λ j. record { name = name j; span = span j; inputs = inputs j; outputs = outputs j; contract = observer j; body = inner j }

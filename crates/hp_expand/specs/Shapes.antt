@@ -1,8 +1,9 @@
 -- The shapes of contracts: a contract makes no plain call once its inlined calls are replaced, a node with a contract is not inlined,
 -- and a controllable variable is no integer.
-use Rattle.std.specs.Prelude.{ℕ, Bool, false, ◌||◌, ◌&&◌, nat_eq, nat_lt, if◌then◌else◌, List, [], ◌∷◌, ◌++◌, fold, Option, None, Some, is_some}
+use Rattle.std.specs.Prelude.{ℕ, Bool, false, if◌then◌else◌, List, [], ◌∷◌, ◌++◌, fold, Option, None, Some, is_some}
 use Rattle.std.specs.Str.{bytes_eq}
 use Rattle.hp_base.specs.declared.span.Span.{Span}
+use Rattle.hp_first.specs.First.{itself, sooner, merged}
 use Rattle.hp_base.specs.declared.ty.Ty.{Ty}
 use Rattle.hp_base.specs.declared.ty.Ty.TheVariants as ty
 use Rattle.hp_tree.specs.declared.program.Item.{Item}
@@ -104,22 +105,13 @@ in_contract forms (Some c) = in_block forms c.body ++ (in_condition forms c.assu
 
 -- ---- which stand first in the text
 
--- whether a place stands before another in the text
-abbrev pub is_before : Span → Span → Bool
-is_before p q = nat_lt p.line q.line || (nat_eq p.line q.line && nat_lt p.col q.col)
-
--- the first of what is found so far and of one more place
-abbrev pub sooner : Option Span → Span → Option Span
-sooner None at = Some at
-sooner (Some first) at = if is_before at first then Some at else Some first
-
 abbrev pub nothing : Found
 nothing = record { plain = None; bound = None; integer = None }
 
 abbrev pub see : Found → Mark → Found
-see found (plain_at at) = record found { plain = sooner found.plain at }
-see found (bound_at at) = record found { bound = sooner found.bound at }
-see found (integer_at at) = record found { integer = sooner found.integer at }
+see found (plain_at at) = record found { plain = sooner itself found.plain at }
+see found (bound_at at) = record found { bound = sooner itself found.bound at }
+see found (integer_at at) = record found { integer = sooner itself found.integer at }
 
 -- the first of each kind, among those found so far and these
 unfoldable pub found_after : Found → List Mark → Found
@@ -132,16 +124,14 @@ abbrev pub breach_at : Shape → Option Span → Option Breach
 breach_at shape None = None
 breach_at shape (Some at) = Some (record { shape = shape; at = at })
 
--- the first of two breaches in the text
-abbrev pub earlier : Option Breach → Option Breach → Option Breach
-earlier None other = other
-earlier (Some b) None = Some b
-earlier (Some b) (Some c) = if is_before c.at b.at then Some c else Some b
+abbrev pub place_of : Breach → Span
+place_of b = b.at
 
 -- the first breach of a node whose contract and body have these first
 unfoldable pub breach_among : Found → Found → Option Breach
 breach_among contract body =
-    earlier (earlier (breach_at Call contract.plain) (breach_at Inline contract.bound)) (earlier (breach_at WrongType contract.integer) (breach_at Inline body.bound))
+    merged place_of (merged place_of (breach_at Call contract.plain) (breach_at Inline contract.bound))
+    (merged place_of (breach_at WrongType contract.integer) (breach_at Inline body.bound))
 
 abbrev pub breach_of : (List ℕ → Form) → Node → Option Breach
 breach_of forms n = breach_among (found_after nothing (in_contract forms n.contract)) (found_after nothing (in_block forms n.body))

@@ -363,7 +363,7 @@ fn replace_contract(
     })
 }
 
-fn replace_guard(
+fn replace_observer(
     alloc: Global,
     nodes: &Nodes<'_>,
     contract: &Option<Contract>,
@@ -383,7 +383,7 @@ pub fn replace_node(alloc: Global, nodes: &Nodes<'_>, node: &Node) -> Result<Nod
     ensures { IfOk result (λ other. other ≡ in_node (node_in nodes.now) node.now) }
 {
     let mut next = 1;
-    let contract = replace_guard(alloc, nodes, &node.contract, &mut next)?;
+    let contract = replace_observer(alloc, nodes, &node.contract, &mut next)?;
     let body = replace_block(alloc, nodes, &node.body, &mut next)?;
     Ok(Node {
         name: node.name.copy(alloc)?,

@@ -1,9 +1,10 @@
 //! What breaks the shapes of contracts, and which of it stands first in the text.
 ghost use Rattle.std.specs.Prelude.{◌≡◌, [], ◌∷◌};
-ghost use Rattle.hp_expand.specs.Shapes.{is_before, sooner, nothing, plain_at, bound_at, integer_at, found_after, breach_at, earlier, breach_among};
+ghost use Rattle.hp_expand.specs.Shapes.{nothing, plain_at, bound_at, integer_at, found_after, breach_at, breach_among};
 
 use crate::error::Shape;
 use hp_base::Span;
+use hp_first::{Placed, note, note_all};
 
 /// The first places in the text, of each kind.
 #[derive(Clone, Copy, Debug)]
@@ -23,26 +24,13 @@ pub struct Breach {
     pub at: Span,
 }
 
-/// Whether a place stands before another in the text.
-fn stands_before(place: Span, other: Span) -> bool
-    ensures { result ≡ is_before place other }
-{
-    place.line < other.line || (place.line == other.line && place.col < other.col)
-}
+impl Placed for Breach {
+    ghost use Rattle.hp_expand.specs.Shapes.{place_of};
 
-/// The first of what is found so far and of one more place.
-fn first_of(found: Option<Span>, at: Span) -> Option<Span>
-    ensures { result ≡ sooner found at }
-{
-    match found {
-        None => Some(at),
-        Some(first) => {
-            if stands_before(at, first) {
-                Some(at)
-            } else {
-                Some(first)
-            }
-        }
+    ghost place = { place_of };
+
+    fn at(&self) -> Span {
+        self.at
     }
 }
 
@@ -61,21 +49,21 @@ impl Found {
     pub fn see_plain(&mut self, at: Span)
         ensures { self.new ≡ found_after self.old (plain_at at ∷ []) }
     {
-        self.plain = first_of(self.plain, at);
+        note(&mut self.plain, at);
     }
 
     #[tactic(auto, unfolding(crate::specs::Shapes::found_after))]
     pub fn see_bound(&mut self, at: Span)
         ensures { self.new ≡ found_after self.old (bound_at at ∷ []) }
     {
-        self.bound = first_of(self.bound, at);
+        note(&mut self.bound, at);
     }
 
     #[tactic(auto, unfolding(crate::specs::Shapes::found_after))]
     pub fn see_integer(&mut self, at: Span)
         ensures { self.new ≡ found_after self.old (integer_at at ∷ []) }
     {
-        self.integer = first_of(self.integer, at);
+        note(&mut self.integer, at);
     }
 }
 
@@ -88,34 +76,15 @@ fn breach_at(shape: Shape, place: Option<Span>) -> Option<Breach>
     }
 }
 
-fn earlier(breach: Option<Breach>, other: Option<Breach>) -> Option<Breach>
-    ensures { result ≡ earlier breach other }
-{
-    match (breach, other) {
-        (None, other) => other,
-        (Some(breach), None) => Some(breach),
-        (Some(breach), Some(other)) => {
-            if stands_before(other.at, breach.at) {
-                Some(other)
-            } else {
-                Some(breach)
-            }
-        }
-    }
-}
-
 /// The first breach of a node whose contract and body have these first.
 #[tactic(auto, unfolding(crate::specs::Shapes::breach_among))]
 pub fn breach_among(contract: Found, body: Found) -> Option<Breach>
     ensures { result ≡ breach_among contract body }
 {
-    let calls = earlier(
-        breach_at(Shape::Call, contract.plain),
-        breach_at(Shape::Inline, contract.bound),
-    );
-    let others = earlier(
-        breach_at(Shape::WrongType, contract.integer),
-        breach_at(Shape::Inline, body.bound),
-    );
-    earlier(calls, others)
+    let mut first = breach_at(Shape::Call, contract.plain);
+    note_all(&mut first, breach_at(Shape::Inline, contract.bound));
+    let mut other = breach_at(Shape::WrongType, contract.integer);
+    note_all(&mut other, breach_at(Shape::Inline, body.bound));
+    note_all(&mut first, other);
+    first
 }

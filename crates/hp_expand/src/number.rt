@@ -243,7 +243,7 @@ fn number_contract<'a>(
 }
 
 #[tactic(auto, using(crate::proofs::Rules::numbered_in_nodes))]
-fn number_guard<'a>(
+fn number_observer<'a>(
     alloc: Global,
     numbers: &mut Numbers<'a>,
     contract: &'a Option<Contract>,
@@ -267,7 +267,7 @@ pub fn number_node(alloc: Global, node: &Node) -> Result<Node, AllocError>
         layers: Vec::new(alloc),
         next: 1,
     };
-    let contract = number_guard(alloc, &mut numbers, &node.contract)?;
+    let contract = number_observer(alloc, &mut numbers, &node.contract)?;
     let body = number_block(alloc, &mut numbers, &node.body)?;
     Ok(Node {
         name: node.name.copy(alloc)?,

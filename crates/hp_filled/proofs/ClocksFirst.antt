@@ -7,7 +7,7 @@ use Rattle.hp_tree.specs.declared.decl.Cons.{Cons}
 use Rattle.hp_tree.specs.Expressions.{Expr, constant, variable, last_of, one, two, choose, pre, fby, arrow, when_is, merge, call, Exprs, no_expr, more_exprs}
 use Rattle.hp_tree.specs.Blocks.{Decl, Block, block, Eqns, no_eqn, more_eqns, Eqn, define, switch, reset, automaton, Arms, no_arm, more_arms, States, no_state, more_states}
 use Rattle.hp_tree.specs.Programs.{TypeDecl, Contract, Node}
-use Rattle.hp_tree.specs.Instant.{Body, Guard, Equations, Head, Tail, Arms as ArmsOf, States as StatesOf, Clock}
+use Rattle.hp_tree.specs.Instant.{Body, Observer, Equations, Head, Tail, Arms as ArmsOf, States as StatesOf, Clock}
 use Rattle.hp_tree.specs.Meaning.{written, clock_in, or_clock, clock_told, clocks_told, or_base, clock_of}
 use Rattle.hp_typed.specs.Scopes.{Scope}
 use Rattle.hp_init.specs.Classes.{Classes, Assignment, Known, known_in, known_within, known_outputs}
@@ -51,7 +51,7 @@ abbrev mutual
 
 abbrev pub ContractClocks : Assignment → Option Contract → Type 0
 ContractClocks class None = ⊤
-ContractClocks class (Some c) = BlockClocks none_second (λ p. class (Guard ∷ p)) c.body
+ContractClocks class (Some c) = BlockClocks none_second (λ p. class (Observer ∷ p)) c.body
 
 abbrev pub NodeClocks : Assignment → Node → Type 0
 NodeClocks class n = BlockClocks none_second (λ p. class (Body ∷ p)) n.body × ContractClocks class n.contract
@@ -169,7 +169,7 @@ mutual
         states_clocks ss (λ q. at (Tail ∷ q)) out k (met_right strong more (met_right weak (strong ++ more) (met_right own (weak ++ (strong ++ more)) h))),
       )
 
-contract_clocks : (o : Option Contract) (class : Assignment) (k : Known) → first_unmet (of_contract k class o) ≡ None → (second : Classes) → k.values ≡ second → (seen : Assignment) → seen_in_contract k class o ≡ (λ p. seen (Guard ∷ p)) → second ≡ none_second → ContractClocks seen o
+contract_clocks : (o : Option Contract) (class : Assignment) (k : Known) → first_unmet (of_contract k class o) ≡ None → (second : Classes) → k.values ≡ second → (seen : Assignment) → seen_in_contract k class o ≡ (λ p. seen (Observer ∷ p)) → second ≡ none_second → ContractClocks seen o
 contract_clocks None class k h second e seen q f = tt
 contract_clocks (Some c) class k h second e seen q f =
     let own = block_clocks c.body class k (met_left (of_block k class c.body) _ h) in
@@ -178,8 +178,8 @@ contract_clocks (Some c) class k h second e seen q f =
 pub node_clocks : (n : Node) (class : Assignment) → first_unmet (of_node class n) ≡ None → (known_outputs n class).values ≡ none_second → NodeClocks (seen_in_node class n) n
 node_clocks n class h e =
     let K = known_outputs n class in
-    let guarded = of_contract K (λ q. class (Guard ∷ q)) n.contract in
+    let observed = of_contract K (λ q. class (Observer ∷ q)) n.contract in
     let own = of_block K (λ q. class (Body ∷ q)) n.body in (
-      subst (λ z. BlockClocks z (seen_in_block K (λ q. class (Body ∷ q)) n.body) n.body) e (block_clocks n.body (λ q. class (Body ∷ q)) K (met_right guarded own h)),
-      contract_clocks n.contract (λ q. class (Guard ∷ q)) K (met_left guarded own h) K.values refl (seen_in_node class n) refl e,
+      subst (λ z. BlockClocks z (seen_in_block K (λ q. class (Body ∷ q)) n.body) n.body) e (block_clocks n.body (λ q. class (Body ∷ q)) K (met_right observed own h)),
+      contract_clocks n.contract (λ q. class (Observer ∷ q)) K (met_left observed own h) K.values refl (seen_in_node class n) refl e,
     )

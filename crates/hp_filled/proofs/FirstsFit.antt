@@ -13,7 +13,7 @@ use Rattle.hp_tree.specs.Values.{IsOf}
 use Rattle.hp_tree.specs.Meaning.{controls_of}
 use Rattle.hp_tree.specs.ExpressionTypes as tree
 use Rattle.hp_tree.specs.ExpressionTypes.{typed_in, untyped, scope_of}
-use Rattle.hp_tree.specs.Instant.{Controls, Body, Guard, Assume, Enforce, Equations, Head, Tail, Right, Test, Arms as ArmsOf, States as StatesOf, Until, Unless, First, Second, Third, Args, Instance, Instant, part, top, in_row, nothing, in_guard}
+use Rattle.hp_tree.specs.Instant.{Controls, Body, Observer, Assume, Enforce, Equations, Head, Tail, Right, Test, Arms as ArmsOf, States as StatesOf, Until, Unless, First, Second, Third, Args, Instance, Instant, part, top, in_row, nothing, in_observer}
 use Rattle.hp_tree.specs.Filled.{first_value, firsts, firsts_of_all, firsts_of_parts, firsts_of_block, firsts_of_equations, firsts_of_equation, firsts_of_arms, firsts_of_states, firsts_of_node}
 use Rattle.hp_known.specs.Known.{lookup}
 use Rattle.hp_typing.specs.Scopes.{with_variables, inside, inside_node}
@@ -191,11 +191,11 @@ module _ (types : List TypeDecl) (among : List ℕ → Option Node) (callees : (
   abbrev contract_firsts : Option Contract → tree.Scope → Instant
   contract_firsts None names = nothing
   contract_firsts (Some c) names =
-      in_guard (firsts_of_block types outs firsts_in c.body names) (told c.assume (scope_of c.body names)) (told c.enforce (scope_of c.body names))
+      in_observer (firsts_of_block types outs firsts_in c.body names) (told c.assume (scope_of c.body names)) (told c.enforce (scope_of c.body names))
 
   abbrev in_parts : Instant → Instant → Instant
-  in_parts body guard (Body ∷ p) = body p
-  in_parts body guard p = guard p
+  in_parts body observer (Body ∷ p) = body p
+  in_parts body observer p = observer p
 
   controls_fit : (k : Option Contract) (names : tree.Scope) (body free : Instant) → ControlsGiven types true nil given (controls_of k) (part Controls free) → ControlsGiven types false as_given fits (controls_of k) (part Controls (over (in_parts body (contract_firsts k names)) free))
   controls_fit None names body free h = tt
@@ -204,7 +204,7 @@ module _ (types : List TypeDecl) (among : List ℕ → Option Node) (callees : (
   contract_fits : (k : Option Contract) (s : Scope) (lasts : Lasts) (names : tree.Scope) (body free : Instant) → Agrees types s names → ConsTyped types s → ContractSound types among s lasts k → ContractHasFirsts types k → ContractGiven types true nil given s k free → ContractGiven types false as_given fits s k (over (in_parts body (contract_firsts k names)) free)
   contract_fits None s lasts names body free known conses ok firsts' h = tt
   contract_fits (Some c) s lasts names body free known conses ok firsts' h = (
-    block_fits c.body s lasts names (part Guard free) known conses ok.0 firsts' h.0,
+    block_fits c.body s lasts names (part Observer free) known conses ok.0 firsts' h.0,
     (
       told_fits c.body s lasts names known conses ok.0 firsts' c.assume (part Assume free) ok.1.0 h.1.0,
       told_fits c.body s lasts names known conses ok.0 firsts' c.enforce (part Enforce free) ok.1.1 h.1.1,

@@ -11,7 +11,7 @@ use Rattle.hp_tree.specs.Programs.{TypeDecl, Contract, Node}
 use Rattle.hp_tree.specs.Instant.{Body, Equations, Head, Tail, Arms as ArmsOf, States as StatesOf, Place}
 use Rattle.hp_tree.specs.Meaning.{controls_of}
 use Rattle.hp_causal.specs.Sources.{below}
-use Rattle.hp_clocking.specs.Clocking.{Assignment, in_guard, in_body, with_clock, base_written, with_clocks, all_with_clocks, one_with_clocks, arms_with_clocks, states_with_clocks, contract_with_clocks, node_with_clocks}
+use Rattle.hp_clocking.specs.Clocking.{Assignment, in_observer, in_body, with_clock, base_written, with_clocks, all_with_clocks, one_with_clocks, arms_with_clocks, states_with_clocks, contract_with_clocks, node_with_clocks}
 use Rattle.hp_named.specs.Scoped.{EachNode}
 use Rattle.hp_expand.specs.Renaming.{renamed_decls, renamed_block, renamed_eqns, renamed_eqn, renamed_arms, renamed_states}
 use Rattle.hp_expand.specs.NewNames.{marked}
@@ -304,7 +304,7 @@ module _ (types : List TypeDecl) where
 
     contract_clocked : (o : Option Contract) → ContractHasFirsts types o → ContractHasFirsts types (contract_with_clocks at o)
     contract_clocked None h = tt
-    contract_clocked (Some c) h = block_clocked in_guard c.body h
+    contract_clocked (Some c) h = block_clocked in_observer c.body h
 
     controls_clocked : (o : Option Contract) → Decls (controls_of o) → Decls (controls_of (contract_with_clocks at o))
     controls_clocked None h = tt

@@ -7,7 +7,7 @@ use Rattle.hp_base.specs.declared.value.Value.{Value}
 use Rattle.hp_base.specs.declared.value.Value.TheVariants.{Absent, Nil, B, E, I, Star}
 use Rattle.hp_tree.specs.Programs.{TypeDecl}
 use Rattle.hp_tree.specs.Values.{IsOf}
-use Rattle.hp_tree.specs.Instant.{Step, Body, Guard, Assume, Enforce, Named, Fresh, Equations, Head, Tail, Right, Test, Arms as ArmsOf, States as StatesOf, Until, Unless, Active, Next, Pending, First, Second, Third, Args, Instance, Place, Instant, Past, parts, top, own, own_with, nothing, alone, with_one, with_two, with_three, in_row, with_row, with_instance, of_two, in_block, in_right, with_arms, with_body, in_state, with_words, in_guard}
+use Rattle.hp_tree.specs.Instant.{Step, Body, Observer, Assume, Enforce, Named, Fresh, Equations, Head, Tail, Right, Test, Arms as ArmsOf, States as StatesOf, Until, Unless, Active, Next, Pending, First, Second, Third, Args, Instance, Place, Instant, Past, parts, top, own, own_with, nothing, alone, with_one, with_two, with_three, in_row, with_row, with_instance, of_two, in_block, in_right, with_arms, with_body, in_state, with_words, in_observer}
 use Rattle.hp_valued.specs.Fitting.{HasValue, Fits}
 use Rattle.hp_valued.proofs.Laws.{value_cases, never_nil}
 use Rattle.hp_filled.specs.Firsts.{HasFirst}
@@ -222,11 +222,11 @@ module _ (types : List TypeDecl) where
     words_agree m n d i j a (StatesOf ∷ p) = a p
     words_agree m n d i j a p = refl
 
-    pub guard_agrees : (i j k i' j' k' : Instant) → AllAgree types (λ p. T (Guard ∷ p)) i i' → AllAgree types (λ p. T (Assume ∷ p)) j j' → AllAgree types (λ p. T (Enforce ∷ p)) k k' → AllAgree types T (in_guard i j k) (in_guard i' j' k')
-    guard_agrees i j k i' j' k' a b c (Guard ∷ p) = a p
-    guard_agrees i j k i' j' k' a b c (Assume ∷ p) = b p
-    guard_agrees i j k i' j' k' a b c (Enforce ∷ p) = c p
-    guard_agrees i j k i' j' k' a b c p = refl
+    pub observer_agrees : (i j k i' j' k' : Instant) → AllAgree types (λ p. T (Observer ∷ p)) i i' → AllAgree types (λ p. T (Assume ∷ p)) j j' → AllAgree types (λ p. T (Enforce ∷ p)) k k' → AllAgree types T (in_observer i j k) (in_observer i' j' k')
+    observer_agrees i j k i' j' k' a b c (Observer ∷ p) = a p
+    observer_agrees i j k i' j' k' a b c (Assume ∷ p) = b p
+    observer_agrees i j k i' j' k' a b c (Enforce ∷ p) = c p
+    observer_agrees i j k i' j' k' a b c p = refl
 
     pub none_agree : AllAgree types T nothing nothing
     none_agree p = refl

@@ -5,7 +5,7 @@ use Rattle.hp_tree.specs.declared.block.Trans.{Trans}
 use Rattle.hp_tree.specs.Expressions.{Expr, one, two, choose, pre, fby, arrow, when_is, merge, call, Exprs, more_exprs, Parts, more_parts}
 use Rattle.hp_tree.specs.Blocks.{Block, block, Eqns, more_eqns, Eqn, define, switch, reset, automaton, Arms, more_arms, States, more_states}
 use Rattle.hp_tree.specs.Programs.{Contract, Node}
-use Rattle.hp_tree.specs.Instant.{Body, Guard, Assume, Enforce, Named, Equations, Head, Tail, Right, Test, Arms as ArmsOf, States as StatesOf, Until, Unless, First, Second, Third, Args, Instance}
+use Rattle.hp_tree.specs.Instant.{Body, Observer, Assume, Enforce, Named, Equations, Head, Tail, Right, Test, Arms as ArmsOf, States as StatesOf, Until, Unless, First, Second, Third, Args, Instance}
 use Rattle.hp_known.specs.Known.{lookup}
 use Rattle.hp_typing.specs.Scopes.{with_variables, inside, inside_node}
 use Rattle.hp_typing.specs.Types.{type_of}
@@ -99,14 +99,14 @@ module _ (callee : List ℕ → Marks) where
   of_told s second (Some e) p = of_expr s second e p
 
   abbrev pub of_contract : Scope → Assignment → Option Contract → Marks
-  of_contract s class (Some c) (Guard ∷ p) = of_block s none_second (λ q. class (Guard ∷ q)) c.body p
-  of_contract s class (Some c) (Assume ∷ p) = of_told (inside s c.body) (classes_of c.body none_second (λ q. class (Guard ∷ q))) c.assume p
-  of_contract s class (Some c) (Enforce ∷ p) = of_told (inside s c.body) (classes_of c.body none_second (λ q. class (Guard ∷ q))) c.enforce p
+  of_contract s class (Some c) (Observer ∷ p) = of_block s none_second (λ q. class (Observer ∷ q)) c.body p
+  of_contract s class (Some c) (Assume ∷ p) = of_told (inside s c.body) (classes_of c.body none_second (λ q. class (Observer ∷ q))) c.assume p
+  of_contract s class (Some c) (Enforce ∷ p) = of_told (inside s c.body) (classes_of c.body none_second (λ q. class (Observer ∷ q))) c.enforce p
   of_contract s class k p = None
 
   abbrev pub of_node : Scope → Assignment → Node → Marks
   of_node s class n (Body ∷ p) = of_block (body_scope s n) none_second (λ q. class (Body ∷ q)) n.body p
-  of_node s class n (Guard ∷ p) = of_contract (inside_node s n) class n.contract (Guard ∷ p)
+  of_node s class n (Observer ∷ p) = of_contract (inside_node s n) class n.contract (Observer ∷ p)
   of_node s class n (Assume ∷ p) = of_contract (inside_node s n) class n.contract (Assume ∷ p)
   of_node s class n (Enforce ∷ p) = of_contract (inside_node s n) class n.contract (Enforce ∷ p)
   of_node s class n p = None

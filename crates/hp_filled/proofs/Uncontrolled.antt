@@ -12,7 +12,7 @@ use Rattle.hp_tree.specs.Blocks.{Decl, Block, block, Eqns, no_eqn, more_eqns, Eq
 use Rattle.hp_tree.specs.Programs.{TypeDecl, Contract, Node}
 use Rattle.hp_tree.specs.ExpressionTypes.{Scope, typed_in, untyped, scope_of}
 use Rattle.hp_tree.specs.Meaning.{controls_of, node_among}
-use Rattle.hp_tree.specs.Instant.{Controls, Body, Guard, Assume, Enforce, Named, Fresh, Equations, Head, Tail, Right, Test, Arms as ArmsOf, States as StatesOf, Until, Unless, Active, Next, Pending, First, Second, Third, Args, Instance, Place, Instant, nothing, with_one, with_two, with_three, in_row, with_row, with_instance, of_two, in_block, in_right, with_arms, with_body, in_state, with_words, in_guard}
+use Rattle.hp_tree.specs.Instant.{Controls, Body, Observer, Assume, Enforce, Named, Fresh, Equations, Head, Tail, Right, Test, Arms as ArmsOf, States as StatesOf, Until, Unless, Active, Next, Pending, First, Second, Third, Args, Instance, Place, Instant, nothing, with_one, with_two, with_three, in_row, with_row, with_instance, of_two, in_block, in_right, with_arms, with_body, in_state, with_words, in_observer}
 use Rattle.hp_tree.specs.Filled.{firsts, firsts_of_all, firsts_of_parts, firsts_of_block, firsts_of_equations, firsts_of_equation, firsts_of_arms, firsts_of_states, firsts_of_node, firsts_among, outputs_declared}
 
 abbrev pub NoControls : Instant → Type 0
@@ -103,12 +103,12 @@ none_in_words i h (Pending ∷ []) q = refl
 none_in_words i h (Pending ∷ _ ∷ p) q = refl
 none_in_words i h (_ ∷ p) q = refl
 
-none_in_guard : (i j l : Instant) → NoControls i → NoControls j → NoControls l → NoControls (in_guard i j l)
-none_in_guard i j l h k m [] q = refl
-none_in_guard i j l h k m (Guard ∷ p) q = h p q
-none_in_guard i j l h k m (Assume ∷ p) q = k p q
-none_in_guard i j l h k m (Enforce ∷ p) q = m p q
-none_in_guard i j l h k m (_ ∷ p) q = refl
+none_in_observer : (i j l : Instant) → NoControls i → NoControls j → NoControls l → NoControls (in_observer i j l)
+none_in_observer i j l h k m [] q = refl
+none_in_observer i j l h k m (Observer ∷ p) q = h p q
+none_in_observer i j l h k m (Assume ∷ p) q = k p q
+none_in_observer i j l h k m (Enforce ∷ p) q = m p q
+none_in_observer i j l h k m (_ ∷ p) q = refl
 
 none_at_all : NoControls nothing
 none_at_all p q = refl
@@ -180,16 +180,16 @@ module _ (types : List TypeDecl) (outputs : List ℕ → List Decl) (callee : Li
   of_told (Some e) names = of_expr e names
 
   abbrev of_two_parts : Instant → Instant → Instant
-  of_two_parts body guard (Body ∷ p) = body p
-  of_two_parts body guard p = guard p
+  of_two_parts body observer (Body ∷ p) = body p
+  of_two_parts body observer p = observer p
 
   abbrev contract : Option Contract → Scope → Instant
   contract None names p = Absent
-  contract (Some c) names p = in_guard (firsts_of_block types outputs callee c.body names) (told c.assume (scope_of c.body names)) (told c.enforce (scope_of c.body names)) p
+  contract (Some c) names p = in_observer (firsts_of_block types outputs callee c.body names) (told c.assume (scope_of c.body names)) (told c.enforce (scope_of c.body names)) p
 
   of_contract : (k : Option Contract) (names : Scope) → NoControls (contract k names)
   of_contract None names = none_at_all
-  of_contract (Some c) names = none_in_guard _ _ _ (of_block c.body names) (of_told c.assume (scope_of c.body names)) (of_told c.enforce (scope_of c.body names))
+  of_contract (Some c) names = none_in_observer _ _ _ (of_block c.body names) (of_told c.assume (scope_of c.body names)) (of_told c.enforce (scope_of c.body names))
 
   none_in_parts : (i j : Instant) → NoControls i → NoControls j → NoControls (of_two_parts i j)
   none_in_parts i j h k [] q = k [] q

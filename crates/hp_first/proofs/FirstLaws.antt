@@ -18,7 +18,7 @@ all_first false q h = absurd cc
 any_none : (p q : Bool) → p ≡ false → q ≡ false → (p || q) ≡ false
 any_none p q h k = cc
 
-not_before_trans : (p q r : Span) → is_before p q ≡ false → is_before q r ≡ false → is_before p r ≡ false
+pub not_before_trans : (p q r : Span) → is_before p q ≡ false → is_before q r ≡ false → is_before p r ≡ false
 not_before_trans p q r h k = grind (arith, nat_tests)
 
 module _ {T : Type 0} (place : T → Span) where
@@ -101,6 +101,19 @@ module _ {T : Type 0} (place : T → Span) where
       by : (earlier : List T) → earlier ++ b ∷ f.later ≡ [] → ⊥
       by [] q = cc
       by (x ∷ xs) q = cc
+
+  -- what is found is never lost
+  pub sooner-found : (found : Option T) (b : T) → sooner place found b ≡ None → ⊥
+  sooner-found None b p = cc
+  sooner-found (Some a) b p = by (is_before (place b) (place a)) p
+    where
+      by : (d : Bool) → if◌then◌else◌ {A = Option T} d (Some b) (Some a) ≡ None → ⊥
+      by true q = cc
+      by false q = cc
+
+  pub merged-none : (found other : Option T) → merged place found other ≡ None → (found ≡ None) × (other ≡ None)
+  merged-none found None p = (p, refl)
+  merged-none found (Some b) p = absurd (sooner-found found b p)
 
   -- what is found in two parts is what is found in both, one after the other
   sooner_assoc : (a b c : T) → sooner place (sooner place (Some a) b) c ≡ merged place (Some a) (sooner place (Some b) c)

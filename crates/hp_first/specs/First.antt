@@ -8,6 +8,10 @@ use Rattle.hp_base.specs.declared.span.Span.{Span}
 abbrev pub is_before : Span → Span → Bool
 is_before p q = nat_lt p.line q.line || (nat_eq p.line q.line && nat_lt p.col q.col)
 
+-- a place stands at itself
+abbrev pub itself : Span → Span
+itself at = at
+
 module _ {T : Type 0} (place : T → Span) where
   -- One of some in a list is the first by its place: those earlier in the list stand behind it, and those later in the list not before it. So of two at one place it is the first in the list.
   pub record IsFirst (all : List T) (this : T) : Type 0 where

@@ -16,6 +16,16 @@ pub trait Placed {
         ensures { result ≡ place self.now };
 }
 
+impl Placed for Span {
+    ghost use Rattle.hp_first.specs.First.{itself};
+
+    ghost place = { itself };
+
+    fn at(&self) -> Span {
+        *self
+    }
+}
+
 /// Whether a place stands before another in the text.
 pub fn stands_before(place: Span, other: Span) -> bool
     ensures { result ≡ is_before place other }

@@ -17,7 +17,7 @@ use Rattle.hp_tree.specs.Blocks.{Decl, Block, block, Eqns, no_eqn, more_eqns, Eq
 use Rattle.hp_tree.specs.Programs.{TypeDecl, Contract, Node}
 use Rattle.hp_tree.specs.Operators.{constructor_from, place_in, or_later, same_value, is_comparison, marked}
 use Rattle.hp_tree.specs.Filled.{first_value}
-use Rattle.hp_tree.specs.Instant.{Body, Guard, Assume, Enforce, Named, Equations, Head, Tail, Right, Test, Arms as ArmsOf, States as StatesOf, Until, Unless, First, Second, Third, Args, Instance, Place, Instant, part, top, Clock, without}
+use Rattle.hp_tree.specs.Instant.{Body, Observer, Assume, Enforce, Named, Equations, Head, Tail, Right, Test, Arms as ArmsOf, States as StatesOf, Until, Unless, First, Second, Third, Args, Instance, Place, Instant, part, top, Clock, without}
 use Rattle.hp_tree.specs.Meaning.{clock_of, controls_of, node_among}
 use Rattle.hp_tree.specs.Values.{constructors_of}
 use Rattle.hp_typing.specs.Scopes.{with_variables, inside as into, inside_node}
@@ -306,12 +306,12 @@ module _ (types : List TypeDecl) (u : Value → Value) (fits : List ℕ → Inst
 
   contract_compared : (o : Option Contract) (s : Scope) (class : Assignment) (start mem i free : Instant) → ContractLoose types true fits s class o i → ContractKept types kept s o start mem → ContractGiven types true u given s o free → Compared i free (mend_contract callee o start)
   contract_compared None s class start mem i free h k g p f b e = stays (e Star)
-  contract_compared (Some c) s class start mem i free h k g (Guard ∷ p) f b e =
-      block_at c.body s none_second (λ q. class (Guard ∷ q)) h.0 (part Guard start) (part Guard mem) (part Guard i) (part Guard free) h.1.1.0 k.0 g.0 p f b e
+  contract_compared (Some c) s class start mem i free h k g (Observer ∷ p) f b e =
+      block_at c.body s none_second (λ q. class (Observer ∷ q)) h.0 (part Observer start) (part Observer mem) (part Observer i) (part Observer free) h.1.1.0 k.0 g.0 p f b e
   contract_compared (Some c) s class start mem i free h k g (Assume ∷ p) f b e =
-      told_compared (into s c.body) (classes_of c.body none_second (λ q. class (Guard ∷ q))) h.0 c.assume (part Assume start) (part Assume mem) (part Assume i) (part Assume free) h.1.1.1.1.0 k.1.0 g.1.0 p f b e
+      told_compared (into s c.body) (classes_of c.body none_second (λ q. class (Observer ∷ q))) h.0 c.assume (part Assume start) (part Assume mem) (part Assume i) (part Assume free) h.1.1.1.1.0 k.1.0 g.1.0 p f b e
   contract_compared (Some c) s class start mem i free h k g (Enforce ∷ p) f b e =
-      told_compared (into s c.body) (classes_of c.body none_second (λ q. class (Guard ∷ q))) h.0 c.enforce (part Enforce start) (part Enforce mem) (part Enforce i) (part Enforce free) h.1.1.1.1.1 k.1.1 g.1.1 p f b e
+      told_compared (into s c.body) (classes_of c.body none_second (λ q. class (Observer ∷ q))) h.0 c.enforce (part Enforce start) (part Enforce mem) (part Enforce i) (part Enforce free) h.1.1.1.1.1 k.1.1 g.1.1 p f b e
   contract_compared (Some c) s class start mem i free h k g p f b e = stays (e Star)
 
   pub node_compared : (n : Node) (s : Scope) (class : Assignment) (start mem i free : Instant) → NodeLoose types true fits s class n i

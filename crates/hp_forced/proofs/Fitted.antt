@@ -13,7 +13,7 @@ use Rattle.hp_tree.specs.Blocks.{Decl, Block, block, Eqns, no_eqn, more_eqns, Eq
 use Rattle.hp_tree.specs.Programs.{TypeDecl, Contract}
 use Rattle.hp_tree.specs.Operators.{is_comparison}
 use Rattle.hp_tree.specs.ExpressionTypes.{Scope as Types, typed_in, scope_of, type_of as typed_of}
-use Rattle.hp_tree.specs.Instant.{Body, Guard, Assume, Enforce, Named, Equations, Head, Tail, Right, Test, Arms as ArmsOf, States as StatesOf, Until, Unless, First, Second, Third, Args, Instance, Place, Instant, part}
+use Rattle.hp_tree.specs.Instant.{Body, Observer, Assume, Enforce, Named, Equations, Head, Tail, Right, Test, Arms as ArmsOf, States as StatesOf, Until, Unless, First, Second, Third, Args, Instance, Place, Instant, part}
 use Rattle.hp_tree.specs.Values.{IsOf}
 use Rattle.hp_causal.specs.Sources.{below}
 use Rattle.hp_typing.specs.Scopes.{with_variables, inside as into}
@@ -22,7 +22,7 @@ use Rattle.hp_typed.specs.Scopes.{Scope}
 use Rattle.hp_contract.specs.Slots.{Slot, register, free, input, control, is_int, shape_of, slots, slots_of_all, slots_of_parts, slots_of_conditions, slots_of_block, slots_of_equations, slots_of_equation, slots_of_arms, slots_of_states, slots_of_contract}
 use Rattle.hp_wires.specs.Wired.{Callees, Fills, FillsAll, FillsParts}
 use Rattle.hp_wires.specs.WiredBlocks.{FillsConditions, FillsBlock, FillsEquations, FillsEquation, FillsArms, FillsStates}
-use Rattle.hp_wires.specs.WiredNodes.{FillsTold, FillsGuard}
+use Rattle.hp_wires.specs.WiredNodes.{FillsTold, FillsObserver}
 use Rattle.hp_wiretyped.specs.Typed.{IsFlag}
 use Rattle.hp_wiretyped.specs.Kept.{ComparisonGiven, ExprGiven, ExprsGiven, PartsGiven, TestsGiven, BlockGiven, EqnsGiven, EqnGiven, ArmsGiven, StatesGiven, ToldGiven, ContractGiven}
 use Rattle.hp_mirror.specs.Memories.{SlotsFit}
@@ -53,8 +53,8 @@ compared o (Some (ty.Enum t)) v = tt
 abbrev pub Under : (Place → Place) → Instant → Instant → Type 0
 Under w root i = (p : Place) → root (w p) ≡ i p
 
-abbrev pub Guards : (Place → Place) → Instant → Instant → Type 0
-Guards w root i = ((p : Place) → root (w (Guard ∷ p)) ≡ i (Guard ∷ p)) × (((p : Place) → root (w (Assume ∷ p)) ≡ i (Assume ∷ p)) × ((p : Place) → root (w (Enforce ∷ p)) ≡ i (Enforce ∷ p)))
+abbrev pub Observers : (Place → Place) → Instant → Instant → Type 0
+Observers w root i = ((p : Place) → root (w (Observer ∷ p)) ≡ i (Observer ∷ p)) × (((p : Place) → root (w (Assume ∷ p)) ≡ i (Assume ∷ p)) × ((p : Place) → root (w (Enforce ∷ p)) ≡ i (Enforce ∷ p)))
 
 -- the slots of `last` variables, of what is told and of outputs, as those of a node have them
 abbrev pub lasts_slots : List TypeDecl → List Decl → (Place → Place) → List Slot
@@ -337,25 +337,25 @@ module _ (types : List TypeDecl) (C : Callees) (outputs : List ℕ → List Decl
 
     -- what is mended at the three parts of a contract
     abbrev Mended : Option Contract → Instant → Instant → Instant → Type 0
-    Mended o start i j = (part Guard j ≡ part Guard (mended (mend_contract callee o start) i)) × (part Assume j ≡ part Assume (mended (mend_contract callee o start) i)) × (part Enforce j ≡ part Enforce (mended (mend_contract callee o start) i))
+    Mended o start i j = (part Observer j ≡ part Observer (mended (mend_contract callee o start) i)) × (part Assume j ≡ part Assume (mended (mend_contract callee o start) i)) × (part Enforce j ≡ part Enforce (mended (mend_contract callee o start) i))
 
     abbrev pub OfContract : Option Contract → Instant → Instant → Type 0
     OfContract o start j =
-        ((s : Scope) → ContractGiven types Given s o j) × FillsGuard types C o start j
-        × ((names : Types) (w : Place → Place) (root : Instant) → Guards w root j → SlotsFit types (slots_of_contract types outputs called o names w) root)
+        ((s : Scope) → ContractGiven types Given s o j) × FillsObserver types C o start j
+        × ((names : Types) (w : Place → Place) (root : Instant) → Observers w root j → SlotsFit types (slots_of_contract types outputs called o names w) root)
 
     pub contract_of : (o : Option Contract) (start i j : Instant) → Mended o start i j → OfContract o start j
     contract_of None start i j e = ((λ s. tt), tt, λ names w root u. tt)
     contract_of (Some c) start i j e =
-        let r = block_of c.body (part Guard start) (part Guard i) in
+        let r = block_of c.body (part Observer start) (part Observer i) in
         let t = told c.assume (part Assume start) (part Assume i) in
         let y = told c.enforce (part Enforce start) (part Enforce i) in (
           (λ s.
               (subst (BlockGiven types Given s c.body) (sym e.0) (r.0 s), (subst (ToldGiven types Given (into s c.body) c.assume) (sym e.1) (t.0 (into s c.body)), subst (ToldGiven types Given (into s c.body) c.enforce) (sym e.2) (y.0 (into s c.body))))),
-          (subst (FillsBlock types C c.body (part Guard start)) (sym e.0) r.1, subst (FillsTold types C c.assume (part Assume start)) (sym e.1) t.1, subst (FillsTold types C c.enforce (part Enforce start)) (sym e.2) y.1),
+          (subst (FillsBlock types C c.body (part Observer start)) (sym e.0) r.1, subst (FillsTold types C c.assume (part Assume start)) (sym e.1) t.1, subst (FillsTold types C c.enforce (part Enforce start)) (sym e.2) y.1),
           λ names w root u.
-              fits_joined types (slots_of_block types outputs called c.body names (below Guard w)) (slots_told types outputs called c.assume (scope_of c.body names) (below Assume w) ++ slots_told types outputs called c.enforce (scope_of c.body names) (below Enforce w)) root
-              (r.2 names (below Guard w) root (λ p. u.0 p ∙ ap (λ z. z p) e.0))
+              fits_joined types (slots_of_block types outputs called c.body names (below Observer w)) (slots_told types outputs called c.assume (scope_of c.body names) (below Assume w) ++ slots_told types outputs called c.enforce (scope_of c.body names) (below Enforce w)) root
+              (r.2 names (below Observer w) root (λ p. u.0 p ∙ ap (λ z. z p) e.0))
               (fits_joined types (slots_told types outputs called c.assume (scope_of c.body names) (below Assume w)) (slots_told types outputs called c.enforce (scope_of c.body names) (below Enforce w)) root
               (t.2 (scope_of c.body names) (below Assume w) root (λ p. u.1.0 p ∙ ap (λ z. z p) e.1)) (y.2 (scope_of c.body names) (below Enforce w) root (λ p. u.1.1 p ∙ ap (λ z. z p) e.2))),
         )

@@ -15,7 +15,7 @@ use Rattle.hp_tree.specs.Programs.{TypeDecl, Contract, Node}
 use Rattle.hp_tree.specs.Operators.{constructor_from, same_value, marked}
 use Rattle.hp_tree.specs.ExpressionTypes.{typed_in, untyped}
 use Rattle.hp_tree.specs.Filled.{first_value}
-use Rattle.hp_tree.specs.Instant.{Inputs, Controls, Body, Guard, Assume, Enforce, Named, Head, Tail, Place, Instant, part, alone, in_row}
+use Rattle.hp_tree.specs.Instant.{Inputs, Controls, Body, Observer, Assume, Enforce, Named, Head, Tail, Place, Instant, part, alone, in_row}
 use Rattle.hp_tree.specs.Meaning.{types_of, declares, controls_of, node_among}
 use Rattle.hp_tree.specs.Values.{constructors_of, IsOf}
 use Rattle.hp_causal.specs.Sources.{below}
@@ -27,7 +27,7 @@ use Rattle.hp_valued.specs.Values.{scope_behind, either_of}
 use Rattle.hp_contract.specs.FreePlaces.{IsAbstractOf}
 use Rattle.hp_contract.specs.Game.{Choice, IsChoiceOf, at_controls}
 use Rattle.hp_contract.specs.Slots.{Slot, input, control, callee_slots, slots_of_contract, slots_of_block, slots_of_node}
-use Rattle.hp_wires.specs.WiredNodes.{FillsGuard, FillsNode}
+use Rattle.hp_wires.specs.WiredNodes.{FillsObserver, FillsNode}
 use Rattle.hp_wires.specs.WiredCallees.{no_callees, FillsBy, callee_wires}
 use Rattle.hp_wiretyped.specs.Typed.{IsWire, AreWires}
 use Rattle.hp_wiretyped.specs.Kept.{OutputsGiven}
@@ -128,7 +128,7 @@ module _ (types : List TypeDecl) where
 
   abbrev OfAlone : Node → Instant → Instant → Type 0
   OfAlone n start i =
-      ((s : Scope) → AloneGiven types s n (mended (mend_alone types n start) i)) × FillsGuard types no_callees n.contract start (mended (mend_alone types n start) i)
+      ((s : Scope) → AloneGiven types s n (mended (mend_alone types n start) i)) × FillsObserver types no_callees n.contract start (mended (mend_alone types n start) i)
       × ((w : Place → Place) (root : Instant) → Under w root (mended (mend_alone types n start) i) → SlotsFit types (outputs_slots n.outputs w ++ callee_slots types (Some n) w) root)
 
   of_alone : (n : Node) → AreApart n.outputs → DeclsHaveFirsts types n.outputs → (start i : Instant) → OfAlone n start i
@@ -138,7 +138,7 @@ module _ (types : List TypeDecl) where
         r.1,
         λ w root u.
             fits_joined types (outputs_slots n.outputs w) (callee_slots types (Some n) w) root (outputs_fit n.outputs w root (λ x. i (Named x ∷ [])) a h (λ x t. u (Named x ∷ [])))
-            (of_contract n.contract w root (r.2 (typed_in n.inputs (typed_in n.outputs untyped)) w root ((λ p. u (Guard ∷ p)), ((λ p. u (Assume ∷ p)), (λ p. u (Enforce ∷ p)))))),
+            (of_contract n.contract w root (r.2 (typed_in n.inputs (typed_in n.outputs untyped)) w root ((λ p. u (Observer ∷ p)), ((λ p. u (Assume ∷ p)), (λ p. u (Enforce ∷ p)))))),
       )
     where
       of_contract : (o : Option Contract) (w : Place → Place) (root : Instant) → SlotsFit types (slots_of_contract types (λ f. []) no_slots o (typed_in n.inputs (typed_in n.outputs untyped)) w) root
@@ -156,7 +156,7 @@ module _ (types : List TypeDecl) where
       by true h more = h n refl (scope_behind items)
       by false h more = more h
 
-  callee_filled : (o : Option Node) (start i : Instant) → ((k : Node) → o ≡ Some k → FillsGuard types no_callees k.contract start i) → FillsBy types o start i
+  callee_filled : (o : Option Node) (start i : Instant) → ((k : Node) → o ≡ Some k → FillsObserver types no_callees k.contract start i) → FillsBy types o start i
   callee_filled None start i h = tt
   callee_filled (Some n) start i h = h n refl
 
@@ -182,7 +182,7 @@ module _ (types : List TypeDecl) where
   of_called items f (Some n) found h start i =
       let r = of_alone n (h n refl).0 (h n refl).1 start i in (
         callee_given items f (mended (mend_alone types n start) i) (λ k e s. subst (λ (z : Node). AloneGiven types s z (mended (mend_alone types n start) i)) (same n k (found k e)) (r.0 s)),
-        callee_filled (node_among items f) start (mended (mend_alone types n start) i) (λ k e. subst (λ (z : Node). FillsGuard types no_callees z.contract start (mended (mend_alone types n start) i)) (same n k (found k e)) r.1),
+        callee_filled (node_among items f) start (mended (mend_alone types n start) i) (λ k e. subst (λ (z : Node). FillsObserver types no_callees z.contract start (mended (mend_alone types n start) i)) (same n k (found k e)) r.1),
         r.2,
       )
     where

@@ -12,7 +12,7 @@ use Rattle.hp_tree.specs.Blocks.{Decl, Block, block, Eqns, no_eqn, more_eqns, Eq
 use Rattle.hp_tree.specs.Programs.{TypeDecl, Contract, Node}
 use Rattle.hp_tree.specs.Operators.{constructor_from, same_value}
 use Rattle.hp_tree.specs.Filled.{first_value}
-use Rattle.hp_tree.specs.Instant.{Body, Guard, Assume, Enforce, Named, Equations, Head, Tail, Right, Test, Arms as ArmsOf, States as StatesOf, Until, Unless, First, Second, Third, Args, Instance, Place, Instant, part}
+use Rattle.hp_tree.specs.Instant.{Body, Observer, Assume, Enforce, Named, Equations, Head, Tail, Right, Test, Arms as ArmsOf, States as StatesOf, Until, Unless, First, Second, Third, Args, Instance, Place, Instant, part}
 use Rattle.hp_tree.specs.Values.{constructors_of}
 
 -- ---- values
@@ -138,7 +138,7 @@ module _ (callee : List ℕ → Mends) where
 
   abbrev pub mend_contract : Option Contract → Mends
   mend_contract None start p v = v
-  mend_contract (Some c) start (Guard ∷ p) v = mend_block c.body (part Guard start) p v
+  mend_contract (Some c) start (Observer ∷ p) v = mend_block c.body (part Observer start) p v
   mend_contract (Some c) start (Assume ∷ p) v = mend_told c.assume (part Assume start) p v
   mend_contract (Some c) start (Enforce ∷ p) v = mend_told c.enforce (part Enforce start) p v
   mend_contract (Some c) start p v = v

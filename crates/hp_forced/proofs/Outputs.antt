@@ -9,7 +9,7 @@ use Rattle.hp_tree.specs.Expressions.{Expr, constant, variable, last_of, one, tw
 use Rattle.hp_tree.specs.Blocks.{Block, block, Eqns, no_eqn, more_eqns, Eqn, define, switch, reset, automaton, Arms, no_arm, more_arms, States, no_state, more_states}
 use Rattle.hp_tree.specs.Programs.{TypeDecl, Contract, Node}
 use Rattle.hp_tree.specs.Operators.{is_there}
-use Rattle.hp_tree.specs.Instant.{Step, Controls, Body, Guard, Assume, Enforce, Named, Fresh, Equations, Head, Tail, Right, Test, Arms as ArmsOf, States as StatesOf, Until, Unless, First, Second, Third, Args, Instance, Place, Instant, part}
+use Rattle.hp_tree.specs.Instant.{Step, Controls, Body, Observer, Assume, Enforce, Named, Fresh, Equations, Head, Tail, Right, Test, Arms as ArmsOf, States as StatesOf, Until, Unless, First, Second, Third, Args, Instance, Place, Instant, part}
 use Rattle.hp_tree.specs.Meaning.{defines, names_of, controls_of}
 use Rattle.hp_causal.specs.Sources.{below}
 use Rattle.hp_causal.specs.declared.point.PointKind.TheVariants as kind
@@ -157,14 +157,14 @@ module _ (callee : List ℕ → Mends) (now free : Instant) (Rel : Value → Val
 
   pub contract_stays : (o : Option Contract) (w : Whereabouts) (start : Instant) → Way w → EachCall Q (points_of_contract o w) → Stays w (mend_contract callee o start)
   contract_stays None w start a k p x t = same _
-  contract_stays (Some c) w start a k (Guard ∷ p) x t =
-      block_stays [] c.body (below Guard w) (part Guard start) (way_below Guard w a) (first_each Q (points_of [] c.body (below Guard w)) (calls_told c.assume (below Assume w) ++ calls_told c.enforce (below Enforce w)) k) p x t
+  contract_stays (Some c) w start a k (Observer ∷ p) x t =
+      block_stays [] c.body (below Observer w) (part Observer start) (way_below Observer w a) (first_each Q (points_of [] c.body (below Observer w)) (calls_told c.assume (below Assume w) ++ calls_told c.enforce (below Enforce w)) k) p x t
   contract_stays (Some c) w start a k (Assume ∷ p) x t =
       told_stays c.assume (below Assume w) (part Assume start) (way_below Assume w a)
-      (first_each Q (calls_told c.assume (below Assume w)) (calls_told c.enforce (below Enforce w)) (rest_each Q (points_of [] c.body (below Guard w)) (calls_told c.assume (below Assume w) ++ calls_told c.enforce (below Enforce w)) k)) p x t
+      (first_each Q (calls_told c.assume (below Assume w)) (calls_told c.enforce (below Enforce w)) (rest_each Q (points_of [] c.body (below Observer w)) (calls_told c.assume (below Assume w) ++ calls_told c.enforce (below Enforce w)) k)) p x t
   contract_stays (Some c) w start a k (Enforce ∷ p) x t =
       told_stays c.enforce (below Enforce w) (part Enforce start) (way_below Enforce w a)
-      (rest_each Q (calls_told c.assume (below Assume w)) (calls_told c.enforce (below Enforce w)) (rest_each Q (points_of [] c.body (below Guard w)) (calls_told c.assume (below Assume w) ++ calls_told c.enforce (below Enforce w)) k)) p x t
+      (rest_each Q (calls_told c.assume (below Assume w)) (calls_told c.enforce (below Enforce w)) (rest_each Q (points_of [] c.body (below Observer w)) (calls_told c.assume (below Assume w) ++ calls_told c.enforce (below Enforce w)) k)) p x t
   contract_stays (Some c) w start a k p x t = same _
 
   pub node_stays : (n : Node) (start : Instant) → EachCall Q (points n) → Stays (λ p. p) (mend_node callee n start)
@@ -299,16 +299,16 @@ module _ (types : List TypeDecl) (kept : List ℕ → Instant → Instant → Ty
   told_has (Some e) s w start mem i a u k g = expr_has s e w start mem i a u k g
 
   contract_has : (o : Option Contract) (s : Scope) (w : Whereabouts) (start mem i : Instant) → Way w
-      → ((p : Place) → free (w (Guard ∷ p)) ≡ i (Guard ∷ p)) → ((p : Place) → free (w (Assume ∷ p)) ≡ i (Assume ∷ p)) → ((p : Place) → free (w (Enforce ∷ p)) ≡ i (Enforce ∷ p)) → ContractKept types kept s o start mem → ContractGiven types given s o i → EachCall Q (points_of_contract o w)
+      → ((p : Place) → free (w (Observer ∷ p)) ≡ i (Observer ∷ p)) → ((p : Place) → free (w (Assume ∷ p)) ≡ i (Assume ∷ p)) → ((p : Place) → free (w (Enforce ∷ p)) ≡ i (Enforce ∷ p)) → ContractKept types kept s o start mem → ContractGiven types given s o i → EachCall Q (points_of_contract o w)
   contract_has None s w start mem i a u v x k g = tt
   contract_has (Some c) s w start mem i a u v x k g =
-      each_append Q (points_of [] c.body (below Guard w)) (calls_told c.assume (below Assume w) ++ calls_told c.enforce (below Enforce w))
-      (block_has [] c.body s (below Guard w) (part Guard start) (part Guard mem) (part Guard i) (way_below Guard w a) u k.0 g.0)
+      each_append Q (points_of [] c.body (below Observer w)) (calls_told c.assume (below Assume w) ++ calls_told c.enforce (below Enforce w))
+      (block_has [] c.body s (below Observer w) (part Observer start) (part Observer mem) (part Observer i) (way_below Observer w a) u k.0 g.0)
       (each_append Q (calls_told c.assume (below Assume w)) (calls_told c.enforce (below Enforce w)) (told_has c.assume (into s c.body) (below Assume w) (part Assume start) (part Assume mem) (part Assume i) (way_below Assume w a) v k.1.0 g.1.0)
       (told_has c.enforce (into s c.body) (below Enforce w) (part Enforce start) (part Enforce mem) (part Enforce i) (way_below Enforce w a) x k.1.1 g.1.1))
 
   -- each call of a node
-  pub node_has : (n : Node) (s t : Scope) (start mem i : Instant) → ((p : Place) → free (Body ∷ p) ≡ i (Body ∷ p)) → ((p : Place) → free (Guard ∷ p) ≡ i (Guard ∷ p)) → ((p : Place) → free (Assume ∷ p) ≡ i (Assume ∷ p)) → ((p : Place) → free (Enforce ∷ p) ≡ i (Enforce ∷ p))
+  pub node_has : (n : Node) (s t : Scope) (start mem i : Instant) → ((p : Place) → free (Body ∷ p) ≡ i (Body ∷ p)) → ((p : Place) → free (Observer ∷ p) ≡ i (Observer ∷ p)) → ((p : Place) → free (Assume ∷ p) ≡ i (Assume ∷ p)) → ((p : Place) → free (Enforce ∷ p) ≡ i (Enforce ∷ p))
       → BlockKept types kept s n.body (part Body start) (part Body mem) → BlockGiven types given s n.body (part Body i) → ContractKept types kept t n.contract start mem → ContractGiven types given t n.contract i → EachCall Q (points n)
   node_has n s t start mem i b u v x kb gb kc gc =
       each_append Q (controls (controls_of n.contract) (λ q. Controls ∷ q)) (points_of_contract n.contract (λ q. q) ++ points_of (names_of n.outputs) n.body (λ q. Body ∷ q)) (each_control Q (controls_of n.contract) (λ q. Controls ∷ q))

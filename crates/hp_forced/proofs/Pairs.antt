@@ -11,8 +11,8 @@ use Rattle.hp_tree.specs.Expressions.{Expr, constant, variable, last_of, one, tw
 use Rattle.hp_tree.specs.Blocks.{Decl, Block, block, Eqns, no_eqn, more_eqns, Eqn, define, switch, reset, automaton, Arms, no_arm, more_arms, States, no_state, more_states}
 use Rattle.hp_tree.specs.Programs.{TypeDecl, Contract, Node}
 use Rattle.hp_tree.specs.Operators.{Reading, abstraction, is_cons, is_true, constant_of}
-use Rattle.hp_tree.specs.Instant.{Inputs, Controls, Body, Guard, Assume, Enforce, Named, Fresh, Equations, Head, Tail, Right, Test, Arms as ArmsOf, States as StatesOf, Until, Unless, Active, Next, Pending, First, Second, Third, Args, Instance, Place, Instant, Given, part, at, top, since, nothing, alone, in_row, Clock, holds, without}
-use Rattle.hp_tree.specs.Meaning.{Names, Nodes, no_nodes, inside, within, lasts, input_of, clock_of, Jump, selected, declares, controls_of, given_to, node_among, expr, exprs, merged, conditions, strong, read_in, last_in, weak_in, scope, equations, equation, arm, states, guard, node}
+use Rattle.hp_tree.specs.Instant.{Inputs, Controls, Body, Observer, Assume, Enforce, Named, Fresh, Equations, Head, Tail, Right, Test, Arms as ArmsOf, States as StatesOf, Until, Unless, Active, Next, Pending, First, Second, Third, Args, Instance, Place, Instant, Given, part, at, top, since, nothing, alone, in_row, Clock, holds, without}
+use Rattle.hp_tree.specs.Meaning.{Names, Nodes, no_nodes, inside, within, lasts, input_of, clock_of, Jump, selected, declares, controls_of, given_to, node_among, expr, exprs, merged, conditions, strong, read_in, last_in, weak_in, scope, equations, equation, arm, states, observer, node}
 use Rattle.hp_causal.specs.Abstract.{given_outputs, contract_alone, callees}
 use Rattle.hp_forced.proofs.Mended.{Mends, flag_of, mend, mend_all, mend_parts, mend_tests, mend_block, mend_eqns, mend_eqn, mend_arms, mend_states, mend_told, mend_contract, mend_node, mend_none, mend_alone, mend_by}
 
@@ -169,19 +169,19 @@ module _ (types : List TypeDecl) (R : Reading) (N : Nodes) (callee : List ℕ �
   told_pairs None names last g now start m p f t v = gone (now (p ++ (Second ∷ []))) (m (p ++ (Second ∷ []))) t
   told_pairs (Some e) names last g now start m p f t v = expr_pairs e [] names last g now start m p f t v
 
-  pub no_output : (o : Option Contract) (names last : Names) (g : Given) (now : Instant) (x : List ℕ) → guard types R N o names last g now (Named x ∷ Second ∷ []) ≡ Absent
+  pub no_output : (o : Option Contract) (names last : Names) (g : Given) (now : Instant) (x : List ℕ) → observer types R N o names last g now (Named x ∷ Second ∷ []) ≡ Absent
   no_output None names last g now x = refl
   no_output (Some c) names last g now x = refl
 
   pub contract_pairs : (o : Option Contract) (names last : Names) (g : Given) (now start : Instant)
-      → ((p : Place) → now (Guard ∷ p) ≡ guard types R N o names last g now (Guard ∷ p)) → ((p : Place) → now (Assume ∷ p) ≡ guard types R N o names last g now (Assume ∷ p)) → ((p : Place) → now (Enforce ∷ p) ≡ guard types R N o names last g now (Enforce ∷ p))
-      → (p : Place) → now (p ++ (Second ∷ [])) ≡ guard types R N o names last g now (p ++ (Second ∷ [])) → now (p ++ (First ∷ [])) ≡ Star → now (p ++ (Second ∷ [])) ≡ Star → (v : Value) → mend_contract callee o start p v ≡ flag_of v
+      → ((p : Place) → now (Observer ∷ p) ≡ observer types R N o names last g now (Observer ∷ p)) → ((p : Place) → now (Assume ∷ p) ≡ observer types R N o names last g now (Assume ∷ p)) → ((p : Place) → now (Enforce ∷ p) ≡ observer types R N o names last g now (Enforce ∷ p))
+      → (p : Place) → now (p ++ (Second ∷ [])) ≡ observer types R N o names last g now (p ++ (Second ∷ [])) → now (p ++ (First ∷ [])) ≡ Star → now (p ++ (Second ∷ [])) ≡ Star → (v : Value) → mend_contract callee o start p v ≡ flag_of v
   contract_pairs None names last g now start hg ha he p m f t v = gone (now (p ++ (Second ∷ []))) m t
-  contract_pairs (Some c) names last g now start hg ha he (Guard ∷ p) m f t v = block_pairs c.body false names last (since false (at Guard g)) (part Guard now) (part Guard start) hg p f t v
+  contract_pairs (Some c) names last g now start hg ha he (Observer ∷ p) m f t v = block_pairs c.body false names last (since false (at Observer g)) (part Observer now) (part Observer start) hg p f t v
   contract_pairs (Some c) names last g now start hg ha he (Assume ∷ p) m f t v =
-      told_pairs c.assume (read_in types R N c.body names (part Guard now)) (last_in types R N c.body (since false (at Guard g)).past last) (at Assume g) (part Assume now) (part Assume start) ha p f t v
+      told_pairs c.assume (read_in types R N c.body names (part Observer now)) (last_in types R N c.body (since false (at Observer g)).past last) (at Assume g) (part Assume now) (part Assume start) ha p f t v
   contract_pairs (Some c) names last g now start hg ha he (Enforce ∷ p) m f t v =
-      told_pairs c.enforce (read_in types R N c.body names (part Guard now)) (last_in types R N c.body (since false (at Guard g)).past last) (at Enforce g) (part Enforce now) (part Enforce start) he p f t v
+      told_pairs c.enforce (read_in types R N c.body names (part Observer now)) (last_in types R N c.body (since false (at Observer g)).past last) (at Enforce g) (part Enforce now) (part Enforce start) he p f t v
   contract_pairs (Some c) names last g now start hg ha he p m f t v = gone (now (p ++ (Second ∷ []))) m t
 
   pub node_pairs : (n : Node) (inputs : List Value) (g : Given) (now start : Instant) → Met now (node types R N n inputs g now) → Pairs now (mend_node callee n start)
@@ -199,8 +199,8 @@ module _ (types : List TypeDecl) (R : Reading) (N : Nodes) (callee : List ℕ �
       seen : Names
       seen x = if declares n.outputs x then now (Named x ∷ []) else outer x
 
-      in_contract : (p : Place) → now (p ++ (Second ∷ [])) ≡ guard types R N n.contract seen last g now (p ++ (Second ∷ [])) → now (p ++ (First ∷ [])) ≡ Star → now (p ++ (Second ∷ [])) ≡ Star → mend_contract callee n.contract start p v ≡ flag_of v
-      in_contract p e f t = contract_pairs n.contract seen last g now start (λ q. m (Guard ∷ q)) (λ q. m (Assume ∷ q)) (λ q. m (Enforce ∷ q)) p e f t v
+      in_contract : (p : Place) → now (p ++ (Second ∷ [])) ≡ observer types R N n.contract seen last g now (p ++ (Second ∷ [])) → now (p ++ (First ∷ [])) ≡ Star → now (p ++ (Second ∷ [])) ≡ Star → mend_contract callee n.contract start p v ≡ flag_of v
+      in_contract p e f t = contract_pairs n.contract seen last g now start (λ q. m (Observer ∷ q)) (λ q. m (Assume ∷ q)) (λ q. m (Enforce ∷ q)) p e f t v
 
       by : (p : Place) → now (p ++ (Second ∷ [])) ≡ node types R N n inputs g now (p ++ (Second ∷ [])) → now (p ++ (First ∷ [])) ≡ Star → now (p ++ (Second ∷ [])) ≡ Star → mend_node callee n start p v ≡ flag_of v
       by (Body ∷ p) e f t = block_pairs n.body false (input_of (controls_of n.contract) controls outer) last (since false (at Body g)) (part Body now) (part Body start) (λ q. m (Body ∷ q)) p f t v
@@ -227,8 +227,8 @@ module _ (types : List TypeDecl) where
       last : Names
       last = lasts (λ c. abstraction.constant (constant_of types c)) n.outputs g.past (λ x. Absent)
 
-      in_contract : (p : Place) → now (p ++ (Second ∷ [])) ≡ guard types abstraction no_nodes n.contract seen last g now (p ++ (Second ∷ [])) → now (p ++ (First ∷ [])) ≡ Star → now (p ++ (Second ∷ [])) ≡ Star → mend_contract mend_none n.contract start p v ≡ flag_of v
-      in_contract p e f t = contract_pairs types abstraction no_nodes mend_none none_pairs n.contract seen last g now start (λ q. m (Guard ∷ q)) (λ q. m (Assume ∷ q)) (λ q. m (Enforce ∷ q)) p e f t v
+      in_contract : (p : Place) → now (p ++ (Second ∷ [])) ≡ observer types abstraction no_nodes n.contract seen last g now (p ++ (Second ∷ [])) → now (p ++ (First ∷ [])) ≡ Star → now (p ++ (Second ∷ [])) ≡ Star → mend_contract mend_none n.contract start p v ≡ flag_of v
+      in_contract p e f t = contract_pairs types abstraction no_nodes mend_none none_pairs n.contract seen last g now start (λ q. m (Observer ∷ q)) (λ q. m (Assume ∷ q)) (λ q. m (Enforce ∷ q)) p e f t v
 
       by : (p : Place) → now (p ++ (Second ∷ [])) ≡ contract_alone types n vs g now (p ++ (Second ∷ [])) → now (p ++ (First ∷ [])) ≡ Star → now (p ++ (Second ∷ [])) ≡ Star → mend_alone types n start p v ≡ flag_of v
       by (Body ∷ p) e f t = gone (now (Body ∷ (p ++ (Second ∷ [])))) e t

@@ -15,7 +15,7 @@ use Rattle.hp_tree.specs.Programs.{TypeDecl, Contract, Node}
 use Rattle.hp_tree.specs.Operators.{is_comparison, marked}
 use Rattle.hp_tree.specs.Filled.{first_value}
 use Rattle.hp_tree.specs.ExpressionTypes.{Scope as Types, typed_in, untyped, scope_of, type_of as typed_of}
-use Rattle.hp_tree.specs.Instant.{Inputs, Controls, Body, Guard, Assume, Enforce, Named, Equations, Head, Tail, Right, Test, Arms as ArmsOf, States as StatesOf, Until, Unless, First, Second, Third, Args, Instance, Place, Instant, part}
+use Rattle.hp_tree.specs.Instant.{Inputs, Controls, Body, Observer, Assume, Enforce, Named, Equations, Head, Tail, Right, Test, Arms as ArmsOf, States as StatesOf, Until, Unless, First, Second, Third, Args, Instance, Place, Instant, part}
 use Rattle.hp_tree.specs.Meaning.{types_of, declares, controls_of, node_among}
 use Rattle.hp_tree.specs.Values.{constructors_of}
 use Rattle.hp_causal.specs.Sources.{below}
@@ -209,12 +209,12 @@ module _ (types : List TypeDecl) (P : Place → Type 0) (m : Place → Value →
     told_stays None names start w u = none_stays
     told_stays (Some e) names start w u = expr_stays e names start w u
 
-    contract_stays : (o : Option Contract) (names : Types) (start : Instant) (w : Place → Place) → Over (below Guard w) (λ q. mend_contract callee o start (Guard ∷ q)) → Over (below Assume w) (λ q. mend_contract callee o start (Assume ∷ q))
+    contract_stays : (o : Option Contract) (names : Types) (start : Instant) (w : Place → Place) → Over (below Observer w) (λ q. mend_contract callee o start (Observer ∷ q)) → Over (below Assume w) (λ q. mend_contract callee o start (Assume ∷ q))
         → Over (below Enforce w) (λ q. mend_contract callee o start (Enforce ∷ q)) → Stay (slots_of_contract types outputs called o names w)
     contract_stays None names start w u v x = none_stays
     contract_stays (Some c) names start w u v x =
-        stay_joined (slots_of_block types outputs called c.body names (below Guard w)) (slots_told types outputs called c.assume (scope_of c.body names) (below Assume w) ++ slots_told types outputs called c.enforce (scope_of c.body names) (below Enforce w))
-        (block_stays c.body names (part Guard start) (below Guard w) u)
+        stay_joined (slots_of_block types outputs called c.body names (below Observer w)) (slots_told types outputs called c.assume (scope_of c.body names) (below Assume w) ++ slots_told types outputs called c.enforce (scope_of c.body names) (below Enforce w))
+        (block_stays c.body names (part Observer start) (below Observer w) u)
         (stay_joined (slots_told types outputs called c.assume (scope_of c.body names) (below Assume w)) (slots_told types outputs called c.enforce (scope_of c.body names) (below Enforce w))
         (told_stays c.assume (scope_of c.body names) (part Assume start) (below Assume w) v) (told_stays c.enforce (scope_of c.body names) (part Enforce start) (below Enforce w) x))
 
@@ -227,7 +227,7 @@ module _ (types : List TypeDecl) (P : Place → Type 0) (m : Place → Value →
   called_stays None a start w u = none_stays
   called_stays (Some n) a start w u =
       stay_joined (outputs_slots n.outputs w) (callee_slots types (Some n) w) (outputs_stay n.outputs w (a n refl) (λ x t v. u (Named x ∷ []) v))
-      (of_contract n.contract (contract_stays (λ f. []) no_slots mend_none (λ f start w u. none_stays) n.contract (typed_in n.inputs (typed_in n.outputs untyped)) start w (λ q v. u (Guard ∷ q) v) (λ q v. u (Assume ∷ q) v) (λ q v. u (Enforce ∷ q) v)))
+      (of_contract n.contract (contract_stays (λ f. []) no_slots mend_none (λ f start w u. none_stays) n.contract (typed_in n.inputs (typed_in n.outputs untyped)) start w (λ q v. u (Observer ∷ q) v) (λ q v. u (Assume ∷ q) v) (λ q v. u (Enforce ∷ q) v)))
     where
       of_contract : (o : Option Contract) → Stay (slots_of_contract types (λ f. []) no_slots o (typed_in n.inputs (typed_in n.outputs untyped)) w)
           → Stay (elim o [ None ↦ [] | Some c ↦ lasts_slots types n.outputs w ++ slots_of_contract types (λ f. []) no_slots (Some c) (typed_in n.inputs (typed_in n.outputs untyped)) w ])

@@ -10,7 +10,7 @@ use Rattle.hp_tree.specs.Expressions.{Expr, constant, variable, last_of, one, tw
 use Rattle.hp_tree.specs.Blocks.{Decl, Block, block, Eqns, no_eqn, more_eqns, Eqn, define, switch, reset, automaton, Arms, no_arm, more_arms, States, no_state, more_states}
 use Rattle.hp_tree.specs.Programs.{TypeDecl, Contract, Node}
 use Rattle.hp_tree.specs.Operators.{is_there}
-use Rattle.hp_tree.specs.Instant.{Step, Controls, Body, Guard, Assume, Enforce, Named, Fresh, Equations, Head, Tail, Right, Test, Arms as ArmsOf, States as StatesOf, Until, Unless, First, Second, Third, Args, Instance, Place, Instant, Clock, part, without}
+use Rattle.hp_tree.specs.Instant.{Step, Controls, Body, Observer, Assume, Enforce, Named, Fresh, Equations, Head, Tail, Right, Test, Arms as ArmsOf, States as StatesOf, Until, Unless, First, Second, Third, Args, Instance, Place, Instant, Clock, part, without}
 use Rattle.hp_tree.specs.Meaning.{clock_of, defines, names_of, controls_of}
 use Rattle.hp_causal.specs.Sources.{below}
 use Rattle.hp_causal.specs.declared.point.PointKind.TheVariants as kind
@@ -234,9 +234,9 @@ module _ (types : List TypeDecl) (fits : List ℕ → Instant → Type 0) (now :
   contract_calls : (o : Option Contract) (s : Scope) (class : Assignment) → ContractLoose types true fits s class o now → EachCall CallFits (points_of_contract o (λ p. p))
   contract_calls None s class h = tt
   contract_calls (Some c) s class h =
-      let K = classes_of c.body none_second (λ p. class (Guard ∷ p)) in
-      each_append CallFits (points_of [] c.body (λ p. Guard ∷ p)) (calls_told c.assume (λ p. Assume ∷ p) ++ calls_told c.enforce (λ p. Enforce ∷ p))
-      (block_at_calls [] c.body s none_second (λ p. class (Guard ∷ p)) h.0 (λ p. Guard ∷ p) (λ p. refl) h.1.1.0)
+      let K = classes_of c.body none_second (λ p. class (Observer ∷ p)) in
+      each_append CallFits (points_of [] c.body (λ p. Observer ∷ p)) (calls_told c.assume (λ p. Assume ∷ p) ++ calls_told c.enforce (λ p. Enforce ∷ p))
+      (block_at_calls [] c.body s none_second (λ p. class (Observer ∷ p)) h.0 (λ p. Observer ∷ p) (λ p. refl) h.1.1.0)
       (each_append CallFits (calls_told c.assume (λ p. Assume ∷ p)) (calls_told c.enforce (λ p. Enforce ∷ p))
       (told_calls c.assume (into s c.body) K h.0 (λ p. Assume ∷ p) (λ p. refl) h.1.1.1.1.0)
       (told_calls c.enforce (into s c.body) K h.0 (λ p. Enforce ∷ p) (λ p. refl) h.1.1.1.1.1))

@@ -8,7 +8,7 @@ use Rattle.hp_base.specs.declared.value.Value.TheVariants.{Absent, B, E, I, Star
 use Rattle.hp_tree.specs.Blocks.{Decl}
 use Rattle.hp_tree.specs.Programs.{TypeDecl}
 use Rattle.hp_tree.specs.Values.{IsOf, AreOf}
-use Rattle.hp_tree.specs.Instant.{Step, Inputs, Controls, Body, Guard, Assume, Enforce, Named, Fresh, Equations, Head, Tail, Right, Test, Arms as ArmsOf, States as StatesOf, Until, Unless, Active, Next, Pending, First, Second, Third, Args, Instance, Place, Instant, part, nothing, alone, with_one, with_two, with_three, in_row, with_row, with_instance, of_two, in_block, in_right, with_arms, with_body, in_state, with_words, in_guard, in_node}
+use Rattle.hp_tree.specs.Instant.{Step, Inputs, Controls, Body, Observer, Assume, Enforce, Named, Fresh, Equations, Head, Tail, Right, Test, Arms as ArmsOf, States as StatesOf, Until, Unless, Active, Next, Pending, First, Second, Third, Args, Instance, Place, Instant, part, nothing, alone, with_one, with_two, with_three, in_row, with_row, with_instance, of_two, in_block, in_right, with_arms, with_body, in_state, with_words, in_observer, in_node}
 use Rattle.hp_valued.specs.Fitting.{IsThere}
 
 abbrev pub IsFlag : Value → Type 0
@@ -186,14 +186,14 @@ module _ (i : Instant) where
       by StatesOf = h
       by s = nothing_solid (part s i) (λ p. m (s ∷ p))
 
-pub guard_solid : (j k l : Instant) → Solid j → Solid k → Solid l → Solid (in_guard j k l)
-guard_solid j k l hj hk hl = solid_of (in_guard j k l) (absent_star Absent refl) (first_absent Absent Absent Absent refl) by
+pub observer_solid : (j k l : Instant) → Solid j → Solid k → Solid l → Solid (in_observer j k l)
+observer_solid j k l hj hk hl = solid_of (in_observer j k l) (absent_star Absent refl) (first_absent Absent Absent Absent refl) by
   where
-    by : (s : Step) → Solid (part s (in_guard j k l))
-    by Guard = hj
+    by : (s : Step) → Solid (part s (in_observer j k l))
+    by Observer = hj
     by Assume = hk
     by Enforce = hl
-    by s = nothing_solid (part s (in_guard j k l)) (λ p. refl)
+    by s = nothing_solid (part s (in_observer j k l)) (λ p. refl)
 
 -- values of some declarations, in a row
 pub values_solid : (types : List TypeDecl) (ds : List Decl) (vs : List Value) (i : Instant) → AreOf types ds vs → ((p : Place) → i p ≡ in_row (map alone vs) p) → Solid i
@@ -203,8 +203,8 @@ values_solid types (d ∷ ds) [] i h m = absurd h
 values_solid types (d ∷ ds) (v ∷ vs) i h m =
     row_solid i (alone v) (map alone vs) m (alone_solid (part Head i) (λ e. of_star types d.ty v h.0 (sym (m (Head ∷ [])) ∙ e)) (λ s p. m (Head ∷ s ∷ p))) (values_solid types ds vs (part Tail i) h.1 (λ p. m (Tail ∷ p)))
 
-pub node_solid : (i : Instant) (outputs : List ℕ → Value) (inputs controls : List Value) (body guard : Instant) → ((p : Place) → i p ≡ in_node outputs inputs controls body guard p) → ((x : List ℕ) → i (Named x ∷ []) ≡ Star → ⊥) → Solid (part Inputs i) → Solid (part Controls i) → Solid (part Body i) → Solid guard → ((x : List ℕ) (s : Step) (p : Place) → guard (Named x ∷ s ∷ p) ≡ Absent) → ((s : Step) (p : Place) → guard (Fresh ∷ s ∷ p) ≡ Absent) → Solid i
-node_solid i outputs inputs controls body guard m a hi hc hb hg named fresh =
+pub node_solid : (i : Instant) (outputs : List ℕ → Value) (inputs controls : List Value) (body observer : Instant) → ((p : Place) → i p ≡ in_node outputs inputs controls body observer p) → ((x : List ℕ) → i (Named x ∷ []) ≡ Star → ⊥) → Solid (part Inputs i) → Solid (part Controls i) → Solid (part Body i) → Solid observer → ((x : List ℕ) (s : Step) (p : Place) → observer (Named x ∷ s ∷ p) ≡ Absent) → ((s : Step) (p : Place) → observer (Fresh ∷ s ∷ p) ≡ Absent) → Solid i
+node_solid i outputs inputs controls body observer m a hi hc hb hg named fresh =
     solid_of i (λ e. (hg []).0 (sym (m []) ∙ e)) (λ k n e f. subst (λ z. IsFlag z ⊎ IsNumber z) (sym (m [])) ((hg []).1 k n (sym (m (First ∷ [])) ∙ e) (sym (m (Second ∷ [])) ∙ f))) by
   where
     by : (s : Step) → Solid (part s i)
@@ -213,4 +213,4 @@ node_solid i outputs inputs controls body guard m a hi hc hb hg named fresh =
     by Inputs = hi
     by Controls = hc
     by Body = hb
-    by s = same_solid (part s i) (part s guard) (λ p. m (s ∷ p)) (λ p. hg (s ∷ p))
+    by s = same_solid (part s i) (part s observer) (λ p. m (s ∷ p)) (λ p. hg (s ∷ p))

@@ -6,7 +6,7 @@ use Rattle.std.proofs.Math.Path.{fun_ext}
 use Rattle.std.specs.Str.{bytes_eq}
 use Rattle.hp_tree.specs.Blocks.{Decl, block, Eqns, no_eqn}
 use Rattle.hp_tree.specs.Programs.{Contract, Node}
-use Rattle.hp_tree.specs.Instant.{Inputs, Controls, Body, Guard, Assume, Enforce, Named, Equations, Place}
+use Rattle.hp_tree.specs.Instant.{Inputs, Controls, Body, Observer, Assume, Enforce, Named, Equations, Place}
 use Rattle.hp_tree.specs.Meaning.{declares, some_defines, clock_in, controls_of}
 use Rattle.hp_causal.specs.Sources.{Sources, none, only, both, also, NameSources, PlaceSources, IsRead, below, at_block}
 use Rattle.hp_causal.specs.WhatIsRead.{names_in, control_in, output_in, of_definitions, in_equations, in_contract}
@@ -30,9 +30,9 @@ controls_bare (Some c) = refl
 
 pub nothing_read : (c : Option Contract) (names : NameSources) (p : Place) → in_contract (option_map bare c) names only p ≡ none
 nothing_read None names p = refl
-nothing_read (Some c) names (Guard ∷ Named z ∷ []) = refl
-nothing_read (Some c) names (Guard ∷ Equations ∷ p) = refl
-nothing_read (Some c) names (Guard ∷ p) = refl
+nothing_read (Some c) names (Observer ∷ Named z ∷ []) = refl
+nothing_read (Some c) names (Observer ∷ Equations ∷ p) = refl
+nothing_read (Some c) names (Observer ∷ p) = refl
 nothing_read (Some c) names (Assume ∷ p) = refl
 nothing_read (Some c) names (Enforce ∷ p) = refl
 nothing_read (Some c) names p = refl

@@ -145,14 +145,14 @@ module _ (outputs : List Decl) (contract : Option Contract) (body : Block) (firs
       let see = seen_of_outputs outputs in
       let at : seen_at second ≡ see = (λ j. record { variables = sight (variables j); values = sight (values j) }) ∙ seen in
       let number : second.next ≡ length outputs + size_of_contract contract = omega arith in
-      let guard : second.asks.items ≡ of_contract see (length outputs) contract =
+      let observer : second.asks.items ≡ of_contract see (length outputs) contract =
       of_first
       ∙ ap (λ made. with_more made (of_contract (seen_at first) first.next contract)) none
       ∙ more-from_nil (of_contract (seen_at first) first.next contract)
       ∙ ap (λ s. of_contract s first.next contract) seen
       ∙ ap (λ k. of_contract see k contract) next in
       of_second
-      ∙ ap (λ made. with_more made (of_block (seen_at second) second.next body)) guard
+      ∙ ap (λ made. with_more made (of_block (seen_at second) second.next body)) observer
       ∙ ap (λ s. with_more (of_contract see (length outputs) contract) (of_block s second.next body)) at
       ∙ ap (λ k. with_more (of_contract see (length outputs) contract) (of_block see k body)) number
       ∙ more-is (of_contract see (length outputs) contract) (of_block see (length outputs + size_of_contract contract) body)

@@ -1,7 +1,7 @@
 -- What is found in a node by numbers is what the definitions find.
 use Rattle.std.proofs.Common.{◌≡◌, ℕ, ◌+◌, Bool, false, IsTrue, List, [], ◌∷◌, ◌++◌, length, Option, None, Some, refl, sym, ap, subst, ◌∙◌, arith}
 use Rattle.hp_tree.specs.Programs.{Contract, Node}
-use Rattle.hp_tree.specs.Instant.{Body, Guard, Named, Place}
+use Rattle.hp_tree.specs.Instant.{Body, Observer, Named, Place}
 use Rattle.hp_init.specs.declared.ask.Ask.{Ask}
 use Rattle.hp_init.specs.Classes.{Assignment, Known, NodeFollows, ContractFollows, BlockFollows}
 use Rattle.hp_init.specs.Wants as wants
@@ -51,14 +51,14 @@ module _ (q : Valued) where
     node_obeyed class tied h =
         let outputs = outputs_law q n class (λ x v e. tied (Named x ∷ []) v e) in
         both q contract_asks body_asks
-        (contract_obeyed (seen_outputs n) (length n.outputs) (λ p. class (Guard ∷ p)) n.contract (λ p v e. tied (Guard ∷ p) v e) (subst (λ known. ContractFollows known (λ p. class (Guard ∷ p)) n.contract) outputs h.0))
+        (contract_obeyed (seen_outputs n) (length n.outputs) (λ p. class (Observer ∷ p)) n.contract (λ p v e. tied (Observer ∷ p) v e) (subst (λ known. ContractFollows known (λ p. class (Observer ∷ p)) n.contract) outputs h.0))
         (block_obeyed q (seen_outputs n) behind_contract (λ p. class (Body ∷ p)) n.body (λ p v e. tied (Body ∷ p) v e) (subst (λ known. BlockFollows known (λ p. class (Body ∷ p)) n.body) outputs h.1))
 
     node_follows : (class : Assignment) → Tied q (number_node n) class → ObeysAll q (of_node n) → NodeFollows class n
     node_follows class tied h =
         let outputs = sym (outputs_law q n class (λ x v e. tied (Named x ∷ []) v e)) in (
-          subst (λ known. ContractFollows known (λ p. class (Guard ∷ p)) n.contract) outputs
-              (contract_follows (seen_outputs n) (length n.outputs) (λ p. class (Guard ∷ p)) n.contract (λ p v e. tied (Guard ∷ p) v e) (fore q contract_asks body_asks h)),
+          subst (λ known. ContractFollows known (λ p. class (Observer ∷ p)) n.contract) outputs
+              (contract_follows (seen_outputs n) (length n.outputs) (λ p. class (Observer ∷ p)) n.contract (λ p v e. tied (Observer ∷ p) v e) (fore q contract_asks body_asks h)),
           subst (λ known. BlockFollows known (λ p. class (Body ∷ p)) n.body) outputs
               (block_follows q (seen_outputs n) behind_contract (λ p. class (Body ∷ p)) n.body (λ p v e. tied (Body ∷ p) v e) (rear q contract_asks body_asks h)),
         )
@@ -66,10 +66,10 @@ module _ (q : Valued) where
     node_unmet : (class : Assignment) → Tied q (number_node n) class → unmet q (of_node n) ≡ first_unmet (wants.of_node class n)
     node_unmet class tied =
         let see = known_as q (seen_outputs n) in
-        joined q contract_asks body_asks (wants.of_contract see (λ p. class (Guard ∷ p)) n.contract) (wants.of_block see (λ p. class (Body ∷ p)) n.body)
-        (contract_unmet (seen_outputs n) (length n.outputs) (λ p. class (Guard ∷ p)) n.contract (λ p v e. tied (Guard ∷ p) v e))
+        joined q contract_asks body_asks (wants.of_contract see (λ p. class (Observer ∷ p)) n.contract) (wants.of_block see (λ p. class (Body ∷ p)) n.body)
+        (contract_unmet (seen_outputs n) (length n.outputs) (λ p. class (Observer ∷ p)) n.contract (λ p v e. tied (Observer ∷ p) v e))
         (block_unmet q (seen_outputs n) behind_contract (λ p. class (Body ∷ p)) n.body (λ p v e. tied (Body ∷ p) v e))
-        ∙ ap (λ (known : Known). first_unmet (wants.of_contract known (λ p. class (Guard ∷ p)) n.contract ++ wants.of_block known (λ p. class (Body ∷ p)) n.body))
+        ∙ ap (λ (known : Known). first_unmet (wants.of_contract known (λ p. class (Observer ∷ p)) n.contract ++ wants.of_block known (λ p. class (Body ∷ p)) n.body))
         (sym (outputs_law q n class (λ x v e. tied (Named x ∷ []) v e)))
 
 -- ---- classes of places by numbers, and of numbers by places

@@ -5,7 +5,7 @@ use Rattle.std.proofs.lemmas.Slice.Eq.{bytes_eq-Decides}
 use Rattle.std.proofs.lemmas.List.{length-append}
 use Rattle.hp_tree.specs.Blocks.{Decl, Block, block, Eqns, no_eqn, more_eqns, Eqn, define, switch, reset, automaton, Arms, no_arm, more_arms, States, no_state, more_states}
 use Rattle.hp_tree.specs.Programs.{Contract, Node}
-use Rattle.hp_tree.specs.Instant.{Step, Body, Guard, Named, Equations, Head, Tail, Arms as ArmsOf, States as StatesOf, Place}
+use Rattle.hp_tree.specs.Instant.{Step, Body, Observer, Named, Equations, Head, Tail, Arms as ArmsOf, States as StatesOf, Place}
 use Rattle.hp_init.specs.Names.{size, size_of, size_of_all, size_of_arms, size_of_states, number_block, number_eqns, number_eqn, number_arms, number_states, number_contract, size_of_contract, number_node}
 use Rattle.hp_tree.specs.Meaning.{names_of as declared}
 use Rattle.hp_defining.specs.Layers.{numbered}
@@ -177,7 +177,7 @@ places_of_contract None = []
 places_of_contract (Some c) = places c.body
 
 abbrev pub places_of_node : Node → List Place
-places_of_node n = name_places (declared n.outputs) ++ (below Guard (places_of_contract n.contract) ++ below Body (places n.body))
+places_of_node n = name_places (declared n.outputs) ++ (below Observer (places_of_contract n.contract) ++ below Body (places n.body))
 
 count_of_contract : (c : Option Contract) → length (places_of_contract c) ≡ size_of_contract c
 count_of_contract None = refl
@@ -189,15 +189,15 @@ placed_in_contract k v (Some c) p h = placed k v c.body p h
 
 pub placed_in_node : (v : ℕ) (n : Node) (p : Place) → number_node n p ≡ Some v → IsPlaced (places_of_node n) 0 v p
 placed_in_node v n (Named x ∷ []) h =
-    fore (name_places (declared n.outputs)) (below Guard (places_of_contract n.contract) ++ below Body (places n.body)) 0 v (Named x ∷ []) (name_placed (declared n.outputs) 0 v x h)
-placed_in_node v n (Guard ∷ p) h =
-    rear (name_places (declared n.outputs)) (below Guard (places_of_contract n.contract) ++ below Body (places n.body)) (length n.outputs) 0 v (Guard ∷ p) (count_declared n.outputs)
-    (fore (below Guard (places_of_contract n.contract)) (below Body (places n.body)) (0 + length n.outputs) v (Guard ∷ p)
-    (step Guard (places_of_contract n.contract) (0 + length n.outputs) v p (placed_in_contract (0 + length n.outputs) v n.contract p (ap (λ k. number_contract k n.contract p) (let e : 0 + length n.outputs ≡ length n.outputs = omega arith in e) ∙ h))))
+    fore (name_places (declared n.outputs)) (below Observer (places_of_contract n.contract) ++ below Body (places n.body)) 0 v (Named x ∷ []) (name_placed (declared n.outputs) 0 v x h)
+placed_in_node v n (Observer ∷ p) h =
+    rear (name_places (declared n.outputs)) (below Observer (places_of_contract n.contract) ++ below Body (places n.body)) (length n.outputs) 0 v (Observer ∷ p) (count_declared n.outputs)
+    (fore (below Observer (places_of_contract n.contract)) (below Body (places n.body)) (0 + length n.outputs) v (Observer ∷ p)
+    (step Observer (places_of_contract n.contract) (0 + length n.outputs) v p (placed_in_contract (0 + length n.outputs) v n.contract p (ap (λ k. number_contract k n.contract p) (let e : 0 + length n.outputs ≡ length n.outputs = omega arith in e) ∙ h))))
 placed_in_node v n (Body ∷ p) h =
     let k = 0 + length n.outputs in
-    rear (name_places (declared n.outputs)) (below Guard (places_of_contract n.contract) ++ below Body (places n.body)) (length n.outputs) 0 v (Body ∷ p) (count_declared n.outputs)
-    (rear (below Guard (places_of_contract n.contract)) (below Body (places n.body)) (size_of_contract n.contract) k v (Body ∷ p) (one Guard (places_of_contract n.contract) (size_of_contract n.contract) (count_of_contract n.contract))
+    rear (name_places (declared n.outputs)) (below Observer (places_of_contract n.contract) ++ below Body (places n.body)) (length n.outputs) 0 v (Body ∷ p) (count_declared n.outputs)
+    (rear (below Observer (places_of_contract n.contract)) (below Body (places n.body)) (size_of_contract n.contract) k v (Body ∷ p) (one Observer (places_of_contract n.contract) (size_of_contract n.contract) (count_of_contract n.contract))
     (step Body (places n.body) (k + size_of_contract n.contract) v p (placed (k + size_of_contract n.contract) v n.body p
     (ap (λ j. number_block (j + size_of_contract n.contract) n.body p) (let e : 0 + length n.outputs ≡ length n.outputs = omega arith in e) ∙ h))))
 placed_in_node v n p h = absurd cc

@@ -8,6 +8,7 @@ use Rattle.hp_tree.specs.Meaning.{declares, names_of as declared}
 use Rattle.hp_init.specs.Wants.{must_be_first, some_must}
 use Rattle.hp_defining.specs.declared.layer.Layer.{Layer}
 use Rattle.hp_defining.specs.Layers.{numbered, put_at, no_entry, says, says_numbers, says_seen, said, or_none, sight}
+use Rattle.hp_defining.specs.Names.{listed}
 use Rattle.hp_init.specs.Asks.{Sight, over}
 use Rattle.hp_init.specs.Tables.{declared_in}
 use Rattle.hp_defining.proofs.LayerLaws.{first_said, said-last}
@@ -53,11 +54,6 @@ sight-numbers ls l k names h =
     ∙ ap (λ (f : List ℕ → Option (Option ℕ)). or_none (first_said (f x) (said ls x))) h
     ∙ over_by ls x (numbered k names x) in
     λ j x. one x j
-
--- whether a name is among others
-abbrev pub listed : List (List ℕ) → List ℕ → Bool
-listed [] x = false
-listed (y ∷ ys) x = bytes_eq y x || listed ys x
 
 seen_where : (see : Sight) (x : List ℕ) (d r : Bool) (o : Option (Option ℕ)) → o ≡ (if r then Some (see x) else None) → (if d then Some (see x) else o) ≡ (if d || r then Some (see x) else None)
 seen_where see x true r o e = refl

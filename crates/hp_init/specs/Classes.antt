@@ -6,7 +6,7 @@ use Rattle.hp_base.specs.declared.span.Span.{Span}
 use Rattle.hp_tree.specs.Expressions.{Expr, constant, variable, last_of, one, two, choose, pre, fby, arrow, when_is, merge, call}
 use Rattle.hp_tree.specs.Blocks.{Decl, Block, block, Eqns, no_eqn, more_eqns, Eqn, define, switch, reset, automaton, Arms, no_arm, more_arms, States, no_state, more_states}
 use Rattle.hp_tree.specs.Programs.{Contract, Node}
-use Rattle.hp_tree.specs.Instant.{Body, Guard, Named, Equations, Head, Tail, Arms as ArmsOf, States as StatesOf, Place}
+use Rattle.hp_tree.specs.Instant.{Body, Observer, Named, Equations, Head, Tail, Arms as ArmsOf, States as StatesOf, Place}
 use Rattle.hp_tree.specs.Meaning.{declares, defines, some_defines}
 
 -- whether a name is of class Second
@@ -105,7 +105,7 @@ ContractFollows k class (Some c) = BlockFollows k class c.body
 -- Each variable of a node is Second where one of its definitions is.
 abbrev pub NodeFollows : Assignment → Node → Type 0
 NodeFollows class n =
-    ContractFollows (known_outputs n class) (λ p. class (Guard ∷ p)) n.contract × BlockFollows (known_outputs n class) (λ p. class (Body ∷ p)) n.body
+    ContractFollows (known_outputs n class) (λ p. class (Observer ∷ p)) n.contract × BlockFollows (known_outputs n class) (λ p. class (Body ∷ p)) n.body
 
 -- The classes of a node are the least ones that follow the definitions: a variable is First wherever it can be.
 abbrev pub AreClasses : Node → Assignment → Type 0

@@ -3,7 +3,7 @@ use Rattle.std.specs.Prelude.{ℕ, ◌+◌, if◌then◌else◌, List, [], ◌�
 use Rattle.std.specs.Str.{bytes_eq}
 use Rattle.hp_tree.specs.Blocks.{Decl, Block, block, Eqns, no_eqn, more_eqns, Eqn, define, switch, reset, automaton, Arms, no_arm, more_arms, States, no_state, more_states}
 use Rattle.hp_tree.specs.Programs.{Contract, Node}
-use Rattle.hp_tree.specs.Instant.{Body, Guard, Named, Equations, Head, Tail, Arms as ArmsOf, States as StatesOf, Place}
+use Rattle.hp_tree.specs.Instant.{Body, Observer, Named, Equations, Head, Tail, Arms as ArmsOf, States as StatesOf, Place}
 use Rattle.hp_tree.specs.Meaning.{names_of as declared}
 use Rattle.hp_defining.specs.Layers.{numbered}
 
@@ -72,6 +72,6 @@ size_of_contract (Some c) = size c.body
 
 abbrev pub number_node : Node → Numbering
 number_node n (Named x ∷ []) = numbered 0 (declared n.outputs) x
-number_node n (Guard ∷ p) = number_contract (length n.outputs) n.contract p
+number_node n (Observer ∷ p) = number_contract (length n.outputs) n.contract p
 number_node n (Body ∷ p) = number_block (length n.outputs + size_of_contract n.contract) n.body p
 number_node n p = None

@@ -7,7 +7,7 @@ use Rattle.hp_tree.specs.declared.block.Trans.{Trans}
 use Rattle.hp_tree.specs.Expressions.{Expr, constant, variable, last_of, one, two, choose, pre, fby, arrow, when_is, merge, call, Exprs, no_expr, more_exprs, Parts, no_part, more_parts}
 use Rattle.hp_tree.specs.Blocks.{Decl, Block, block, Eqns, no_eqn, more_eqns, Eqn, define, switch, reset, automaton, Arms, no_arm, more_arms, States, no_state, more_states}
 use Rattle.hp_tree.specs.Programs.{Contract, Node}
-use Rattle.hp_tree.specs.Instant.{Body, Guard, Equations, Head, Tail, Arms as ArmsOf, States as StatesOf}
+use Rattle.hp_tree.specs.Instant.{Body, Observer, Equations, Head, Tail, Arms as ArmsOf, States as StatesOf}
 use Rattle.hp_causal.specs.Points.{span_of}
 use Rattle.hp_init.specs.Classes.{Classes, Assignment, is_second, Known, known_in, known_within, known_outputs}
 
@@ -122,4 +122,4 @@ of_contract k class (Some c) =
 -- the units of a node: those of its contract, and those of its body
 abbrev pub of_node : Assignment → Node → List Wish
 of_node class n =
-    of_contract (known_outputs n class) (λ p. class (Guard ∷ p)) n.contract ++ of_block (known_outputs n class) (λ p. class (Body ∷ p)) n.body
+    of_contract (known_outputs n class) (λ p. class (Observer ∷ p)) n.contract ++ of_block (known_outputs n class) (λ p. class (Body ∷ p)) n.body

@@ -7,7 +7,7 @@ use Rattle.hp_tree.specs.Blocks.{Decl, Block, block, Eqns, no_eqn, more_eqns, Eq
 use Rattle.hp_tree.specs.Expressions.{Expr}
 use Rattle.hp_tree.specs.ExpressionTypes as tree
 use Rattle.hp_tree.specs.ExpressionTypes.{typed_in, scope_of}
-use Rattle.hp_tree.specs.Instant.{Body, Guard, Assume, Enforce, Equations, Head, Tail, Right, Test, Arms as ArmsOf, States as StatesOf, Until, Unless, Next, Pending, Place, Instant, part}
+use Rattle.hp_tree.specs.Instant.{Body, Observer, Assume, Enforce, Equations, Head, Tail, Right, Test, Arms as ArmsOf, States as StatesOf, Until, Unless, Next, Pending, Place, Instant, part}
 use Rattle.hp_tree.specs.Programs.{TypeDecl, Contract, Node}
 use Rattle.hp_typing.specs.Scopes.{with_variables, inside}
 use Rattle.hp_typed.specs.Scopes.{Scope}
@@ -116,9 +116,9 @@ module _ (types : List TypeDecl) (numbered : AreNumbered types) (memory given : 
       → ContractKept types kept s o start (λ p. memory (w p)) → ContractGiven types fits s o (λ p. given (w p)) → AreInShape types memory given (slots_of_contract types outs called o names w)
   of_contract None s known_lasts names known conses w start d ok k g = tt
   of_contract (Some c) s known_lasts names known conses w start d ok k g =
-      both (slots_of_block types outs called c.body names (below Guard w))
+      both (slots_of_block types outs called c.body names (below Observer w))
       (slots_told types outs called c.assume (scope_of c.body names) (below Assume w) ++ slots_told types outs called c.enforce (scope_of c.body names) (below Enforce w))
-      (of_block c.body s known_lasts names known conses (below Guard w) (part Guard start) d ok.0 k.0 g.0)
+      (of_block c.body s known_lasts names known conses (below Observer w) (part Observer start) d ok.0 k.0 g.0)
       (both (slots_told types outs called c.assume (scope_of c.body names) (below Assume w)) (slots_told types outs called c.enforce (scope_of c.body names) (below Enforce w))
       (told c.body s known_lasts names known conses ok.0 c.assume (below Assume w) (part Assume start) ok.1.0 k.1.0 g.1.0)
       (told c.body s known_lasts names known conses ok.0 c.enforce (below Enforce w) (part Enforce start) ok.1.1 k.1.1 g.1.1))

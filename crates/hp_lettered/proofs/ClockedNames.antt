@@ -7,7 +7,7 @@ use Rattle.hp_tree.specs.Meaning.{types_of}
 use Rattle.hp_tree.specs.Instant.{Place, Body, Equations, Head, Tail, Arms as ArmsOf, States as StatesOf}
 use Rattle.hp_tree.specs.declared.program.Item.{Item}
 use Rattle.hp_tree.specs.declared.program.Item.TheVariants.{TypeItem, NodeItem}
-use Rattle.hp_clocking.specs.Clocking.{Assignment, with_clock, base_written, with_clocks, all_with_clocks, one_with_clocks, arms_with_clocks, states_with_clocks, in_guard, in_body, contract_with_clocks}
+use Rattle.hp_clocking.specs.Clocking.{Assignment, with_clock, base_written, with_clocks, all_with_clocks, one_with_clocks, arms_with_clocks, states_with_clocks, in_observer, in_body, contract_with_clocks}
 use Rattle.hp_causal.specs.Sources.{below}
 use Rattle.hp_named.specs.Scoped.{EachNode}
 use Rattle.hp_clocks.specs.Writing.{AreWritten}
@@ -47,7 +47,7 @@ module _ (P : List ℕ → Type 0) where
 
     contract_clocked : (o : Option Contract) → ContractSpelled P o → ContractSpelled P (contract_with_clocks at o)
     contract_clocked None h = tt
-    contract_clocked (Some c) h = (base_spelled c.controls h.0, block_clocked in_guard c.body h.1)
+    contract_clocked (Some c) h = (base_spelled c.controls h.0, block_clocked in_observer c.body h.1)
 
 pub program_clocked : (P : List ℕ → Type 0) (R : Node → Assignment → Type 0) (xs ys : List Item) → AreWritten R xs ys → EachNode (NodeSpelled P) xs → EachNode (NodeSpelled P) ys
 program_clocked P R [] [] c p = tt

@@ -164,10 +164,10 @@ whole_source (block ds es) h =
     let later = word key.Let ∷ (equations_tokens es ++ (word key.Tel ∷ [])) in
     (variables_source ds (first (variables_tokens ds) later h), equations_source es (first (equations_tokens es) (word key.Tel ∷ []) (rest (variables_tokens ds) later h).1))
 
-guard_source : (b : Block) → Writable (contract_block_tokens b) → BlockSpelled IsSourceName b
-guard_source (block [] no_eqn) h = (tt, tt)
-guard_source (block [] (more_eqns e es)) h = whole_source (block [] (more_eqns e es)) h
-guard_source (block (d ∷ ds) es) h = whole_source (block (d ∷ ds) es) h
+observer_source : (b : Block) → Writable (contract_block_tokens b) → BlockSpelled IsSourceName b
+observer_source (block [] no_eqn) h = (tt, tt)
+observer_source (block [] (more_eqns e es)) h = whole_source (block [] (more_eqns e es)) h
+observer_source (block (d ∷ ds) es) h = whole_source (block (d ∷ ds) es) h
 
 -- ---- nodes
 
@@ -183,7 +183,7 @@ contract_source (Some c) h =
     let enforce = clause_tokens key.Enforce c.enforce in
     let controls = controls_tokens c.controls in (
       controls_source c.controls (rest enforce controls (rest assume (enforce ++ controls) (rest block_words (assume ++ (enforce ++ controls)) h.1))),
-      guard_source c.body (first block_words (assume ++ (enforce ++ controls)) h.1),
+      observer_source c.body (first block_words (assume ++ (enforce ++ controls)) h.1),
     )
 
 node_source : (n : Node) → Writable (node_tokens n) → NodeSpelled IsSourceName n

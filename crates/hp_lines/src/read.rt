@@ -10,16 +10,19 @@ ghost use Rattle.hp_lines.specs.Refusals.{noted, refusal};
 use crate::value::read_value;
 use crate::words::{count_words, first_word};
 use hp_base::{Kind, Name, Signature, Value};
+use thiserror::Error;
 
 /// The most bytes of a line that is read.
 pub const MAX_LINE: usize = 65_536;
 
 /// Why a line spells no values.
-#[derive(Clone, Copy, Debug, PartialEq, Eq)]
+#[derive(Clone, Copy, Debug, PartialEq, Eq, Error)]
 pub enum LineErr {
     /// It has another number of words than there are inputs: this one.
+    #[error("{found} words, and another number of inputs")]
     Count { found: u64 },
     /// The first word, counted from 1, that is no value of its input.
+    #[error("word {word}: no value of its input")]
     Word { word: u32 },
 }
 

@@ -11,7 +11,7 @@ use Rattle.hp_tree.specs.Expressions.{Expr, constant, variable, last_of, one, tw
 use Rattle.hp_tree.specs.Blocks.{Decl, Block, block, Eqns, no_eqn, more_eqns, Eqn, define, switch, reset, automaton, Arms, no_arm, more_arms, States, no_state, more_states}
 use Rattle.hp_tree.specs.Programs.{TypeDecl, Contract, Node}
 use Rattle.hp_tree.specs.Operators.{is_there, is_cons}
-use Rattle.hp_tree.specs.Instant.{Body, Guard, Assume, Enforce, Fresh, Equations, Head, Tail, Right, Test, Arms as ArmsOf, States as StatesOf, Until, Unless, Active, First, Second, Third, Args, Instance, Instant, Past, part, Clock, without}
+use Rattle.hp_tree.specs.Instant.{Body, Observer, Assume, Enforce, Fresh, Equations, Head, Tail, Right, Test, Arms as ArmsOf, States as StatesOf, Until, Unless, Active, First, Second, Third, Args, Instance, Instant, Past, part, Clock, without}
 use Rattle.hp_tree.specs.Meaning.{Names, inside as inside_names, within, clock_of, state_of, types_of, node_among}
 use Rattle.hp_tree.specs.Reaction.{Each}
 use Rattle.hp_causal.proofs.Ranking.{all_ranks_enough}
@@ -129,7 +129,7 @@ module _ (types : List TypeDecl) (nils : Bool) (fits : List ℕ → Instant → 
   contract_decided : (o : Option Contract) (s : Scope) (lasts : Lasts) (class : Assignment) (names : Names) (i : Instant) → ContractOk types among s lasts class o → ContractFits types nils fits s class names o i → ContractDecided told o i
   contract_decided None s lasts class names i ok h = tt
   contract_decided (Some c) s lasts class names i ok h = (
-    block_decided c.body s none_second lasts (λ p. class (Guard ∷ p)) names (part Guard i) ok.0 h.0,
+    block_decided c.body s none_second lasts (λ p. class (Observer ∷ p)) names (part Observer i) ok.0 h.0,
     told_decided c.assume _ _ _ (part Assume i) h.1.1.0,
     told_decided c.enforce _ _ _ (part Enforce i) h.1.1.1,
   )

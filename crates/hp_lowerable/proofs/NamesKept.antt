@@ -226,8 +226,8 @@ module _ (nodes : List ℕ → Node) where
   condition_new k None = new_none
   condition_new k (Some e) = expr_new k e
 
-  guard_names : (b : Block) → BlockNames IsPlain b → DeclNames IsPlain (locals_of b) × EqnsNames IsPlain (equations_of b)
-  guard_names (block ds es) p = p
+  observer_names : (b : Block) → BlockNames IsPlain b → DeclNames IsPlain (locals_of b) × EqnsNames IsPlain (equations_of b)
+  observer_names (block ds es) p = p
 
   pub contract_new : (o : Option Contract) → ContractNames IsPlain o → ContractNames Fit (in_contract nodes 1 o).part
   contract_new None p = tt
@@ -235,7 +235,7 @@ module _ (nodes : List ℕ → Node) where
       let r = in_eqns nodes 1 (equations_of c.body) in
       let q = in_condition nodes r.next c.assume in
       let o = in_condition nodes q.next c.enforce in
-      let g = guard_names c.body p in
+      let g = observer_names c.body p in
       let m = eqns_new 1 (equations_of c.body) g.1 in
       let a = condition_new r.next c.assume in
       let b = condition_new q.next c.enforce in (

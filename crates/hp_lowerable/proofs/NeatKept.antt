@@ -11,7 +11,7 @@ use Rattle.hp_tree.specs.Blocks.{Block, block, Eqns, no_eqn, more_eqns, Eqn, def
 use Rattle.hp_tree.specs.Programs.{Contract, Node}
 use Rattle.hp_tree.specs.Instant.{Place, Body, Equations, Head, Tail, Arms as ArmsOf, States as StatesOf}
 use Rattle.hp_causal.specs.Sources.{below}
-use Rattle.hp_clocking.specs.Clocking.{Assignment, with_clocks, all_with_clocks, one_with_clocks, arms_with_clocks, states_with_clocks, in_guard, in_body, contract_with_clocks, node_with_clocks}
+use Rattle.hp_clocking.specs.Clocking.{Assignment, with_clocks, all_with_clocks, one_with_clocks, arms_with_clocks, states_with_clocks, in_observer, in_body, contract_with_clocks, node_with_clocks}
 use Rattle.hp_expand.specs.Renaming.{renamed, renamed_transition, renamed_block, renamed_eqns, renamed_eqn, renamed_arms, renamed_states}
 use Rattle.hp_expand.specs.Numbering as numbering
 use Rattle.hp_expand.specs.Numbering.{declaring, new_in_decls, new_in_block, new_in_eqns, new_in_eqn, same_name, behind, numbered}
@@ -206,7 +206,7 @@ module _ (at : Assignment) where
 
   contract_clocked : (room : ℕ) (o : Option Contract) → ContractNeat room o → ContractNeat room (contract_with_clocks at o)
   contract_clocked room None h = tt
-  contract_clocked room (Some c) h = block_clocked in_guard room c.body h
+  contract_clocked room (Some c) h = block_clocked in_observer room c.body h
 
   node_clocked : (room : ℕ) (n : Node) → NodeNeat room n → NodeNeat room (node_with_clocks at n)
   node_clocked room n h = (contract_clocked room n.contract h.0, block_clocked in_body room n.body h.1)

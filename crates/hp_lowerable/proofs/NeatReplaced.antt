@@ -238,8 +238,8 @@ module _ (known : List ℕ → Size) (nodes : List ℕ → Node) (bodies : (f : 
   condition_before room k None l = tt
   condition_before room k (Some e) l = expr_before room k e l
 
-  guard_level : (b : Block) (room : ℕ) → (sizes.in_block known b).nest ≤ room → (sizes.in_eqns known (equations_of b)).nest ≤ room
-  guard_level (block ds es) room l = right_level _ (sizes.in_eqns known es) room l
+  observer_level : (b : Block) (room : ℕ) → (sizes.in_block known b).nest ≤ room → (sizes.in_eqns known (equations_of b)).nest ≤ room
+  observer_level (block ds es) room l = right_level _ (sizes.in_eqns known es) room l
 
   contract_replaced : (own room : ℕ) (o : Option Contract) → ContractNeat own o → (sizes.in_contract known o).nest ≤ room → ContractNeat room (in_contract nodes 1 o).part
   contract_replaced own room None h l = tt
@@ -252,7 +252,7 @@ module _ (known : List ℕ → Size) (nodes : List ℕ → Node) (bodies : (f : 
       let both = right_level (sizes.in_block known c.body) told room inside in
       row_neat room (list_of_eqns es.part ++ (assume.before ++ enforce.before))
       (both_neat room (list_of_eqns es.part) (assume.before ++ enforce.before)
-      (list_neat room es.part (eqns_replaced own room 1 (equations_of c.body) (equations_neat own c.body h) (guard_level c.body room (left_level (sizes.in_block known c.body) told room inside))))
+      (list_neat room es.part (eqns_replaced own room 1 (equations_of c.body) (equations_neat own c.body h) (observer_level c.body room (left_level (sizes.in_block known c.body) told room inside))))
       (both_neat room assume.before enforce.before
       (condition_before room es.next c.assume (left_level (sizes.in_condition known c.assume) (sizes.in_condition known c.enforce) room both))
       (condition_before room assume.next c.enforce (right_level (sizes.in_condition known c.assume) (sizes.in_condition known c.enforce) room both))))

@@ -9,7 +9,7 @@ use Rattle.hp_tree.specs.Programs.{Contract, Node}
 use Rattle.hp_tree.specs.Instant.{Place, Body, Equations, Head, Tail, Arms as ArmsOf, States as StatesOf}
 use Rattle.hp_tree.specs.Meaning.{declares, controls_of}
 use Rattle.hp_causal.specs.Sources.{below}
-use Rattle.hp_clocking.specs.Clocking.{Assignment, with_clocks, all_with_clocks, one_with_clocks, arms_with_clocks, states_with_clocks, in_guard, in_body, base_written, contract_with_clocks, node_with_clocks}
+use Rattle.hp_clocking.specs.Clocking.{Assignment, with_clocks, all_with_clocks, one_with_clocks, arms_with_clocks, states_with_clocks, in_observer, in_body, base_written, contract_with_clocks, node_with_clocks}
 use Rattle.hp_clocking.proofs.Written.{declares_kept}
 use Rattle.hp_named.specs.Scoped.{also, no_names, interface, EachNode}
 use Rattle.hp_expand.specs.Replacing.{in_contract, in_node}
@@ -81,7 +81,7 @@ module _ (P : List ℕ → Type 0) (at : Assignment) where
 
   contract_kept : (o : Option Contract) → ContractNames P o → ContractNames P (contract_with_clocks at o)
   contract_kept None p = tt
-  contract_kept (Some c) p = block_kept in_guard c.body p
+  contract_kept (Some c) p = block_kept in_observer c.body p
 
   controls_kept : (o : Option Contract) (x : List ℕ) → declares (controls_of (contract_with_clocks at o)) x ≡ declares (controls_of o) x
   controls_kept None x = refl

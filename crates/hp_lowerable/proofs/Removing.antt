@@ -232,8 +232,8 @@ module _ (types : List TypeDecl) (among : List ℕ → Option Node) where
           ⊎_elim (λ l. input x l) (λ l. ⊎_elim (λ k. output x k) (λ k. or_left (declares (controls_of n.contract) x) (interface n x) k) (or_cases (declares n.outputs x) (declares (controls_of n.contract) x) l))
           (or_cases (declares n.inputs x) (declares n.outputs x || declares (controls_of n.contract) x) h)
 
-  guard_view : (n : Node) → NodeNames IsOld n → View none_known (interface n) no_names (λ x. on_base (declares n.inputs x || declares n.outputs x)) (lasts_in n.outputs no_lasts)
-  guard_view n p = record {
+  observer_view : (n : Node) → NodeNames IsOld n → View none_known (interface n) no_names (λ x. on_base (declares n.inputs x || declares n.outputs x)) (lasts_in n.outputs no_lasts)
+  observer_view n p = record {
     old = λ x h. p.interface x (or_right (declares (controls_of n.contract) x) (interface n x) h);
     stands = λ x c h. there x (known_base (declares n.inputs x || declares n.outputs x) c h);
     lasting = λ x h. ⊎_elim (λ l. output x l) (λ l. absurd (cc l)) (last_seen n.outputs no_lasts x h);
@@ -252,11 +252,11 @@ module _ (types : List TypeDecl) (among : List ℕ → Option Node) where
   told_ok v s None on ok = tt
   told_ok v s (Some e) on ok = expr_old v s e [] on ok.0
 
-  guard_ok : {seen : Names} {names : Standing} {lasts : Lasts} → View none_known seen no_names names lasts → (s : Scope) (b : Block) (assume enforce : Option Expr) → BlockScoped seen no_names b → BlockNames IsOld b → BlockOnce b
+  observer_ok : {seen : Names} {names : Standing} {lasts : Lasts} → View none_known seen no_names names lasts → (s : Scope) (b : Block) (assume enforce : Option Expr) → BlockScoped seen no_names b → BlockNames IsOld b → BlockOnce b
       → BlockRight names b × TellsOnBase (standing_of b names) assume × TellsOnBase (standing_of b names) enforce
       → BlockSound types among s lasts b × (ToldSound types among (inside s b) (lasts_of b lasts) assume × ToldSound types among (inside s b) (lasts_of b lasts) enforce)
       → BlockNeat levels b → BlockOk none_known 0 b × ConditionOk assume × ConditionOk enforce
-  guard_ok v s (block ds es) assume enforce sc p o r ok n =
+  observer_ok v s (block ds es) assume enforce sc p o r ok n =
       let w = view_in v ds es p.0 sc.3 in (
         block_ok v s 0 levels (block ds es) (omega arith) sc p o r.0 ok.0 n,
         told_ok w (with_variables s ds) assume r.1 ok.1.0,
@@ -265,7 +265,7 @@ module _ (types : List TypeDecl) (among : List ℕ → Option Node) where
 
   contract_ok : {seen : Names} {names : Standing} {lasts : Lasts} → View none_known seen no_names names lasts → (s : Scope) (o : Option Contract) → ContractScoped seen o → ContractNames IsOld o → ContractOnce o → ContractRight names o → ContractSound types among s lasts o → ContractNeat levels o → ContractOk o
   contract_ok v s None sc p o r ok n = tt
-  contract_ok v s (Some c) sc p o r ok n = guard_ok v s c.body c.assume c.enforce sc p o r ok n
+  contract_ok v s (Some c) sc p o r ok n = observer_ok v s c.body c.assume c.enforce sc p o r ok n
 
   decls_old : (ds : List Decl) → ((x : List ℕ) → IsTrue (declares ds x) → IsOld x) → AllOldDecls ds
   decls_old [] p = tt
@@ -274,6 +274,6 @@ module _ (types : List TypeDecl) (among : List ℕ → Option Node) where
   pub node_ok : (s : Scope) (n : Node) → NodeScoped n → NodeNames IsOld n → DefinedOnce n → ClocksRight n → NodeSound types among s n → NodeNeat levels n → NodeOk n
   node_ok s n sc p o r ok neat = record {
     outputs = decls_old n.outputs (λ x h. p.interface x (or_right (declares (controls_of n.contract) x) (interface n x) (or_left (declares n.outputs x) (also no_names n.inputs x) h)));
-    contract = contract_ok (guard_view n p) (inside_node s n) n.contract sc.contract p.contract o.0 r.contract ok.1.1.1.1.1 neat.0;
+    contract = contract_ok (observer_view n p) (inside_node s n) n.contract sc.contract p.contract o.0 r.contract ok.1.1.1.1.1 neat.0;
     body = block_ok (body_view n p) (body_scope s n) 0 levels n.body (omega arith) sc.body p.body o.1 r.body ok.1.1.1.1.0 neat.1;
   }

@@ -9,8 +9,8 @@ use Rattle.hp_base.specs.declared.ty.Const.{Const}
 use Rattle.hp_tree.specs.Expressions.{Expr, constant, variable, last_of, one, two, choose, pre, fby, arrow, when_is, merge, call, Exprs, no_expr, more_exprs, Parts, no_part, more_parts}
 use Rattle.hp_tree.specs.Blocks.{Decl, Block, block, eqns_of}
 use Rattle.hp_tree.specs.Programs.{TypeDecl, Contract, Node}
-use Rattle.hp_tree.specs.Instant.{Inputs, Controls, Body, Guard, Assume, Enforce, Named, Fresh, Head, Tail, Instant, Past, Given, at, part, parts, since, nothing, in_guard, in_node, alone, in_row}
-use Rattle.hp_tree.specs.Meaning.{Names, Nodes, expr, lasts, previous, declares, some_defines, read_in, last_in, input_of, given_to, controls_of, guard, node}
+use Rattle.hp_tree.specs.Instant.{Inputs, Controls, Body, Observer, Assume, Enforce, Named, Fresh, Head, Tail, Instant, Past, Given, at, part, parts, since, nothing, in_observer, in_node, alone, in_row}
+use Rattle.hp_tree.specs.Meaning.{Names, Nodes, expr, lasts, previous, declares, some_defines, read_in, last_in, input_of, given_to, controls_of, observer, node}
 use Rattle.hp_tree.specs.Reaction.{row_of}
 use Rattle.hp_automata.specs.Renaming.{renamed, renamed_exprs, renamed_parts, renamed_decls}
 use Rattle.hp_automata.specs.Lowering.{Types, Enumerations, declaring, same_name, lowered_body_of, lowered_contract, lowered_node, lowered_block, lowered_eqns, types_of}
@@ -102,27 +102,27 @@ module _ (types : List TypeDecl) (u : Value → Value) (N N' : Nodes) (stands gi
         let E = expr_met types u N N' stands given decided C same_name names' names lst' lst h l e ok [] tt g g' now past free dec m in
         (E.0, E.1 ∙ ap (λ q. expr types (reading u) N' q [] names' lst' g' E.0) (itself e), E.2)
 
-    guard_met : (c : Option Contract) → ContractOk c → Along (ContractStands stands c) g.past g'.past → ContractGiven u given c g.free g'.free → ContractDecided decided c now
-        → part Guard now ≡ part Guard (guard types (reading u) N c seen last g now) → part Assume now ≡ part Assume (guard types (reading u) N c seen last g now) → part Enforce now ≡ part Enforce (guard types (reading u) N c seen last g now)
-        → Met (ContractStands stands c now) (λ j. guard types (reading u) N' (option_map (lowered_contract enums tys) c) seen' last' g' j)
-    guard_met None ok past free dec mg ma me = (nothing, refl, tt)
-    guard_met (Some c) ok past free dec mg ma me =
+    observer_met : (c : Option Contract) → ContractOk c → Along (ContractStands stands c) g.past g'.past → ContractGiven u given c g.free g'.free → ContractDecided decided c now
+        → part Observer now ≡ part Observer (observer types (reading u) N c seen last g now) → part Assume now ≡ part Assume (observer types (reading u) N c seen last g now) → part Enforce now ≡ part Enforce (observer types (reading u) N c seen last g now)
+        → Met (ContractStands stands c now) (λ j. observer types (reading u) N' (option_map (lowered_contract enums tys) c) seen' last' g' j)
+    observer_met None ok past free dec mg ma me = (nothing, refl, tt)
+    observer_met (Some c) ok past free dec mg ma me =
         let S : Relation = ContractStands stands (Some c) in
-        let own_past = own_along (BlockStands stands 0 c.body) (parts Guard g.past) (parts Guard g'.past) (along_map S (BothThere (BlockStands stands 0 c.body)) (part Guard) (part Guard) (λ i j h. h.0) g.past g'.past past) in
+        let own_past = own_along (BlockStands stands 0 c.body) (parts Observer g.past) (parts Observer g'.past) (along_map S (BothThere (BlockStands stands 0 c.body)) (part Observer) (part Observer) (λ i j h. h.0) g.past g'.past past) in
         let made = block_step types u N N' stands given decided C enums c.body none_known 0 same_name [] seen seen' last last' (around tys c.body ok.0 seen seen' last last' same lasts_are) tys c.span false
-        (since false (at Guard g)) (since false (at Guard g')) (part Guard now) own_past free.0 dec.0 mg in
-        let names : Names = read_in types (reading u) N c.body seen (part Guard now) in
+        (since false (at Observer g)) (since false (at Observer g')) (part Observer now) own_past free.0 dec.0 mg in
+        let names : Names = read_in types (reading u) N c.body seen (part Observer now) in
         let names' : Names = read_in types (reading u) N' (lowered_body_of enums tys c.span c.body) seen' made.instant in
-        let lst : Names = last_in types (reading u) N c.body (since false (at Guard g)).past last in
-        let lst' : Names = last_in types (reading u) N' (lowered_body_of enums tys c.span c.body) (since false (at Guard g')).past last' in
-        let same_names : (x : List ℕ) → IsOld x → names' x ≡ names x = read_same c.body ok.0 c.span (part Guard now) made.instant (made.all (λ x. refl) (λ x. refl)) in
-        let same_lasts : (x : List ℕ) → IsOld x → lst' x ≡ lst x = last_same c.body c.span (since false (at Guard g)).past (since false (at Guard g')).past own_past in
+        let lst : Names = last_in types (reading u) N c.body (since false (at Observer g)).past last in
+        let lst' : Names = last_in types (reading u) N' (lowered_body_of enums tys c.span c.body) (since false (at Observer g')).past last' in
+        let same_names : (x : List ℕ) → IsOld x → names' x ≡ names x = read_same c.body ok.0 c.span (part Observer now) made.instant (made.all (λ x. refl) (λ x. refl)) in
+        let same_lasts : (x : List ℕ) → IsOld x → lst' x ≡ lst x = last_same c.body c.span (since false (at Observer g)).past (since false (at Observer g')).past own_past in
         let A = told_met c.assume ok.1 names names' lst lst' same_names same_lasts (at Assume g) (at Assume g') (part Assume now)
         (along_map S (ConditionStands stands c.assume) (part Assume) (part Assume) (λ i j h. h.1) g.past g'.past past) free.1 dec.1 ma in
         let E = told_met c.enforce ok.2 names names' lst lst' same_names same_lasts (at Enforce g) (at Enforce g') (part Enforce now)
         (along_map S (ConditionStands stands c.enforce) (part Enforce) (part Enforce) (λ i j h. h.2) g.past g'.past past) free.2 dec.2 me in (
-          in_guard made.instant A.0 E.0,
-          ap₃ in_guard made.meets A.1 E.1,
+          in_observer made.instant A.0 E.0,
+          ap₃ in_observer made.meets A.1 E.1,
           (inr (made.was_fresh ∙ sym made.is_fresh, made.so), A.2, E.2),
         )
 
@@ -137,15 +137,15 @@ module _ (types : List TypeDecl) (u : Value → Value) (N N' : Nodes) (stands gi
   given_row M (d ∷ ds) i = ap (λ vs. i (Head ∷ []) ∷ vs) (given_row M ds (part Tail i))
 
   -- what a contract's part of an instant says is said of its parts
-  guard_parts : (M : Nodes) (c : Option Contract) (seen last : Names) (g : Given) (i k : Instant) → part Guard i ≡ part Guard k → part Assume i ≡ part Assume k → part Enforce i ≡ part Enforce k
-      → guard types (reading u) M c seen last g i ≡ guard types (reading u) M c seen last g k
-  guard_parts M None seen last g i k a b e = refl
-  guard_parts M (Some c) seen last g i k a b e = ap₃ (λ p q r. guard types (reading u) M (Some c) seen last g (in_guard p q r)) a b e
+  observer_parts : (M : Nodes) (c : Option Contract) (seen last : Names) (g : Given) (i k : Instant) → part Observer i ≡ part Observer k → part Assume i ≡ part Assume k → part Enforce i ≡ part Enforce k
+      → observer types (reading u) M c seen last g i ≡ observer types (reading u) M c seen last g k
+  observer_parts M None seen last g i k a b e = refl
+  observer_parts M (Some c) seen last g i k a b e = ap₃ (λ p q r. observer types (reading u) M (Some c) seen last g (in_observer p q r)) a b e
 
-  contract_parts : (c : Option Contract) (i j k : Instant) → part Guard j ≡ part Guard k → part Assume j ≡ part Assume k → part Enforce j ≡ part Enforce k → ContractStands stands c i j → ContractStands stands c i k
+  contract_parts : (c : Option Contract) (i j k : Instant) → part Observer j ≡ part Observer k → part Assume j ≡ part Assume k → part Enforce j ≡ part Enforce k → ContractStands stands c i j → ContractStands stands c i k
   contract_parts None i j k a b e h = tt
   contract_parts (Some c) i j k a b e h =
-      (subst (BothThere (BlockStands stands 0 c.body) (part Guard i)) a h.0, subst (ConditionStands stands c.assume (part Assume i)) b h.1, subst (ConditionStands stands c.enforce (part Enforce i)) e h.2)
+      (subst (BothThere (BlockStands stands 0 c.body) (part Observer i)) a h.0, subst (ConditionStands stands c.assume (part Assume i)) b h.1, subst (ConditionStands stands c.enforce (part Enforce i)) e h.2)
 
   pub node_met : (n : Node) → NodeOk n → (inputs : List Value) (g g' : Given) (now : Instant) → Along (NodeStands stands n) g.past g'.past → NodeGiven u given n g.free g'.free → NodeDecided decided n now
       → now ≡ node types (reading u) N n inputs g now → Met (NodeStands stands n now) (λ j. node types (reading u) N' (lowered_node enums n) inputs g' j)
@@ -174,11 +174,11 @@ module _ (types : List TypeDecl) (u : Value → Value) (N N' : Nodes) (stands gi
       let outputs_are : (x : List ℕ) → now (Named x ∷ []) ≡ outputs' x = λ x. ap (λ i. i (Named x ∷ [])) m ∙ ap (λ v. if declares n.outputs x then v else Absent) (body_same x) in
       let seen : Names = λ x. if declares n.outputs x then now (Named x ∷ []) else outer x in
       let seen' : Names = λ x. if declares n.outputs x then outputs' x else outer x in
-      let G = guard_met tys seen seen' last last' (λ x o. ap (λ v. if declares n.outputs x then v else outer x) (sym (outputs_are x))) lasts_are g g' now n.contract ok.contract
-      (along_map_of n g.past g'.past past) free.2 dec.1 (ap (part Guard) m) (ap (part Assume) m) (ap (part Enforce) m) in
+      let G = observer_met tys seen seen' last last' (λ x o. ap (λ v. if declares n.outputs x then v else outer x) (sym (outputs_are x))) lasts_are g g' now n.contract ok.contract
+      (along_map_of n g.past g'.past past) free.2 dec.1 (ap (part Observer) m) (ap (part Assume) m) (ap (part Enforce) m) in
       let now' : Instant = in_node outputs' inputs controls' made.instant G.0 in (
         now',
-        ap₂ (in_node outputs' inputs controls') made.meets (G.1 ∙ guard_parts N' contract' seen' last' g' G.0 now' refl refl refl),
+        ap₂ (in_node outputs' inputs controls') made.meets (G.1 ∙ observer_parts N' contract' seen' last' g' G.0 now' refl refl refl),
         record {
           fresh = ap (λ i. i (Fresh ∷ [])) m;
           inputs = λ p. ap (λ i. i (Inputs ∷ p)) m;

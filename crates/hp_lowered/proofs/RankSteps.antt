@@ -7,7 +7,7 @@ use Rattle.hp_tree.specs.declared.program.Item.TheVariants.{TypeItem, NodeItem}
 use Rattle.hp_tree.specs.Expressions.{Expr}
 use Rattle.hp_tree.specs.Blocks.{Decl, Block, block, Eqns, no_eqn, more_eqns, Eqn, define, switch, reset, automaton, Arms, no_arm, more_arms, States, no_state, more_states}
 use Rattle.hp_tree.specs.Programs.{Contract, Node}
-use Rattle.hp_tree.specs.Instant.{Controls, Body, Guard, Assume, Enforce, Named, Head, Tail, Until, Unless, Place}
+use Rattle.hp_tree.specs.Instant.{Controls, Body, Observer, Assume, Enforce, Named, Head, Tail, Until, Unless, Place}
 use Rattle.hp_tree.specs.Meaning.{declares, some_defines, block_defines, states_define, controls_of}
 use Rattle.hp_causal.specs.Sources.{none, only, NameSources}
 use Rattle.hp_causal.specs.WhatIsRead.{at_expr, at_told, names_in_block, control_in, output_in, in_block, in_contract, in_node, has_equation}
@@ -72,9 +72,9 @@ turns_contract None = 0
 turns_contract (Some c) = turns_block c.body
 
 -- the ranks of a contract's block, in front of others
-abbrev of_guard : (Place → ℕ) → (Place → ℕ) → Place → ℕ
-of_guard r q (Guard ∷ p) = r p
-of_guard r q p = q p
+abbrev of_observer : (Place → ℕ) → (Place → ℕ) → Place → ℕ
+of_observer r q (Observer ∷ p) = r p
+of_observer r q p = q p
 
 module _ (D β : ℕ) (rank : Place → ℕ) (roof : (p : Place) → rank p < β) (enums : Enumerations) (tys : Types) where
   abbrev K : ℕ
@@ -141,7 +141,7 @@ module _ (D β : ℕ) (rank : Place → ℕ) (roof : (p : Place) → rank p < β
     ranks : Place → ℕ
     high : (p : Place) → ranks p ≤ Top
     controls : (p : Place) → ranks (Controls ∷ p) ≡ stays_at (Controls ∷ p)
-    fall : (after : Place → ℕ) (out' : NameSources) → ((p : Place) → after (Guard ∷ p) ≡ ranks (Guard ∷ p)) → ((p : Place) → after (Assume ∷ p) ≡ ranks (Assume ∷ p)) → ((p : Place) → after (Enforce ∷ p) ≡ ranks (Enforce ∷ p))
+    fall : (after : Place → ℕ) (out' : NameSources) → ((p : Place) → after (Observer ∷ p) ≡ ranks (Observer ∷ p)) → ((p : Place) → after (Assume ∷ p) ≡ ranks (Assume ∷ p)) → ((p : Place) → after (Enforce ∷ p) ≡ ranks (Enforce ∷ p))
         → ((x : List ℕ) → IsOld x → Less K rank after 0 0 (out x) (out' x)) → (p : Place) → Below after (ranks p) (in_contract (option_map (lowered_contract enums tys) c) out' only p)
 
   -- an expression of it
@@ -158,28 +158,28 @@ module _ (D β : ℕ) (rank : Place → ℕ) (roof : (p : Place) → rank p < β
   contract_ranked None ok turn out falls = record { ranks = stays_at; high = stays_high; controls = λ p. refl; fall = λ after out' g a e less p. tt }
   contract_ranked (Some c) ok turn out falls =
       record {
-        ranks = of_guard guard.ranks stays_at;
+        ranks = of_observer observer.ranks stays_at;
         high = high;
         controls = λ p. refl;
         fall = λ after out' g a e less p. places after out' g a e less p;
       }
     where
-      guard : BlockRanks K D β rank enums 0 same_name tys c.span [] c.body out 0 0 (λ p. Guard ∷ p)
-      guard = own_ranks c.span c.body ok.0 turn out (λ p. Guard ∷ p) (λ p. falls (Guard ∷ p))
+      observer : BlockRanks K D β rank enums 0 same_name tys c.span [] c.body out 0 0 (λ p. Observer ∷ p)
+      observer = own_ranks c.span c.body ok.0 turn out (λ p. Observer ∷ p) (λ p. falls (Observer ∷ p))
 
-      high : (p : Place) → of_guard guard.ranks stays_at p ≤ Top
-      high (Guard ∷ p) = guard.between.high p
+      high : (p : Place) → of_observer observer.ranks stays_at p ≤ Top
+      high (Observer ∷ p) = observer.between.high p
       high p = stays_high p
 
-      places : (after : Place → ℕ) (out' : NameSources) → ((p : Place) → after (Guard ∷ p) ≡ guard.ranks p) → ((p : Place) → after (Assume ∷ p) ≡ stays_at (Assume ∷ p)) → ((p : Place) → after (Enforce ∷ p) ≡ stays_at (Enforce ∷ p))
-          → ((x : List ℕ) → IsOld x → Less K rank after 0 0 (out x) (out' x)) → (p : Place) → Below after (of_guard guard.ranks stays_at p) (in_contract (Some (lowered_contract enums tys c)) out' only p)
-      places after out' g a e less (Guard ∷ p) = guard.fall after (λ q. Guard ∷ q) out' g (λ x o q. less x o) p
+      places : (after : Place → ℕ) (out' : NameSources) → ((p : Place) → after (Observer ∷ p) ≡ observer.ranks p) → ((p : Place) → after (Assume ∷ p) ≡ stays_at (Assume ∷ p)) → ((p : Place) → after (Enforce ∷ p) ≡ stays_at (Enforce ∷ p))
+          → ((x : List ℕ) → IsOld x → Less K rank after 0 0 (out x) (out' x)) → (p : Place) → Below after (of_observer observer.ranks stays_at p) (in_contract (Some (lowered_contract enums tys c)) out' only p)
+      places after out' g a e less (Observer ∷ p) = observer.fall after (λ q. Observer ∷ q) out' g (λ x o q. less x o) p
       places after out' g a e less (Assume ∷ p) =
-          told_falls after c.assume ok.1 (names_in_block c.body out (λ q. only (Guard ∷ q))) (names_in_block (lowered_body_of enums tys c.span c.body) out' (λ q. only (Guard ∷ q)))
-          (block_names_less c.span c.body ok.0 out out' (λ q. Guard ∷ q) guard after g less) (λ q. Assume ∷ q) a p (falls (Assume ∷ p))
+          told_falls after c.assume ok.1 (names_in_block c.body out (λ q. only (Observer ∷ q))) (names_in_block (lowered_body_of enums tys c.span c.body) out' (λ q. only (Observer ∷ q)))
+          (block_names_less c.span c.body ok.0 out out' (λ q. Observer ∷ q) observer after g less) (λ q. Assume ∷ q) a p (falls (Assume ∷ p))
       places after out' g a e less (Enforce ∷ p) =
-          told_falls after c.enforce ok.2 (names_in_block c.body out (λ q. only (Guard ∷ q))) (names_in_block (lowered_body_of enums tys c.span c.body) out' (λ q. only (Guard ∷ q)))
-          (block_names_less c.span c.body ok.0 out out' (λ q. Guard ∷ q) guard after g less) (λ q. Enforce ∷ q) e p (falls (Enforce ∷ p))
+          told_falls after c.enforce ok.2 (names_in_block c.body out (λ q. only (Observer ∷ q))) (names_in_block (lowered_body_of enums tys c.span c.body) out' (λ q. only (Observer ∷ q)))
+          (block_names_less c.span c.body ok.0 out out' (λ q. Observer ∷ q) observer after g less) (λ q. Enforce ∷ q) e p (falls (Enforce ∷ p))
       places after out' g a e less p = tt
 
 -- ---- a node

@@ -9,7 +9,7 @@ use Rattle.hp_tree.specs.Expressions.{Expr, constant, variable, last_of, one, tw
 use Rattle.hp_tree.specs.Blocks.{Block, block, Eqns, no_eqn, more_eqns, Eqn, define, switch, reset, automaton, Arms, no_arm, more_arms, States, no_state, more_states}
 use Rattle.hp_tree.specs.Programs.{Contract, Node}
 use Rattle.hp_tree.specs.Operators.{is_there}
-use Rattle.hp_tree.specs.Instant.{Body, Guard, Assume, Enforce, Fresh, Equations, Head, Tail, Right, Test, Arms as ArmsOf, States as StatesOf, Until, Unless, First, Second, Third, Args, Instance, Instant, part}
+use Rattle.hp_tree.specs.Instant.{Body, Observer, Assume, Enforce, Fresh, Equations, Head, Tail, Right, Test, Arms as ArmsOf, States as StatesOf, Until, Unless, First, Second, Third, Args, Instance, Instant, part}
 use Rattle.hp_lowered.specs.Standing.{either_is}
 
 -- something of an instant of a part
@@ -80,7 +80,7 @@ module _ (callee : List ℕ → Property) where
 
   abbrev pub ContractDecided : Option Contract → Property
   ContractDecided None i = ⊤
-  ContractDecided (Some c) i = BlockDecided c.body (part Guard i) × ConditionDecided c.assume (part Assume i) × ConditionDecided c.enforce (part Enforce i)
+  ContractDecided (Some c) i = BlockDecided c.body (part Observer i) × ConditionDecided c.assume (part Assume i) × ConditionDecided c.enforce (part Enforce i)
 
   abbrev pub NodeDecided : Node → Property
   NodeDecided n i = BlockDecided n.body (part Body i) × ContractDecided n.contract i

@@ -12,7 +12,7 @@ use Rattle.hp_tree.specs.Programs.{Contract, Node}
 use Rattle.hp_tree.specs.Operators.{Reading, real}
 use Rattle.hp_tree.specs.Meaning.{controls_of}
 use Rattle.hp_tree.specs.Reaction.{row_of}
-use Rattle.hp_tree.specs.Instant.{Controls, Body, Guard, Assume, Enforce, Equations, Head, Tail, Right, Test, Arms as ArmsOf, States as StatesOf, First, Second, Third, Args, Instance, part, top}
+use Rattle.hp_tree.specs.Instant.{Controls, Body, Observer, Assume, Enforce, Equations, Head, Tail, Right, Test, Arms as ArmsOf, States as StatesOf, First, Second, Third, Args, Instance, part, top}
 use Rattle.hp_lowered.specs.Standing.{Relation, behind, arm_in, body_in, states_in, switch_in, later_in, either_is}
 
 -- the language, where a `pre` without a past gives what `u` makes of what is given there
@@ -78,7 +78,7 @@ module _ (u : Value → Value) (callee : List ℕ → Relation) where
   abbrev pub ContractGiven : Option Contract → Relation
   ContractGiven None i j = ⊤
   ContractGiven (Some c) i j =
-      BlockGiven c.body (part Guard i) (part Guard j) × ConditionGiven c.assume (part Assume i) (part Assume j) × ConditionGiven c.enforce (part Enforce i) (part Enforce j)
+      BlockGiven c.body (part Observer i) (part Observer j) × ConditionGiven c.assume (part Assume i) (part Assume j) × ConditionGiven c.enforce (part Enforce i) (part Enforce j)
 
   abbrev pub NodeGiven : Node → Relation
   NodeGiven n i j =

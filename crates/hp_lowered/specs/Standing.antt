@@ -10,7 +10,7 @@ use Rattle.hp_tree.specs.Expressions.{Expr, constant, variable, last_of, one, tw
 use Rattle.hp_tree.specs.Blocks.{Decl, Block, block, Eqns, no_eqn, more_eqns, Eqn, define, switch, reset, automaton, Arms, no_arm, more_arms, States, no_state, more_states}
 use Rattle.hp_tree.specs.Programs.{Contract, Node}
 use Rattle.hp_tree.specs.Operators.{is_true}
-use Rattle.hp_tree.specs.Instant.{Inputs, Controls, Body, Guard, Assume, Enforce, Named, Fresh, Equations, Head, Tail, Right, Test, Arms as ArmsOf, States as StatesOf, Next, Pending, First, Second, Third, Args, Instance, Place, Instant, part, top}
+use Rattle.hp_tree.specs.Instant.{Inputs, Controls, Body, Observer, Assume, Enforce, Named, Fresh, Equations, Head, Tail, Right, Test, Arms as ArmsOf, States as StatesOf, Next, Pending, First, Second, Third, Args, Instance, Place, Instant, part, top}
 use Rattle.hp_tree.specs.Meaning.{Jump, state_of, declares}
 use Rattle.hp_automata.specs.declared.new_names.Word.TheVariants as word
 use Rattle.hp_automata.specs.NewNames.{word_name}
@@ -136,7 +136,7 @@ module _ (callee : List ℕ → Relation) where
   abbrev pub ContractStands : Option Contract → Relation
   ContractStands None i j = ⊤
   ContractStands (Some c) i j =
-      BothThere (BlockStands 0 c.body) (part Guard i) (part Guard j) × ConditionStands c.assume (part Assume i) (part Assume j) × ConditionStands c.enforce (part Enforce i) (part Enforce j)
+      BothThere (BlockStands 0 c.body) (part Observer i) (part Observer j) × ConditionStands c.assume (part Assume i) (part Assume j) × ConditionStands c.enforce (part Enforce i) (part Enforce j)
 
   -- Inputs, controllable variables, outputs and the names of the body have the same values.
   pub record NodeStands (n : Node) (i j : Instant) : Type 0 where

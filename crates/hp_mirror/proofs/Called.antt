@@ -13,19 +13,19 @@ use Rattle.hp_tree.specs.Blocks.{Decl}
 use Rattle.hp_tree.specs.Programs.{TypeDecl, Contract, Node}
 use Rattle.hp_tree.specs.Operators.{marked}
 use Rattle.hp_tree.specs.ExpressionTypes.{typed_in, untyped}
-use Rattle.hp_tree.specs.Instant.{Guard, Assume, Enforce, Named, Place, Instant, nothing, alone}
+use Rattle.hp_tree.specs.Instant.{Observer, Assume, Enforce, Named, Place, Instant, nothing, alone}
 use Rattle.hp_tree.specs.Meaning.{declares, node_among}
 use Rattle.hp_typing.specs.Scopes.{inside_node}
 use Rattle.hp_typed.specs.Scopes.{Scope}
 use Rattle.hp_valued.specs.Values.{scope_behind, either_of}
 use Rattle.hp_contract.specs.Slots.{Slot, callee_slots, slots_of_contract}
-use Rattle.hp_wires.specs.WiredNodes.{FillsGuard}
+use Rattle.hp_wires.specs.WiredNodes.{FillsObserver}
 use Rattle.hp_wires.specs.WiredCallees.{no_callees, FillsBy}
 use Rattle.hp_wiretyped.specs.Typed.{IsWire}
 use Rattle.hp_wiretyped.specs.Kept.{OutputsGiven, ContractGiven}
 use Rattle.hp_wiretyped.specs.Callees.{any_given, AloneGiven, CalleeGiven}
 use Rattle.hp_mirror.specs.Memories.{AreApart}
-use Rattle.hp_mirror.proofs.Realised.{Realised, Under, Guards, none, join, single, lasts, contract_of, free_of, outputs_slots, lasts_slots}
+use Rattle.hp_mirror.proofs.Realised.{Realised, Under, Observers, none, join, single, lasts, contract_of, free_of, outputs_slots, lasts_slots}
 
 abbrev pub decls_by : Option Node → List Decl
 decls_by None = []
@@ -110,16 +110,16 @@ module _ (types : List TypeDecl) (early : Place → Bool) where
   -- ---- the contract of a callee, which calls nothing
 
   abbrev Alone : Option Contract → Instant → Instant → Type 0
-  Alone o st i = ((s : Scope) → ContractGiven types any_given s o i) × FillsGuard types no_callees o st i
+  Alone o st i = ((s : Scope) → ContractGiven types any_given s o i) × FillsObserver types no_callees o st i
 
   no_calls : (start : Instant) (f : List ℕ) (w : Place → Place) → Realised types early ([] ++ no_slots f w) (Under w) (λ i. any_given f i × no_callees.fills f (λ p. start (w p)) i)
   no_calls start f w = none types early (Under w) (λ i. any_given f i × no_callees.fills f (λ p. start (w p)) i) nothing (tt, tt)
 
   contract_part : (n : Node) (o : Option Contract) (start : Instant) (w : Place → Place)
-      → Realised types early (elim o [ None ↦ [] | Some c ↦ lasts_slots types n.outputs w ++ slots_of_contract types (λ f. []) no_slots (Some c) (typed_in n.inputs (typed_in n.outputs untyped)) w ]) (Guards w) (Alone o (λ p. start (w p)))
-  contract_part n None start w = none types early (Guards w) (Alone None (λ p. start (w p))) nothing ((λ s. tt), tt)
+      → Realised types early (elim o [ None ↦ [] | Some c ↦ lasts_slots types n.outputs w ++ slots_of_contract types (λ f. []) no_slots (Some c) (typed_in n.inputs (typed_in n.outputs untyped)) w ]) (Observers w) (Alone o (λ p. start (w p)))
+  contract_part n None start w = none types early (Observers w) (Alone None (λ p. start (w p))) nothing ((λ s. tt), tt)
   contract_part n (Some c) start w =
-      join types early (lasts_slots types n.outputs w) (slots_of_contract types (λ f. []) no_slots (Some c) (typed_in n.inputs (typed_in n.outputs untyped)) w) (λ root i. ⊤) (Guards w) (Guards w) (λ i. ⊤) (Alone (Some c) (λ p. start (w p))) (Alone (Some c) (λ p. start (w p)))
+      join types early (lasts_slots types n.outputs w) (slots_of_contract types (λ f. []) no_slots (Some c) (typed_in n.inputs (typed_in n.outputs untyped)) w) (λ root i. ⊤) (Observers w) (Observers w) (λ i. ⊤) (Alone (Some c) (λ p. start (w p))) (Alone (Some c) (λ p. start (w p)))
       (lasts types early n.outputs w) (contract_of types early no_callees start (λ f. []) no_slots any_given (no_calls start) (Some c) (typed_in n.inputs (typed_in n.outputs untyped)) w) (λ i j. j) (λ root i j h. (tt, h)) (λ i j g k. k)
 
   -- ---- a callee
@@ -128,18 +128,18 @@ module _ (types : List TypeDecl) (early : Place → Bool) where
   alone_same None i j s g = tt
   alone_same (Some c) i j s g = g
 
-  filled_same : (o : Option Contract) (st i j : Instant) → FillsGuard types no_callees o st j → FillsGuard types no_callees o st (named_by i j)
+  filled_same : (o : Option Contract) (st i j : Instant) → FillsObserver types no_callees o st j → FillsObserver types no_callees o st (named_by i j)
   filled_same None st i j g = tt
   filled_same (Some c) st i j g = g
 
   abbrev Given : Node → Instant → Instant → Type 0
-  Given n st i = ((s : Scope) → AloneGiven types s n i) × FillsGuard types no_callees n.contract st i
+  Given n st i = ((s : Scope) → AloneGiven types s n i) × FillsObserver types no_callees n.contract st i
 
   pub callee : (n : Node) → AreApart n.outputs → (start : Instant) (w : Place → Place) → Realised types early (outputs_slots n.outputs w ++ callee_slots types (Some n) w) (Under w) (Given n (λ p. start (w p)))
   callee n a start w =
-      join types early (outputs_slots n.outputs w) (callee_slots types (Some n) w) (Names w n.outputs) (Guards w) (Under w) (OutputsGiven types n.outputs) (Alone n.contract (λ p. start (w p))) (Given n (λ p. start (w p)))
+      join types early (outputs_slots n.outputs w) (callee_slots types (Some n) w) (Names w n.outputs) (Observers w) (Under w) (OutputsGiven types n.outputs) (Alone n.contract (λ p. start (w p))) (Given n (λ p. start (w p)))
       (outputs_of n.outputs a w) (contract_part n n.contract start w) (λ i j. named_by i j)
-      (λ root i j h. ((λ x t. h (Named x ∷ [])), ((λ p. h (Guard ∷ p)), ((λ p. h (Assume ∷ p)), (λ p. h (Enforce ∷ p))))))
+      (λ root i j h. ((λ x t. h (Named x ∷ [])), ((λ p. h (Observer ∷ p)), ((λ p. h (Assume ∷ p)), (λ p. h (Enforce ∷ p))))))
       (λ i j g k. ((λ s. (outputs_same n.outputs i (named_by i j) (λ x t. refl) g, alone_same n.contract i j (inside_node s n) (k.0 (inside_node s n)))), filled_same n.contract (λ p. start (w p)) i j k.1))
 
   -- the callee of a name among some items
@@ -153,7 +153,7 @@ module _ (types : List TypeDecl) (early : Place → Bool) where
       by true h more = h n refl (scope_behind items)
       by false h more = more h
 
-  callee_filled : (o : Option Node) (st i : Instant) → ((k : Node) → o ≡ Some k → FillsGuard types no_callees k.contract st i) → FillsBy types o st i
+  callee_filled : (o : Option Node) (st i : Instant) → ((k : Node) → o ≡ Some k → FillsObserver types no_callees k.contract st i) → FillsBy types o st i
   callee_filled None st i h = tt
   callee_filled (Some n) st i h = h n refl
 

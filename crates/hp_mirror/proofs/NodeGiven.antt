@@ -16,7 +16,7 @@ use Rattle.hp_contract.specs.Game.{Choice, IsChoiceOf, at_controls, preferred}
 use Rattle.hp_contract.specs.FreePlaces.{IsFree}
 use Rattle.hp_contract.specs.Slots.{Slot, register, input, control, free_among, shape_of, callee_slots, slots_of_contract, slots_of_block, slots_of_node, registers, zero_at}
 use Rattle.hp_wires.specs.WiredBlocks.{FillsBlock}
-use Rattle.hp_wires.specs.WiredNodes.{FillsGuard, FillsNode}
+use Rattle.hp_wires.specs.WiredNodes.{FillsObserver, FillsNode}
 use Rattle.hp_wires.specs.WiredCallees.{FillsBy, callee_wires}
 use Rattle.hp_wiretyped.specs.Typed.{AreWires}
 use Rattle.hp_wiretyped.specs.Kept.{BlockGiven, ContractGiven}
@@ -26,7 +26,7 @@ use Rattle.hp_wiretyped.proofs.Givens.{choice_fits}
 use Rattle.hp_mirror.specs.Mirrored.{early_among, late_among, controls_among, given_with}
 use Rattle.hp_mirror.specs.Memories.{AreApart, SlotsFit}
 use Rattle.hp_mirror.proofs.SlotLists.{values_at, AreValues, split, values_joined, early_joined, late_joined, controls_joined, no_controls, same_early, early_values, free_behind, fits_behind}
-use Rattle.hp_mirror.proofs.Realised.{Realised, Under, Guards, join, lasts_slots, outputs_slots, contract_of, block_of}
+use Rattle.hp_mirror.proofs.Realised.{Realised, Under, Observers, join, lasts_slots, outputs_slots, contract_of, block_of}
 use Rattle.hp_mirror.proofs.Called.{decls_by, callee_among}
 use Rattle.hp_mirror.proofs.Rows.{row_slots, inputs_of, choice_of, choice_same, row_same, row_values, inputs_not_late, inputs_not_controls, controls_not_early, controls_not_late}
 
@@ -122,14 +122,14 @@ module _ (program earlier : List Item) (n : Node) (early : Place → Bool) (foun
   start = zero_at (registers program n)
 
   abbrev Contracted : Instant → Type 0
-  Contracted i = ((s : Scope) → ContractGiven types (CalleeGiven types earlier) s n.contract i) × FillsGuard types (callee_wires types earlier) n.contract start i
+  Contracted i = ((s : Scope) → ContractGiven types (CalleeGiven types earlier) s n.contract i) × FillsObserver types (callee_wires types earlier) n.contract start i
 
   abbrev Bodied : Instant → Type 0
   Bodied i = ((s : Scope) → BlockGiven types (CalleeGiven types earlier) s n.body i) × FillsBlock types (callee_wires types earlier) n.body (part Body start) i
 
   -- what is over it has what is given for the contract and the body
   abbrev Over : Instant → Instant → Type 0
-  Over root i = Guards here root i × ((p : Place) → root (Body ∷ p) ≡ i (Body ∷ p))
+  Over root i = Observers here root i × ((p : Place) → root (Body ∷ p) ≡ i (Body ∷ p))
 
   contract_same : (o : Option Contract) (i j : Instant) (s : Scope) → ContractGiven types (CalleeGiven types earlier) s o i → ContractGiven types (CalleeGiven types earlier) s o (body_or i j)
   contract_same None i j s g = tt
@@ -139,11 +139,11 @@ module _ (program earlier : List Item) (n : Node) (early : Place → Bool) (foun
   contract_steered None i c s g = tt
   contract_steered (Some k) i c s g = g
 
-  filled_same : (o : Option Contract) (i j : Instant) → FillsGuard types (callee_wires types earlier) o start i → FillsGuard types (callee_wires types earlier) o start (body_or i j)
+  filled_same : (o : Option Contract) (i j : Instant) → FillsObserver types (callee_wires types earlier) o start i → FillsObserver types (callee_wires types earlier) o start (body_or i j)
   filled_same None i j g = tt
   filled_same (Some c) i j g = g
 
-  filled_steered : (o : Option Contract) (i : Instant) (c : Choice) → FillsGuard types (callee_wires types earlier) o start i → FillsGuard types (callee_wires types earlier) o start (steered_by i (at_controls c))
+  filled_steered : (o : Option Contract) (i : Instant) (c : Choice) → FillsObserver types (callee_wires types earlier) o start i → FillsObserver types (callee_wires types earlier) o start (steered_by i (at_controls c))
   filled_steered None i c g = tt
   filled_steered (Some k) i c g = g
 
@@ -152,7 +152,7 @@ module _ (program earlier : List Item) (n : Node) (early : Place → Bool) (foun
 
   realised : Realised types early rest Over (λ i. Contracted i × Bodied (part Body i))
   realised =
-      join types early in_contract in_body (Guards here) (Under (below Body here)) Over Contracted Bodied (λ i. Contracted i × Bodied (part Body i))
+      join types early in_contract in_body (Observers here) (Under (below Body here)) Over Contracted Bodied (λ i. Contracted i × Bodied (part Body i))
       (contract_of types early (callee_wires types earlier) start outs called (CalleeGiven types earlier) calls n.contract seen here) (block_of types early (callee_wires types earlier) start outs called (CalleeGiven types earlier) calls n.body (typed_in (controls_of n.contract) seen) (below Body here))
       (λ i j. body_or i j) (λ root i j h. (h.0, h.1)) (λ i j g k. (((λ s. contract_same n.contract i j s (g.0 s)), filled_same n.contract i j g.1), k))
 

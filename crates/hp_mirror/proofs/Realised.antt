@@ -14,7 +14,7 @@ use Rattle.hp_tree.specs.Blocks.{Decl, Block, block, Eqns, no_eqn, more_eqns, Eq
 use Rattle.hp_tree.specs.Programs.{TypeDecl, Contract}
 use Rattle.hp_tree.specs.Operators.{is_comparison}
 use Rattle.hp_tree.specs.ExpressionTypes.{Scope as Types, typed_in, scope_of, type_of as typed_of}
-use Rattle.hp_tree.specs.Instant.{Body, Guard, Assume, Enforce, Named, Equations, Head, Tail, Right, Test, Arms as ArmsOf, States as StatesOf, Until, Unless, First, Second, Third, Args, Instance, Place, Instant, part, nothing, alone, with_one, with_two, with_three, of_two, in_right, with_arms, with_body, in_state, with_words, in_guard}
+use Rattle.hp_tree.specs.Instant.{Body, Observer, Assume, Enforce, Named, Equations, Head, Tail, Right, Test, Arms as ArmsOf, States as StatesOf, Until, Unless, First, Second, Third, Args, Instance, Place, Instant, part, nothing, alone, with_one, with_two, with_three, of_two, in_right, with_arms, with_body, in_state, with_words, in_observer}
 use Rattle.hp_tree.specs.Values.{IsOf}
 use Rattle.hp_causal.specs.Sources.{below}
 use Rattle.hp_typing.specs.Scopes.{with_variables, inside as into}
@@ -23,7 +23,7 @@ use Rattle.hp_typed.specs.Scopes.{Scope}
 use Rattle.hp_contract.specs.Slots.{Slot, register, free, is_int, shape_of, slots, slots_of_all, slots_of_parts, slots_of_conditions, slots_of_block, slots_of_equations, slots_of_equation, slots_of_arms, slots_of_states, slots_of_contract}
 use Rattle.hp_wires.specs.Wired.{Callees, Fills, FillsAll, FillsParts}
 use Rattle.hp_wires.specs.WiredBlocks.{FillsConditions, FillsBlock, FillsEquations, FillsEquation, FillsArms, FillsStates}
-use Rattle.hp_wires.specs.WiredNodes.{FillsTold, FillsGuard}
+use Rattle.hp_wires.specs.WiredNodes.{FillsTold, FillsObserver}
 use Rattle.hp_wiretyped.specs.Typed.{IsFlag}
 use Rattle.hp_wiretyped.specs.Kept.{ComparisonGiven, ExprGiven, ExprsGiven, PartsGiven, TestsGiven, BlockGiven, EqnsGiven, EqnGiven, ArmsGiven, StatesGiven, ToldGiven, ContractGiven}
 use Rattle.hp_mirror.specs.Mirrored.{early_among, late_among}
@@ -36,8 +36,8 @@ Under w root i = (p : Place) → root (w p) ≡ i p
 abbrev pub Told : (Place → Place) → Instant → Instant → Type 0
 Told w root i = ((p : Place) → root (w (Assume ∷ p)) ≡ i (Assume ∷ p)) × ((p : Place) → root (w (Enforce ∷ p)) ≡ i (Enforce ∷ p))
 
-abbrev pub Guards : (Place → Place) → Instant → Instant → Type 0
-Guards w root i = ((p : Place) → root (w (Guard ∷ p)) ≡ i (Guard ∷ p)) × Told w root i
+abbrev pub Observers : (Place → Place) → Instant → Instant → Type 0
+Observers w root i = ((p : Place) → root (w (Observer ∷ p)) ≡ i (Observer ∷ p)) × Told w root i
 
 -- the slots of `last` variables, of what is told and of outputs, as those of a node have them
 abbrev pub lasts_slots : List TypeDecl → List Decl → (Place → Place) → List Slot
@@ -327,21 +327,21 @@ module _ (types : List TypeDecl) (early : Place → Bool) where
     OfTold o w i = ((s : Scope) → ToldGiven types Given s o i) × FillsTold types C o (λ p. start (w p)) i
 
     abbrev pub OfContract : Option Contract → (Place → Place) → Instant → Type 0
-    OfContract o w i = ((s : Scope) → ContractGiven types Given s o i) × FillsGuard types C o (λ p. start (w p)) i
+    OfContract o w i = ((s : Scope) → ContractGiven types Given s o i) × FillsObserver types C o (λ p. start (w p)) i
 
     told : (o : Option Expr) (names : Types) (w : Place → Place) → Realised (slots_told types outputs called o names w) (Under w) (OfTold o w)
     told None names w = none (Under w) (OfTold None w) nothing ((λ s. tt), tt)
     told (Some e) names w = expr e names w
 
-    pub contract_of : (o : Option Contract) (names : Types) (w : Place → Place) → Realised (slots_of_contract types outputs called o names w) (Guards w) (OfContract o w)
-    contract_of None names w = none (Guards w) (OfContract None w) nothing ((λ s. tt), tt)
+    pub contract_of : (o : Option Contract) (names : Types) (w : Place → Place) → Realised (slots_of_contract types outputs called o names w) (Observers w) (OfContract o w)
+    contract_of None names w = none (Observers w) (OfContract None w) nothing ((λ s. tt), tt)
     contract_of (Some c) names w =
-        join (slots_of_block types outputs called c.body names (below Guard w)) (slots_told types outputs called c.assume (scope_of c.body names) (below Assume w) ++ slots_told types outputs called c.enforce (scope_of c.body names) (below Enforce w))
-        (Under (below Guard w)) (Told w) (Guards w) (OfBlock c.body (below Guard w)) (λ i. OfTold c.assume (below Assume w) (part Assume i) × OfTold c.enforce (below Enforce w) (part Enforce i)) (OfContract (Some c) w)
-        (block_of c.body names (below Guard w))
+        join (slots_of_block types outputs called c.body names (below Observer w)) (slots_told types outputs called c.assume (scope_of c.body names) (below Assume w) ++ slots_told types outputs called c.enforce (scope_of c.body names) (below Enforce w))
+        (Under (below Observer w)) (Told w) (Observers w) (OfBlock c.body (below Observer w)) (λ i. OfTold c.assume (below Assume w) (part Assume i) × OfTold c.enforce (below Enforce w) (part Enforce i)) (OfContract (Some c) w)
+        (block_of c.body names (below Observer w))
         (join (slots_told types outputs called c.assume (scope_of c.body names) (below Assume w)) (slots_told types outputs called c.enforce (scope_of c.body names) (below Enforce w)) (Under (below Assume w)) (Under (below Enforce w)) (Told w)
         (OfTold c.assume (below Assume w)) (OfTold c.enforce (below Enforce w)) (λ i. OfTold c.assume (below Assume w) (part Assume i) × OfTold c.enforce (below Enforce w) (part Enforce i))
-        (told c.assume (scope_of c.body names) (below Assume w)) (told c.enforce (scope_of c.body names) (below Enforce w)) (λ i j. in_guard nothing i j) (λ root i j h. h) (λ i j g k. (g, k)))
-        (λ i j. in_guard i (part Assume j) (part Enforce j))
+        (told c.assume (scope_of c.body names) (below Assume w)) (told c.enforce (scope_of c.body names) (below Enforce w)) (λ i j. in_observer nothing i j) (λ root i j h. h) (λ i j g k. (g, k)))
+        (λ i j. in_observer i (part Assume j) (part Enforce j))
         (λ root i j h. h)
         (λ i j g k. ((λ s. (g.0 s, (k.0.0 (into s c.body), k.1.0 (into s c.body)))), (g.1, k.0.1, k.1.1)))

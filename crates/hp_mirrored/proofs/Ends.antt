@@ -2,7 +2,7 @@
 use Rattle.std.proofs.Common.{◌≡◌, ℕ, Bool, true, false, ◌&&◌, if◌then◌else◌, List, [], ◌∷◌, Option, None, Some, sym, ap, ◌∙◌, inl, inr}
 use Rattle.std.specs.Str.{bytes_eq}
 use Rattle.hp_tree.specs.Blocks.{Decl}
-use Rattle.hp_tree.specs.Instant.{Body, Controls, Guard, Assume, Enforce, Named, Head, Tail, Place}
+use Rattle.hp_tree.specs.Instant.{Body, Controls, Observer, Assume, Enforce, Named, Head, Tail, Place}
 use Rattle.hp_tree.specs.Meaning.{declares, controls_of}
 use Rattle.hp_tree.specs.Programs.{Contract, Node}
 use Rattle.hp_causal.specs.Causality.{Chain, sources}
@@ -62,8 +62,8 @@ module _ (n : Node) (q : Place) where
   no-body : (p : Place) → Ends (only (Body ∷ p)) → ⊥
   no-body p l = let e : Body ∷ p ≡ Controls ∷ q = l in cc
 
-  no-guard : (p : Place) → Ends (only (Guard ∷ p)) → ⊥
-  no-guard p l = let e : Guard ∷ p ≡ Controls ∷ q = l in cc
+  no-observer : (p : Place) → Ends (only (Observer ∷ p)) → ⊥
+  no-observer p l = let e : Observer ∷ p ≡ Controls ∷ q = l in cc
 
   no-assume : (p : Place) → Ends (only (Assume ∷ p)) → ⊥
   no-assume p l = let e : Assume ∷ p ≡ Controls ∷ q = l in cc
@@ -74,9 +74,9 @@ module _ (n : Node) (q : Place) where
   -- no contract names a controllable variable
   no-contract : (o : Option Contract) (p : Place) → Ends (in_contract o shown only p) → ⊥
   no-contract None p l = absurd l
-  no-contract (Some c) (Guard ∷ p) l = block-places ending ⊥ c.body shown (below Guard only) no-output no-guard p l
-  no-contract (Some c) (Assume ∷ p) l = told-places ending ⊥ c.assume (names_in_block c.body shown (below Guard only)) (below Assume only) (names-inside ending ⊥ c.body shown (below Guard only) no-output no-guard) no-assume p l
-  no-contract (Some c) (Enforce ∷ p) l = told-places ending ⊥ c.enforce (names_in_block c.body shown (below Guard only)) (below Enforce only) (names-inside ending ⊥ c.body shown (below Guard only) no-output no-guard) no-enforce p l
+  no-contract (Some c) (Observer ∷ p) l = block-places ending ⊥ c.body shown (below Observer only) no-output no-observer p l
+  no-contract (Some c) (Assume ∷ p) l = told-places ending ⊥ c.assume (names_in_block c.body shown (below Observer only)) (below Assume only) (names-inside ending ⊥ c.body shown (below Observer only) no-output no-observer) no-assume p l
+  no-contract (Some c) (Enforce ∷ p) l = told-places ending ⊥ c.enforce (names_in_block c.body shown (below Observer only)) (below Enforce only) (names-inside ending ⊥ c.body shown (below Observer only) no-output no-observer) no-enforce p l
   no-contract (Some c) p l = absurd l
 
   place-ends : (p : Place) → Ends (sources n p) → IsChosen n (Controls ∷ q)

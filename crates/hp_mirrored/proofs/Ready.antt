@@ -1,7 +1,7 @@
 -- In a ready program the wire of the assumption of a node reads a controllable variable exactly where the assumption does.
 use Rattle.std.proofs.Common.{◌≡◌, ℕ, List, [], ◌∷◌, Option, None, Some, refl, sym, subst, inl, inr}
 use Rattle.hp_tree.specs.Expressions.{Expr}
-use Rattle.hp_tree.specs.Instant.{Body, Guard, Assume, Controls, Place}
+use Rattle.hp_tree.specs.Instant.{Body, Observer, Assume, Controls, Place}
 use Rattle.hp_tree.specs.Meaning.{controls_of}
 use Rattle.hp_tree.specs.Programs.{Contract, Node}
 use Rattle.hp_causal.specs.Causality.{Chain, sources}
@@ -36,7 +36,7 @@ assumed_by n q h = by n.contract refl h
     shown : NameSources
     shown = output_in n (below Body only)
 
-    told : (c : Contract) → n.contract ≡ Some c → (o : Option Expr) → c.assume ≡ o → IsRead q (at_told o (names_in_block c.body shown (below Guard only)) (below Assume only) []) → Assumed n
+    told : (c : Contract) → n.contract ≡ Some c → (o : Option Expr) → c.assume ≡ o → IsRead q (at_told o (names_in_block c.body shown (below Observer only)) (below Assume only) []) → Assumed n
     told c e None f h = absurd h
     told c e (Some a) f h = record { contract = c; is = e; assumption = a; assumed = f }
 

@@ -7,7 +7,7 @@ use Rattle.hp_tree.specs.Programs.{Contract, Node}
 use Rattle.hp_tree.specs.Instant.{Place, Body, Equations, Head, Tail, Arms as ArmsOf, States as StatesOf}
 use Rattle.hp_tree.specs.Meaning.{declares, some_defines, controls_of}
 use Rattle.hp_causal.specs.Sources.{below}
-use Rattle.hp_clocking.specs.Clocking.{Assignment, AreOnce, with_clock, with_clocks, all_with_clocks, one_with_clocks, arms_with_clocks, states_with_clocks, in_guard, in_body, base_written, contract_with_clocks, node_with_clocks}
+use Rattle.hp_clocking.specs.Clocking.{Assignment, AreOnce, with_clock, with_clocks, all_with_clocks, one_with_clocks, arms_with_clocks, states_with_clocks, in_observer, in_body, base_written, contract_with_clocks, node_with_clocks}
 use Rattle.hp_clocking.proofs.Written.{declares_kept, some_kept}
 use Rattle.hp_named.specs.Scoped.{Names, no_names, also, BlockScoped, EqnsScoped, EqnScoped, ArmsScoped, StatesScoped, ContractScoped, equations_of, interface, NodeScoped}
 use Rattle.hp_named.specs.Laws.{ClocksKeepLaw}
@@ -64,7 +64,7 @@ module _ (at : Assignment) where
 
   contract_kept : (seen : Names) (c : Option Contract) → ContractScoped seen c → ContractScoped seen (contract_with_clocks at c)
   contract_kept seen None s = tt
-  contract_kept seen (Some c) s = block_kept seen no_names in_guard c.body s
+  contract_kept seen (Some c) s = block_kept seen no_names in_observer c.body s
 
   controls_kept : (c : Option Contract) (x : List ℕ) → declares (controls_of (contract_with_clocks at c)) x ≡ declares (controls_of c) x
   controls_kept None x = refl

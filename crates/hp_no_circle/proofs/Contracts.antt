@@ -4,7 +4,7 @@ use Rattle.std.specs.Str.{bytes_eq}
 use Rattle.std.proofs.lemmas.Option.{same_Some, none-some}
 use Rattle.hp_tree.specs.Blocks.{Decl}
 use Rattle.hp_tree.specs.Expressions.{Expr}
-use Rattle.hp_tree.specs.Instant.{Body, Guard, Assume, Enforce, Place as TreePlace}
+use Rattle.hp_tree.specs.Instant.{Body, Observer, Assume, Enforce, Place as TreePlace}
 use Rattle.hp_tree.specs.Meaning.{declares}
 use Rattle.hp_tree.specs.Programs.{Contract, Node}
 use Rattle.hp_causal.specs.Sources.{Sources, none, only, both, also, Within, NameSources, PlaceSources, below}
@@ -225,15 +225,15 @@ module _ (rank : TreePlace → ℕ) where
         (u.0, u.1, u.2, low-there u.0 (drawn t brings z spot e s).0.wire (bound rank z context names (height e) (of_expr e names k)) u.3)
 
     pub contract-marked : (F : Frame) (c : Contract) (z : Scope) (S : AreTyped g has_last z) (context : Mark) (names : NameSources) (k : PlaceSources) (spot : Place) (s : Sketch) (ms : Marks) → ContractFits t (Some c) → BlockApart c.body → ContractSound types among g has_last (Some c)
-        → Owes rank context (in_block c.body names (below Guard k)) (below Guard k)
-        → Owes rank context (at_told c.assume (names_in_block c.body names (below Guard k)) (below Assume k)) (below Assume k) → Owes rank context (at_told c.enforce (names_in_block c.body names (below Guard k)) (below Enforce k)) (below Enforce k)
+        → Owes rank context (in_block c.body names (below Observer k)) (below Observer k)
+        → Owes rank context (at_told c.assume (names_in_block c.body names (below Observer k)) (below Assume k)) (below Assume k) → Owes rank context (at_told c.enforce (names_in_block c.body names (below Observer k)) (below Enforce k)) (below Enforce k)
         → IsAt rank z context names F ms s spot
         → (ms' : Marks) × Grows ms ms' × AreMarked F (drawn_contract t brings z spot c s).1 ms' × There ms' (drawn_contract t brings z spot c s).0.assume × There ms' (drawn_contract t brings z spot c s).0.enforce
     contract-marked F c z S context names k spot s ms fit apart ok o o_assume o_enforce at =
-        behind (drawn_block t brings z spot c.body s) (block-marked rank types among t known brings b c.body fit.0 apart F g has_last z S context names (below Guard k) spot s ms ok.0 o at)
+        behind (drawn_block t brings z spot c.body s) (block-marked rank types among t known brings b c.body fit.0 apart F g has_last z S context names (below Observer k) spot s ms ok.0 o at)
       where
         inner : NameSources
-        inner = names_in_block c.body names (below Guard k)
+        inner = names_in_block c.body names (below Observer k)
 
         behind : (inside : Scope × Sketch) → blocks.Blocked rank F g has_last ms c.body context inner inside
             → (let assume = drawn_told t brings inside.0 spot c.assume inside.1 in let enforce = drawn_told t brings inside.0 spot c.enforce assume.1 in
@@ -347,10 +347,10 @@ module _ (types : List TypeDecl) (t : Told) (asked : (f : List ℕ) (n : Node) �
       names = output_in n (below Body only)
 
       inner : NameSources
-      inner = names_in_block contract.body names (below Guard only)
+      inner = names_in_block contract.body names (below Observer only)
 
-      owes_guard : Owes rank high_context (in_block contract.body names (below Guard only)) (below Guard only)
-      owes_guard p = within-top base ask.ranked.rank (in_block contract.body names (below Guard only) p) (ask.ranked.rank (Guard ∷ p)) (subst (λ o. Within (λ q. ask.ranked.rank q < ask.ranked.rank (Guard ∷ p)) (in_contract o names only (Guard ∷ p))) own (ask.ranked.falls (Guard ∷ p)))
+      owes_observer : Owes rank high_context (in_block contract.body names (below Observer only)) (below Observer only)
+      owes_observer p = within-top base ask.ranked.rank (in_block contract.body names (below Observer only) p) (ask.ranked.rank (Observer ∷ p)) (subst (λ o. Within (λ q. ask.ranked.rank q < ask.ranked.rank (Observer ∷ p)) (in_contract o names only (Observer ∷ p))) own (ask.ranked.falls (Observer ∷ p)))
 
       owes_assume : Owes rank high_context (at_told contract.assume inner (below Assume only)) (below Assume only)
       owes_assume p = within-top base ask.ranked.rank (at_told contract.assume inner (below Assume only) p) (ask.ranked.rank (Assume ∷ p)) (subst (λ o. Within (λ q. ask.ranked.rank q < ask.ranked.rank (Assume ∷ p)) (in_contract o names only (Assume ∷ p))) own (ask.ranked.falls (Assume ∷ p)))
@@ -362,7 +362,7 @@ module _ (types : List TypeDecl) (t : Told) (asked : (f : List ℕ) (n : Node) �
           → AreSeen rank ms1 z.0 high_context names → Step F ms (let g = drawn_contract t no_brings z.0 inside.0 contract z.1 in add_call inside.0.here g.0.assume g.0.enforce g.1)
       seen inside ms1 g t1 z S a1 p1 seen1 =
           let v = contract-marked rank types ask.among t ask.known no_brings nothing-brought (inside_node ask.scope n) (lasts_in n.outputs no_lasts) F contract z.0 S high_context names only inside.0 z.1 ms1 (subst (ContractFits t) own ask.fits) (subst ContractApart own ask.apart)
-          (subst (ContractSound types ask.among (inside_node ask.scope n) (lasts_in n.outputs no_lasts)) own ask.sound) owes_guard owes_assume owes_enforce (record { marks = a1; placed = p1; seen = seen1 }) in
+          (subst (ContractSound types ask.among (inside_node ask.scope n) (lasts_in n.outputs no_lasts)) own ask.sound) owes_observer owes_assume owes_enforce (record { marks = a1; placed = p1; seen = seen1 }) in
           let g1 = drawn_contract t no_brings z.0 inside.0 contract z.1 in
           let e = call-told inside.0.here g1.0.assume g1.0.enforce g1.1 v.0 v.2 (there-grows ms1 v.0 v.1 inside.0.here t1) v.3 v.4 in
           (e.0, grows-both ms ms1 e.0 g (grows-both ms1 v.0 e.0 v.1 e.1), e.2)

@@ -3,7 +3,7 @@ use Rattle.std.proofs.Common.{◌≡◌, ◌⊎◌, ℕ, suc, ◌+◌, ◌<◌, 
 use Rattle.std.specs.Str.{bytes_eq}
 use Rattle.std.proofs.lemmas.Option.{none-some}
 use Rattle.hp_tree.specs.Blocks.{Decl, Block, block}
-use Rattle.hp_tree.specs.Instant.{Body, Controls, Guard, Assume, Enforce, Named, Place as TreePlace}
+use Rattle.hp_tree.specs.Instant.{Body, Controls, Observer, Assume, Enforce, Named, Place as TreePlace}
 use Rattle.hp_tree.specs.Meaning.{declares, controls_of}
 use Rattle.hp_tree.specs.Programs.{Contract, Node}
 use Rattle.hp_causal.specs.Sources.{none, only, Within, NameSources, PlaceSources, below}
@@ -17,7 +17,7 @@ use Rattle.hp_drawing.specs.Sketch.{Sketch, low, high, push, given, next_wire, a
 use Rattle.hp_drawing.specs.Places.{top_place}
 use Rattle.hp_drawing.specs.Scopes.{Scope, Layer, unseen_entry, entry_in, add, or_found, found, value_by, outer_layers, value_in, last_in, push_values, push_lasts, pop_values}
 use Rattle.hp_drawing.specs.DrawnBlocks.{drawn_block}
-use Rattle.hp_drawing.specs.DrawnNodes.{contract_scope, put_row, put_outputs, body_layer, body_scope, contracts, Guard as Drawn, add_given, define_from, define_outputs, drawn_guard, drawn_body, with_outputs, with_inputs, with_controls, node_scope, drawn_node}
+use Rattle.hp_drawing.specs.DrawnNodes.{contract_scope, put_row, put_outputs, body_layer, body_scope, contracts, Observer as Drawn, add_given, define_from, define_outputs, drawn_observer, drawn_body, with_outputs, with_inputs, with_controls, node_scope, drawn_node}
 use Rattle.hp_drawn.proofs.Layers.{self-name}
 use Rattle.hp_steered.specs.Asked.{ContractFits}
 use Rattle.hp_tree.specs.Programs.{TypeDecl}
@@ -228,19 +228,19 @@ module _ (types : List TypeDecl) (t : Told) (n : Node) (asked : NodeAsked types 
   known_inside = lasts_in n.outputs no_lasts
 
   -- what is assumed and enforced
-  guarded : (z : Scope) (S : AreTyped (inside_node asked.scope n) known_inside z) (s : Sketch) (ms : Marks) → IsAt rank z wide shown drawing ms s top_place
-      → (ms' : Marks) × Grows ms ms' × AreMarked drawing (drawn_guard t z n.contract s).1 ms' × There ms' (drawn_guard t z n.contract s).0.assume × There ms' (drawn_guard t z n.contract s).0.enforce
-  guarded z S s ms at = by n.contract refl asked.fits.contract asked.contract_apart asked.sound.1.1.1.1.1
+  observed : (z : Scope) (S : AreTyped (inside_node asked.scope n) known_inside z) (s : Sketch) (ms : Marks) → IsAt rank z wide shown drawing ms s top_place
+      → (ms' : Marks) × Grows ms ms' × AreMarked drawing (drawn_observer t z n.contract s).1 ms' × There ms' (drawn_observer t z n.contract s).0.assume × There ms' (drawn_observer t z n.contract s).0.enforce
+  observed z S s ms at = by n.contract refl asked.fits.contract asked.contract_apart asked.sound.1.1.1.1.1
     where
       by : (o : Option Contract) → n.contract ≡ o → ContractFits t o → ContractApart o → ContractSound types asked.among (inside_node asked.scope n) known_inside o
-          → (ms' : Marks) × Grows ms ms' × AreMarked drawing (drawn_guard t z o s).1 ms' × There ms' (drawn_guard t z o s).0.assume × There ms' (drawn_guard t z o s).0.enforce
+          → (ms' : Marks) × Grows ms ms' × AreMarked drawing (drawn_observer t z o s).1 ms' × There ms' (drawn_observer t z o s).0.assume × There ms' (drawn_observer t z o s).0.enforce
       by None own fit apart ok = (ms, grows-none ms, at.marks, low-there ms high ground at.marks.high_is, low-there ms high ground at.marks.high_is)
       by (Some c) own fit apart ok =
           let r = asked.ranked in
-          let inner = names_in_block c.body shown (below Guard only) in
+          let inner = names_in_block c.body shown (below Observer only) in
           let falls : (p : TreePlace) → Within (λ q. r.rank q < r.rank p) (in_contract n.contract shown only p) → Within (λ q. r.rank q < r.rank p) (in_contract (Some c) shown only p) = λ p. subst (λ o. Within (λ q. r.rank q < r.rank p) (in_contract o shown only p)) own in
           contract-marked rank types asked.among t asked.known contracts brought (inside_node asked.scope n) known_inside drawing c z S wide shown only top_place s ms fit apart ok
-          (λ p. within-top 0 r.rank (in_block c.body shown (below Guard only) p) (r.rank (Guard ∷ p)) (falls (Guard ∷ p) (r.falls (Guard ∷ p))))
+          (λ p. within-top 0 r.rank (in_block c.body shown (below Observer only) p) (r.rank (Observer ∷ p)) (falls (Observer ∷ p) (r.falls (Observer ∷ p))))
           (λ p. within-top 0 r.rank (at_told c.assume inner (below Assume only) p) (r.rank (Assume ∷ p)) (falls (Assume ∷ p) (r.falls (Assume ∷ p))))
           (λ p. within-top 0 r.rank (at_told c.enforce inner (below Enforce only) p) (r.rank (Enforce ∷ p)) (falls (Enforce ∷ p) (r.falls (Enforce ∷ p)))) at
 
@@ -269,9 +269,9 @@ module _ (types : List TypeDecl) (t : Told) (n : Node) (asked : NodeAsked types 
   rest-marked : (z : Scope) (inputs controls : ℕ) (S : AreTyped (inside_node asked.scope n) known_inside z) (inside_is : AreTyped (typed_body asked.scope n) known_inside (body_scope (body_layer t n inputs controls) z)) (s : Sketch) (ms : Marks) → outer_layers z.values ≡ []
       → AreMarked drawing s ms → AreSeen rank ms z wide shown → ((x : List ℕ) → Low ms (last_in z x).wire narrow)
       → AreNamed ms inputs n.inputs (λ x. ground) → AreNamed ms controls (controls_of n.contract) (λ x. ground) → AreNamed ms (next_wire empty) n.outputs outs
-      → Step alone ms (let g = drawn_guard t z n.contract s in finish g.0.assume g.0.enforce (drawn_body t z (body_layer t n inputs controls) n (next_wire empty) g.1))
+      → Step alone ms (let g = drawn_observer t z n.contract s in finish g.0.assume g.0.enforce (drawn_body t z (body_layer t n inputs controls) n (next_wire empty) g.1))
   rest-marked z inputs controls S inside_is s ms one_layer a seen lasts i c o =
-      behind (drawn_guard t z n.contract s) (guarded z S s ms (record { marks = a; placed = top-placed t s ms 1 a; seen = seen }))
+      behind (drawn_observer t z n.contract s) (observed z S s ms (record { marks = a; placed = top-placed t s ms 1 a; seen = seen }))
     where
       behind : (g : Drawn × Sketch) → (ms' : Marks) × Grows ms ms' × AreMarked drawing g.1 ms' × There ms' g.0.assume × There ms' g.0.enforce
           → Step alone ms (finish g.0.assume g.0.enforce (drawn_body t z (body_layer t n inputs controls) n (next_wire empty) g.1))

@@ -1,6 +1,6 @@
 ghost use Rattle.std.specs.Prelude.{◌≡◌};
 ghost use Rattle.hp_obc.specs.Form.{HasObcForm};
-ghost use Rattle.hp_obc.specs.Kinded.{AreKinded};
+ghost use Rattle.hp_obc.specs.Kinded.{AreKinded, RunInKind};
 
 use crate::machine::Machine;
 use hp_base::Name;
@@ -75,9 +75,11 @@ impl Obc {
     }
 }
 
-/// The outputs of the machines of a file are of their kinds, in each run on inputs of theirs.
+/// The machines of a file keep values of their kinds and give outputs of theirs: in each step from a memory of its kinds, and in
+/// each run.
 pub fn outputs_are_of_their_kinds(o: &Obc)
-    ensures { AreKinded o.now }
+    ensures steps { AreKinded o.now }
+    ensures runs { RunInKind o.now }
 {
     let _types = o.types();
 }

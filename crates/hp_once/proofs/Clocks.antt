@@ -5,7 +5,7 @@ use Rattle.hp_tree.specs.Blocks.{Block, block, Eqns, no_eqn, more_eqns, Eqn, def
 use Rattle.hp_tree.specs.Programs.{Contract}
 use Rattle.hp_tree.specs.Instant.{Place, Body, Equations, Head, Tail, Arms as ArmsOf, States as StatesOf}
 use Rattle.hp_causal.specs.Sources.{below}
-use Rattle.hp_clocking.specs.Clocking.{Assignment, with_clocks, all_with_clocks, one_with_clocks, arms_with_clocks, states_with_clocks, in_guard, in_body, contract_with_clocks}
+use Rattle.hp_clocking.specs.Clocking.{Assignment, with_clocks, all_with_clocks, one_with_clocks, arms_with_clocks, states_with_clocks, in_observer, in_body, contract_with_clocks}
 use Rattle.hp_clocking.proofs.Written.{some_kept, defines_kept}
 use Rattle.hp_once.specs.Once.{BlockOnce, AllOnce, OneOnce, ArmsOnce, StatesOnce, ContractOnce}
 use Rattle.hp_once.specs.Laws.{ClocksLaw}
@@ -38,7 +38,7 @@ module _ (at : Assignment) where
 
   contract_kept : (c : Option Contract) → ContractOnce c → ContractOnce (contract_with_clocks at c)
   contract_kept None o = tt
-  contract_kept (Some c) o = block_kept in_guard c.body o
+  contract_kept (Some c) o = block_kept in_observer c.body o
 
 pub kept : ClocksLaw
 kept n at o = (contract_kept at n.contract o.0, block_kept at in_body n.body o.1)

@@ -10,7 +10,7 @@ use Rattle.hp_tree.specs.declared.program.Item.TheVariants.{TypeItem, NodeItem}
 use Rattle.hp_tree.specs.Expressions.{Expr, constant, variable, last_of, one, two, choose, pre, fby, arrow, when_is, merge, call, Exprs, no_expr, more_exprs, Parts, no_part, more_parts}
 use Rattle.hp_tree.specs.Blocks.{Block, block, Eqns, no_eqn, more_eqns, Eqn, define, switch, reset, automaton, Arms, no_arm, more_arms, States, no_state, more_states}
 use Rattle.hp_tree.specs.Programs.{Contract, Node}
-use Rattle.hp_tree.specs.Instant.{Controls, Body, Guard, Assume, Enforce, Equations, Head, Tail, Right, Test, Arms as ArmsOf, States as StatesOf, First, Second, Third, Args, Instance, Instant, part, top}
+use Rattle.hp_tree.specs.Instant.{Controls, Body, Observer, Assume, Enforce, Equations, Head, Tail, Right, Test, Arms as ArmsOf, States as StatesOf, First, Second, Third, Args, Instance, Instant, part, top}
 use Rattle.hp_tree.specs.Meaning.{controls_of}
 use Rattle.hp_tree.specs.Reaction.{row_of}
 use Rattle.hp_automata.specs.Names.{names_of_states, once}
@@ -164,12 +164,12 @@ module _ (u : Value → Value) (callee : List ℕ → Relation) (known : (f : Li
   -- ---- nodes
 
   abbrev in_node : Instant → Instant → Instant → Instant → Instant → Instant
-  in_node controls body guard assume enforce (Controls ∷ p) = controls p
-  in_node controls body guard assume enforce (Body ∷ p) = body p
-  in_node controls body guard assume enforce (Guard ∷ p) = guard p
-  in_node controls body guard assume enforce (Assume ∷ p) = assume p
-  in_node controls body guard assume enforce (Enforce ∷ p) = enforce p
-  in_node controls body guard assume enforce p = Nil
+  in_node controls body observer assume enforce (Controls ∷ p) = controls p
+  in_node controls body observer assume enforce (Body ∷ p) = body p
+  in_node controls body observer assume enforce (Observer ∷ p) = observer p
+  in_node controls body observer assume enforce (Assume ∷ p) = assume p
+  in_node controls body observer assume enforce (Enforce ∷ p) = enforce p
+  in_node controls body observer assume enforce p = Nil
 
   node_given : (n : Node) → Always (NodeGiven u callee n)
   node_given n i = by n.contract
@@ -180,7 +180,7 @@ module _ (u : Value → Value) (callee : List ℕ → Relation) (known : (f : Li
       by : (o : Option Contract) → (j : Instant) × ((row_of (controls_of n.contract) (part Controls i) ≡ row_of (controls_of n.contract) (part Controls j)) × BlockGiven u callee n.body (part Body i) (part Body j) × ContractGiven u callee o i j)
       by None = (in_node (part Controls i) body.0 nothing nothing nothing, (refl, body.1, tt))
       by (Some c) =
-          let g = block_given c.body (part Guard i) in
+          let g = block_given c.body (part Observer i) in
           let a = condition_given c.assume (part Assume i) in
           let e = condition_given c.enforce (part Enforce i) in
           (in_node (part Controls i) body.0 g.0 a.0 e.0, (refl, body.1, (g.1, a.1, e.1)))

@@ -169,10 +169,10 @@ whole_plain (block ds es) h =
     let later = word key.Let ∷ (equations_tokens es ++ (word key.Tel ∷ [])) in
     (variables_plain ds (first (variables_tokens ds) later h), equations_plain es (first (equations_tokens es) (word key.Tel ∷ []) (rest (variables_tokens ds) later h).1))
 
-guard_plain : (b : Block) → Writable (contract_block_tokens b) → BlockNames IsPlain b
-guard_plain (block [] no_eqn) h = (none_plain, tt)
-guard_plain (block [] (more_eqns e es)) h = whole_plain (block [] (more_eqns e es)) h
-guard_plain (block (d ∷ ds) es) h = whole_plain (block (d ∷ ds) es) h
+observer_plain : (b : Block) → Writable (contract_block_tokens b) → BlockNames IsPlain b
+observer_plain (block [] no_eqn) h = (none_plain, tt)
+observer_plain (block [] (more_eqns e es)) h = whole_plain (block [] (more_eqns e es)) h
+observer_plain (block (d ∷ ds) es) h = whole_plain (block (d ∷ ds) es) h
 
 -- ---- nodes
 
@@ -187,7 +187,7 @@ contract_plain (Some c) h =
     let assume = clause_tokens key.Assume c.assume in
     let enforce = clause_tokens key.Enforce c.enforce in
     let controls = controls_tokens c.controls in (
-      guard_plain c.body (first block_words (assume ++ (enforce ++ controls)) h.1),
+      observer_plain c.body (first block_words (assume ++ (enforce ++ controls)) h.1),
       controls_plain c.controls (rest enforce controls (rest assume (enforce ++ controls) (rest block_words (assume ++ (enforce ++ controls)) h.1))),
     )
 

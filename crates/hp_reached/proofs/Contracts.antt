@@ -2,7 +2,7 @@
 use Rattle.std.proofs.Common.{◌≡◌, ℕ, true, false, List, [], ◌∷◌, Option, None, Some, refl, sym, ◌∙◌, inl}
 use Rattle.std.specs.Prelude.{⊤, ◌⊎◌}
 use Rattle.hp_tree.specs.Expressions.{Expr}
-use Rattle.hp_tree.specs.Instant.{Guard, Assume, Enforce, Place}
+use Rattle.hp_tree.specs.Instant.{Observer, Assume, Enforce, Place}
 use Rattle.hp_tree.specs.Programs.{Contract, Node}
 use Rattle.hp_causal.specs.Sources.{none, only, NameSources}
 use Rattle.hp_causal.specs.WhatIsRead.{at_told, names_in_block, in_block, in_contract}
@@ -15,10 +15,10 @@ use Rattle.hp_drawing.specs.Places.{top_place, called_at}
 use Rattle.hp_drawing.specs.Scopes.{Scope}
 use Rattle.hp_drawing.specs.DrawnExpressions.{Brings}
 use Rattle.hp_drawing.specs.DrawnBlocks.{drawn_block}
-use Rattle.hp_drawing.specs.DrawnNodes.{contract_scope, drawn_told, drawn_contract, drawn_guard, no_brings, drawn_called_if, contracts}
+use Rattle.hp_drawing.specs.DrawnNodes.{contract_scope, drawn_told, drawn_contract, drawn_observer, no_brings, drawn_called_if, contracts}
 use Rattle.hp_steered.specs.Placed.{Held, ToldPlaced, ContractPlaced, none_held, contracts_held}
 use Rattle.hp_steered.specs.Asked.{TellsFit, ContractFits}
-use Rattle.hp_steered.specs.Nodes.{GuardPlaced}
+use Rattle.hp_steered.specs.Nodes.{ObserverPlaced}
 use Rattle.hp_steered.proofs.Assumed.{told_reads, assumption_reads}
 use Rattle.hp_early.proofs.Running.{called-runs, scope-runs, call-runs}
 use Rattle.hp_early.proofs.Walk.{standing}
@@ -41,15 +41,15 @@ module _ (S : ℕ → Type 0) (t : Told) (brings : Brings) where
 
   -- the places of a contract
   abbrev pub ContractWires : Scope → Spot → Contract → Sketch → Said
-  ContractWires z spot c s (Guard ∷ p) = BlockWires S t brings z spot c.body s p
+  ContractWires z spot c s (Observer ∷ p) = BlockWires S t brings z spot c.body s p
   ContractWires z spot c s (Assume ∷ p) = let i = drawn_block t brings z spot c.body s in ToldWires i.0 spot c.assume i.1 p
   ContractWires z spot c s (Enforce ∷ p) = let i = drawn_block t brings z spot c.body s in let a = drawn_told t brings i.0 spot c.assume i.1 in ToldWires i.0 spot c.enforce a.1 p
   ContractWires z spot c s p = ⊤
 
 module _ (S : ℕ → Type 0) (t : Told) where
-  abbrev pub GuardWires : Scope → Option Contract → Sketch → Said
-  GuardWires z None s = anything
-  GuardWires z (Some c) s = ContractWires S t contracts z top_place c s
+  abbrev pub ObserverWires : Scope → Option Contract → Sketch → Said
+  ObserverWires z None s = anything
+  ObserverWires z (Some c) s = ContractWires S t contracts z top_place c s
 
 module _ (S : ℕ → Type 0) (T : Place → Type 0) (n : Node) (place : ℕ → Place) where
   module _ (t : Told) (brings : Brings) (held : Place → Held) (b : BringsRun S T n place t brings) where
@@ -69,14 +69,14 @@ module _ (S : ℕ → Type 0) (T : Place → Type 0) (n : Node) (place : ℕ →
       pub shut : Shut S T n place s
       pub slots : SlotsRight S T n place s → SlotsRight S T n place behind
       pub placed : Holds (leading T) C (in_contract (Some c) names (λ p. only (at p))) wires
-      pub assumed : L S T n place (told_reads c.assume (names_in_block c.body names (λ p. only (at (Guard ∷ p)))) (λ p. only (at (Assume ∷ p)))) → C ⊎ S w
+      pub assumed : L S T n place (told_reads c.assume (names_in_block c.body names (λ p. only (at (Observer ∷ p)))) (λ p. only (at (Assume ∷ p)))) → C ⊎ S w
 
     -- where a contract is the node's own, its slots have their places, which read what it does
     abbrev pub OwnContract : Type 0 → Scope → NameSources → (Place → Place) → Spot → Contract → Sketch → Type 0
     OwnContract C z names at spot c s =
         let reads = in_contract (Some c) names (λ p. only (at p)) in
         spot.outside ≡ true → ((q : Place) → ContractPlaced (standing place q) t brings (held q) z spot c (λ p. only (at p)) s)
-        × ((p : Place) → L S T n place (sources n (at (Guard ∷ p))) → L S T n place (reads (Guard ∷ p))) × ((p : Place) → L S T n place (sources n (at (Assume ∷ p))) → L S T n place (reads (Assume ∷ p)))
+        × ((p : Place) → L S T n place (sources n (at (Observer ∷ p))) → L S T n place (reads (Observer ∷ p))) × ((p : Place) → L S T n place (sources n (at (Assume ∷ p))) → L S T n place (reads (Assume ∷ p)))
         × ((p : Place) → L S T n place (sources n (at (Enforce ∷ p))) → L S T n place (reads (Enforce ∷ p))) × (C → ⊥)
 
     pub contract-done : (c : Contract) (C : Type 0) (z : Scope) (names : NameSources) (at : Place → Place) (spot : Spot) (s : Sketch) → ContractFits t (Some c) → IsFilled c.body → NamesLead S T n place C z names → Reached S T n place C at (ContractWires S t brings z spot c s)
@@ -85,18 +85,18 @@ module _ (S : ℕ → Type 0) (T : Place → Type 0) (n : Node) (place : ℕ →
     contract-done c C z names at spot s fit filled named h own e =
         let i = drawn_block t brings z spot c.body s in
         let a = drawn_told t brings i.0 spot c.assume i.1 in
-        let inner = names_in_block c.body names (λ p. only (at (Guard ∷ p))) in
-        let named1 : NamesLead S T n place C i.0 inner = block-named S T n place t brings held b c.body filled C z names (λ p. at (Guard ∷ p)) spot s named (λ p. h (Guard ∷ p)) in
+        let inner = names_in_block c.body names (λ p. only (at (Observer ∷ p))) in
+        let named1 : NamesLead S T n place C i.0 inner = block-named S T n place t brings held b c.body filled C z names (λ p. at (Observer ∷ p)) spot s named (λ p. h (Observer ∷ p)) in
         let u3 = told-done c.enforce C i.0 inner (λ p. at (Enforce ∷ p)) spot a.1 fit.2 named1 (λ p. h (Enforce ∷ p)) (λ o. let x = own o in (λ q. (x.0 q).2, x.3, x.4)) e in
         let u2 = told-done c.assume C i.0 inner (λ p. at (Assume ∷ p)) spot i.1 fit.1 named1 (λ p. h (Assume ∷ p)) (λ o. let x = own o in (λ q. (x.0 q).1, x.2, x.4)) u3.shut in
-        let u1 = whole-block S T n place t brings held b c.body fit.0 filled C z names (λ p. at (Guard ∷ p)) spot s named (λ p. h (Guard ∷ p)) (λ o. let x = own o in (λ q. (x.0 q).0, x.1, x.4)) u2.shut in
+        let u1 = whole-block S T n place t brings held b c.body fit.0 filled C z names (λ p. at (Observer ∷ p)) spot s named (λ p. h (Observer ∷ p)) (λ o. let x = own o in (λ q. (x.0 q).0, x.1, x.4)) u2.shut in
         record { shut = u1.shut; slots = λ k. u3.slots (u2.slots (u1.slots k)); placed = by u1.placed u2.placed u3.placed; assumed = u2.valued }
       where
-        by : Holds (leading T) C (in_block c.body names (λ p. only (at (Guard ∷ p)))) (BlockWires S t brings z spot c.body s)
-            → (let i = drawn_block t brings z spot c.body s in let a = drawn_told t brings i.0 spot c.assume i.1 in let inner = names_in_block c.body names (λ p. only (at (Guard ∷ p))) in
+        by : Holds (leading T) C (in_block c.body names (λ p. only (at (Observer ∷ p)))) (BlockWires S t brings z spot c.body s)
+            → (let i = drawn_block t brings z spot c.body s in let a = drawn_told t brings i.0 spot c.assume i.1 in let inner = names_in_block c.body names (λ p. only (at (Observer ∷ p))) in
             Holds (leading T) C (at_told c.assume inner (λ p. only (at (Assume ∷ p)))) (ToldWires S t brings i.0 spot c.assume i.1) → Holds (leading T) C (at_told c.enforce inner (λ p. only (at (Enforce ∷ p)))) (ToldWires S t brings i.0 spot c.enforce a.1)
             → Holds (leading T) C (in_contract (Some c) names (λ p. only (at p))) (ContractWires S t brings z spot c s))
-        by f g k (Guard ∷ p) l = f p l
+        by f g k (Observer ∷ p) l = f p l
         by f g k (Assume ∷ p) l = g p l
         by f g k (Enforce ∷ p) l = k p l
         by f g k p l = absurd l
@@ -127,16 +127,16 @@ module _ (S : ℕ → Type 0) (T : Place → Type 0) (n : Node) (place : ℕ →
 
     -- ---- the contract of the node itself
 
-    pub record GuardDone (o : Option Contract) (z : Scope) (names : NameSources) (s : Sketch) : Type 0 where
+    pub record ObserverDone (o : Option Contract) (z : Scope) (names : NameSources) (s : Sketch) : Type 0 where
       pub shut : Shut S T n place s
-      pub slots : SlotsRight S T n place s → SlotsRight S T n place (drawn_guard t z o s).1
-      pub placed : Holds (leading T) ⊥ (in_contract o names only) (GuardWires S t z o s)
-      pub assumed : L S T n place (assumption_reads o names) → ⊥ ⊎ S (drawn_guard t z o s).0.assume
+      pub slots : SlotsRight S T n place s → SlotsRight S T n place (drawn_observer t z o s).1
+      pub placed : Holds (leading T) ⊥ (in_contract o names only) (ObserverWires S t z o s)
+      pub assumed : L S T n place (assumption_reads o names) → ⊥ ⊎ S (drawn_observer t z o s).0.assume
 
-    pub guard-done : (b : BringsRun S T n place t contracts) (o : Option Contract) (z : Scope) (names : NameSources) (s : Sketch) → ContractFits t o → ContractFilled o → NamesLead S T n place ⊥ z names → Reached S T n place ⊥ (λ p. p) (GuardWires S t z o s)
-        → ((q : Place) → GuardPlaced (standing place q) t z o s) → ((p : Place) → L S T n place (sources n (Guard ∷ p)) → L S T n place (in_contract o names only (Guard ∷ p)))
-        → ((p : Place) → L S T n place (sources n (Assume ∷ p)) → L S T n place (in_contract o names only (Assume ∷ p))) → ((p : Place) → L S T n place (sources n (Enforce ∷ p)) → L S T n place (in_contract o names only (Enforce ∷ p))) → Shut S T n place (drawn_guard t z o s).1 → GuardDone o z names s
-    guard-done b None z names s fit filled named h lies f g k e = record { shut = e; slots = λ k. k; placed = λ p l. absurd l; assumed = λ l. absurd l }
-    guard-done b (Some c) z names s fit filled named h lies f g k e =
+    pub observer-done : (b : BringsRun S T n place t contracts) (o : Option Contract) (z : Scope) (names : NameSources) (s : Sketch) → ContractFits t o → ContractFilled o → NamesLead S T n place ⊥ z names → Reached S T n place ⊥ (λ p. p) (ObserverWires S t z o s)
+        → ((q : Place) → ObserverPlaced (standing place q) t z o s) → ((p : Place) → L S T n place (sources n (Observer ∷ p)) → L S T n place (in_contract o names only (Observer ∷ p)))
+        → ((p : Place) → L S T n place (sources n (Assume ∷ p)) → L S T n place (in_contract o names only (Assume ∷ p))) → ((p : Place) → L S T n place (sources n (Enforce ∷ p)) → L S T n place (in_contract o names only (Enforce ∷ p))) → Shut S T n place (drawn_observer t z o s).1 → ObserverDone o z names s
+    observer-done b None z names s fit filled named h lies f g k e = record { shut = e; slots = λ k. k; placed = λ p l. absurd l; assumed = λ l. absurd l }
+    observer-done b (Some c) z names s fit filled named h lies f g k e =
         let u = contract-done t contracts (λ q. contracts_held (standing place q) t) b c ⊥ z names (λ p. p) top_place s fit filled named h (λ o. (lies, f, g, k, λ x. x)) e in
         record { shut = u.shut; slots = u.slots; placed = u.placed; assumed = u.assumed }

@@ -22,7 +22,7 @@ use Rattle.hp_drawing.specs.Places.{top_place}
 use Rattle.hp_drawing.specs.Scopes.{Scope, Layer, entry_in, or_found, found, entry_at, value_by, value_in, push_values, push_lasts, pop_values}
 use Rattle.hp_drawing.specs.DrawnBlocks.{drawn_block}
 use Rattle.hp_steered.specs.Marks.{Leads}
-use Rattle.hp_drawing.specs.DrawnNodes.{Guard as Drawn, contract_scope, contract_layer, put_row, body_layer, body_scope, contracts, drawn_guard, define_from, with_outputs, with_inputs, with_controls, add_given, add_one_given, node_scope, drawn_node}
+use Rattle.hp_drawing.specs.DrawnNodes.{Observer as Drawn, contract_scope, contract_layer, put_row, body_layer, body_scope, contracts, drawn_observer, define_from, with_outputs, with_inputs, with_controls, add_given, add_one_given, node_scope, drawn_node}
 use Rattle.hp_steered.specs.Laid.{slot_place}
 use Rattle.hp_steered.specs.Nodes.{Depends, NodeFits, NodePlaced}
 use Rattle.hp_steered.specs.Placed.{contracts_held}
@@ -38,7 +38,7 @@ use Rattle.hp_reached.proofs.Scopes.{pushed-value}
 use Rattle.hp_reached.proofs.Expressions.{leading, L, Early, R, SlotsRight, NamesLead, BringsRun}
 use Rattle.hp_reached.proofs.Wholes.{whole-block}
 use Rattle.hp_reached.proofs.Blocks.{BlockDone}
-use Rattle.hp_reached.proofs.Contracts.{GuardWires, GuardDone, contracts-run, guard-done}
+use Rattle.hp_reached.proofs.Contracts.{ObserverWires, ObserverDone, contracts-run, observer-done}
 use Rattle.hp_reached.proofs.Rows.{row-keeps, outputs-keep, row-lacks, output-at, control-at}
 
 -- ---- what is read
@@ -82,9 +82,9 @@ no-slots : (S : ℕ → Type 0) (T : Place → Type 0) (n : Node) (place : ℕ �
 unfolding empty begun push add_clock nothing
 no-slots S T n place = tt
 
-guard-others : (S : ℕ → Type 0) (t : Told) (z : Scope) (o : Option Contract) (s : Sketch) → ((p : Place) → GuardWires S t z o s (Body ∷ p)) × ((p : Place) → GuardWires S t z o s (Controls ∷ p)) × ((x : List ℕ) (p : Place) → GuardWires S t z o s (Named x ∷ p))
-guard-others S t z None s = (λ p. tt, λ p. tt, λ x p. tt)
-guard-others S t z (Some c) s = (λ p. tt, λ p. tt, λ x p. tt)
+observer-others : (S : ℕ → Type 0) (t : Told) (z : Scope) (o : Option Contract) (s : Sketch) → ((p : Place) → ObserverWires S t z o s (Body ∷ p)) × ((p : Place) → ObserverWires S t z o s (Controls ∷ p)) × ((x : List ℕ) (p : Place) → ObserverWires S t z o s (Named x ∷ p))
+observer-others S t z None s = (λ p. tt, λ p. tt, λ x p. tt)
+observer-others S t z (Some c) s = (λ p. tt, λ p. tt, λ x p. tt)
 
 never : {X : Type 0} → ⊥ ⊎ X → X
 never (inl c) = absurd c
@@ -109,7 +109,7 @@ module _ (program : List Item) (t : Told) (n : Node) (known : (f : List ℕ) →
   s = with_controls t n z.1
 
   abbrev g : Drawn × Sketch
-  g = drawn_guard t z.0 n.contract s
+  g = drawn_observer t z.0 n.contract s
 
   abbrev l : Layer
   l = body_layer t n (next_wire outs) (next_wire z.1)
@@ -132,7 +132,7 @@ module _ (program : List Item) (t : Told) (n : Node) (known : (f : List ℕ) →
   -- a place has a wire that reads a controllable variable
   abbrev T : Place → Type 0
   T (Body ∷ p) = BlockWires S t contracts y top_place n.body g.1 p
-  T p = GuardWires S t z.0 n.contract s p
+  T p = ObserverWires S t z.0 n.contract s p
 
   abbrev Leading : Sources → Type 0
   Leading u = L S T n place u
@@ -149,8 +149,8 @@ module _ (program : List Item) (t : Told) (n : Node) (known : (f : List ℕ) →
   abbrev seen : NameSources
   seen = control_in (controls_of n.contract) (below Controls only)
 
-  others : ((p : Place) → GuardWires S t z.0 n.contract s (Body ∷ p)) × ((p : Place) → GuardWires S t z.0 n.contract s (Controls ∷ p)) × ((x : List ℕ) (p : Place) → GuardWires S t z.0 n.contract s (Named x ∷ p))
-  others = guard-others S t z.0 n.contract s
+  others : ((p : Place) → ObserverWires S t z.0 n.contract s (Body ∷ p)) × ((p : Place) → ObserverWires S t z.0 n.contract s (Controls ∷ p)) × ((x : List ℕ) (p : Place) → ObserverWires S t z.0 n.contract s (Named x ∷ p))
+  others = observer-others S t z.0 n.contract s
 
   lies : (q : Place) → NodePlaced (standing place q) t n
   lies q = node-lies program t n known nothing_called q
@@ -174,28 +174,28 @@ module _ (program : List Item) (t : Told) (n : Node) (known : (f : List ℕ) →
       inr (subst (λ v. S v.wire) (sym (pushed-value l (pop_values z.0) x ∙ ap (λ o. value_by (or_found o (found (pop_values z.0).values x))) there)) steered)
 
   -- outputs are what the body defines
-  guard-names : NamesOf z.0 shown
-  guard-names x k =
+  observer-names : NamesOf z.0 shown
+  observer-names x k =
       let so = shown-output (declares n.outputs x) (has_equation n.body x) T (Body ∷ Named x ∷ []) k in
       let v : S (value_in d.0 x).wire = block-wire S t y n.body g.1 x so.1 in
       let o = output-at S (Early S T n place) t d.0 (next_wire empty) 0 n.outputs (put_row t n.inputs (next_wire outs) []) d.1 x (row-lacks t (next_wire outs) 0 n.inputs [] x refl (filled.outputs x so.0)) so.0 shut_e in
       inr (subst (λ v. S v.wire) (sym (scope-value t n (next_wire outs) (next_wire empty) ins x ∙ ap (λ i. value_by (or_found i None)) o.2)) (o.3 v))
 
-  guard-of : (p : Place) → T p → ⊥ ⊎ GuardWires S t z.0 n.contract s p
-  guard-of (Body ∷ p) k = inr (others.0 p)
-  guard-of p k = inr k
+  observer-of : (p : Place) → T p → ⊥ ⊎ ObserverWires S t z.0 n.contract s p
+  observer-of (Body ∷ p) k = inr (others.0 p)
+  observer-of p k = inr k
 
   body_law : BlockDone S T n place t contracts (λ q. contracts_held (standing place q) t) run ⊥ y seen (λ p. Body ∷ p) top_place n.body g.1
   body_law = whole-block S T n place t contracts (λ q. contracts_held (standing place q) t) run n.body fits.body filled.body ⊥ y seen (λ p. Body ∷ p) top_place g.1 body-names (λ p k. inr k) (λ o. (λ q. (lies q).1, λ p k. k, λ x. x)) shut_d
 
-  guard_law : GuardDone S T n place t n.contract z.0 shown s
-  guard_law = guard-done S T n place t run n.contract z.0 shown s fits.contract filled.contract guard-names guard-of (λ q. (lies q).0) (λ p k. k) (λ p k. k) (λ p k. k) body_law.shut
+  observer_law : ObserverDone S T n place t n.contract z.0 shown s
+  observer_law = observer-done S T n place t run n.contract z.0 shown s fits.contract filled.contract observer-names observer-of (λ q. (lies q).0) (λ p k. k) (λ p k. k) (λ p k. k) body_law.shut
 
   -- where one of those that it reads has such a wire, a place has one
   closed : (p : Place) → Leading (sources n p) → T p
   closed (Body ∷ p) k = never (body_law.placed p k)
   closed (Named x ∷ []) k = others.2 x []
-  closed p k = never (guard_law.placed p k)
+  closed p k = never (observer_law.placed p k)
 
   -- ---- slots
 
@@ -211,7 +211,7 @@ module _ (program : List Item) (t : Told) (n : Node) (known : (f : List ℕ) →
       let r3 = given-row role.Control (controls_of n.contract) z.1 tt in
       let r4 = from-runs Runs (running S (Early S T n place)) d.0 (next_wire empty) 0 n.outputs d.1 in
       let r5 = finish-runs Runs (running S (Early S T n place)) g.0.assume g.0.enforce e in
-      r5.slots (r4.slots (body_law.slots (guard_law.slots (r3.slots (r2.slots (r1.slots (r0.slots (no-slots S T n place))))))))
+      r5.slots (r4.slots (body_law.slots (observer_law.slots (r3.slots (r2.slots (r1.slots (r0.slots (no-slots S T n place))))))))
 
   -- ---- chains
 
@@ -240,7 +240,7 @@ module _ (program : List Item) (t : Told) (n : Node) (known : (f : List ℕ) →
   pub assumption-steered : Depends n (Assume ∷ []) → S final.assume
   assumption-steered c =
       let h = assume-place c in
-      subst S (sym (finish-assume g.0.assume g.0.enforce e)) (never (guard_law.assumed (assumption-value (leading T) n.contract shown h.1 h.0)))
+      subst S (sym (finish-assume g.0.assume g.0.enforce e)) (never (observer_law.assumed (assumption-value (leading T) n.contract shown h.1 h.0)))
 
 pub node-reached : ReachedLaw
 node-reached program t n known nothing fits filled i h r c = slot-reached program t n known nothing fits filled i h r c

@@ -1,4 +1,4 @@
--- What drawn wires read, the other half: where a place depends on a controllable variable, its wire reads one.
+-- Where a place depends on a controllable variable, the wire that is drawn of it reads one (that a wire reads one only there is said in `hp_steered`).
 -- Source: own. Where an operator, a definition, a block or an automaton reads a place, what is drawn of it reads the wire of that place, and no later step of drawing takes this back.
 use Rattle.std.specs.Prelude.{ℕ, ◌≡◌, ◌<◌, ⊤, true, false, List, [], ◌∷◌, length, reverse, Some}
 use Rattle.hp_tree.specs.declared.program.Item.{Item}

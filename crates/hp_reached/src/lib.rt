@@ -1,4 +1,4 @@
-//! What drawn wires read, the other half: a controllable variable wherever the place that they are drawn of depends on one. So the early slots of the circuit of a node are its early places.
+//! Drawn wires read a controllable variable wherever the place that they are drawn of depends on one. `hp_steered` has the converse, so the early slots of the circuit of a node are its early places.
 //!
 //! The functions here do nothing: each is a law, which its contract states.
 #![tactic(auto)]

@@ -11,7 +11,7 @@ use Rattle.hp_tree.specs.Programs.{Contract, Node}
 use Rattle.hp_tree.specs.Instant.{Place, Body, Equations, Head, Tail, Arms as ArmsOf, States as StatesOf}
 use Rattle.hp_tree.specs.Meaning.{declares, is_among, controls_of}
 use Rattle.hp_causal.specs.Sources.{below}
-use Rattle.hp_clocking.specs.Clocking.{Assignment, with_clocks, all_with_clocks, one_with_clocks, arms_with_clocks, states_with_clocks, in_guard, in_body, contract_with_clocks}
+use Rattle.hp_clocking.specs.Clocking.{Assignment, with_clocks, all_with_clocks, one_with_clocks, arms_with_clocks, states_with_clocks, in_observer, in_body, contract_with_clocks}
 use Rattle.hp_named.specs.Scoped as named
 use Rattle.hp_named.specs.Scoped.{Names, no_names, also, BlockScoped, EqnsScoped, EqnScoped, ArmsScoped, StatesScoped, ContractScoped, interface, EachNode}
 use Rattle.hp_named.proofs.Sets.{or_cases, or_left, or_right, false_if, name_same}
@@ -391,7 +391,7 @@ module _ (at : Assignment) where
 
   contract_clocked : (o : Option Contract) → ContractLefts o → ContractLefts (contract_with_clocks at o)
   contract_clocked None h = tt
-  contract_clocked (Some c) h = block_clocked in_guard c.body h
+  contract_clocked (Some c) h = block_clocked in_observer c.body h
 
 pub lefts_clocked : (xs ys : List Item) → AreClocked xs ys → EachNode NodeLefts xs → EachNode NodeLefts ys
 lefts_clocked [] [] c p = tt

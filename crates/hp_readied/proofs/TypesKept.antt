@@ -9,7 +9,7 @@ use Rattle.hp_tree.specs.Blocks.{Decl, Block, block, Eqns, no_eqn, more_eqns, Eq
 use Rattle.hp_tree.specs.Programs.{Contract, Node}
 use Rattle.hp_tree.specs.Instant.{Place, Body, Equations, Head, Tail, Arms as ArmsOf, States as StatesOf}
 use Rattle.hp_causal.specs.Sources.{below}
-use Rattle.hp_clocking.specs.Clocking.{Assignment, with_clock, base_written, with_clocks, all_with_clocks, one_with_clocks, arms_with_clocks, states_with_clocks, in_guard, in_body, contract_with_clocks, node_with_clocks}
+use Rattle.hp_clocking.specs.Clocking.{Assignment, with_clock, base_written, with_clocks, all_with_clocks, one_with_clocks, arms_with_clocks, states_with_clocks, in_observer, in_body, contract_with_clocks, node_with_clocks}
 use Rattle.hp_expand.specs.NewNames.{marked}
 use Rattle.hp_expand.specs.Renaming.{renamed_decls, renamed_block, renamed_eqns, renamed_eqn, renamed_arms, renamed_states}
 use Rattle.hp_expand.specs.Replacing.{given, locals_of, equations_of, inlined_call, defined_by, in_expr, in_exprs, in_parts, in_definition, in_block, in_eqns, in_eqn, in_arms, in_states, in_condition, in_contract, in_node}
@@ -322,7 +322,7 @@ module _ (P : Ty → Type 0) where
 
     contract_clocked : (o : Option Contract) → ContractTypes P o → ContractTypes P (contract_with_clocks at o)
     contract_clocked None h = tt
-    contract_clocked (Some c) h = block_clocked in_guard c.body h
+    contract_clocked (Some c) h = block_clocked in_observer c.body h
 
     pub node_clocked : (n : Node) → AllTypes P n → AllTypes P (node_with_clocks at n)
     node_clocked n h = (

@@ -11,7 +11,7 @@ use Rattle.hp_tree.specs.Blocks.{Decl, Block, block, Eqns, no_eqn, more_eqns, Eq
 use Rattle.hp_tree.specs.Programs.{Contract, Node}
 use Rattle.hp_tree.specs.Instant.{Body, Equations, Head, Tail, Arms as ArmsOf, States as StatesOf, Place}
 use Rattle.hp_causal.specs.Sources.{below}
-use Rattle.hp_clocking.specs.Clocking.{Assignment, in_guard, with_clocks, all_with_clocks, one_with_clocks, arms_with_clocks, states_with_clocks, contract_with_clocks, node_with_clocks}
+use Rattle.hp_clocking.specs.Clocking.{Assignment, in_observer, with_clocks, all_with_clocks, one_with_clocks, arms_with_clocks, states_with_clocks, contract_with_clocks, node_with_clocks}
 use Rattle.hp_clocks.specs.Writing.{AreWritten}
 use Rattle.hp_clocks.specs.Answers.{IsClocked}
 use Rattle.hp_named.specs.Scoped.{EachNode}
@@ -20,8 +20,10 @@ use Rattle.hp_expand.specs.NewNames.{marked}
 use Rattle.hp_expand.specs.Replacing.{Replaced, output_at, given, equations_of, inlined_call, defined_by, in_expr, in_exprs, in_parts, in_definition, in_block, in_eqns, in_eqn, in_arms, in_states, in_condition, in_contract, in_node}
 use Rattle.hp_expand.specs.Numbering as numbering
 use Rattle.hp_expand.specs.Numbering.{declaring, declaring_in, new_in_decls, new_in_block, new_in_eqns, new_in_eqn, same_name, behind, replaced_node, with_node, replaced_items, no_node, replaced}
+use Rattle.hp_first.specs.First.{itself}
+use Rattle.hp_first.proofs.FirstLaws.{sooner-found}
 use Rattle.hp_expand.specs.Shapes as shapes
-use Rattle.hp_expand.specs.Shapes.{Mark, plain_at, bound_at, integer_at, no_form, of_call, see, sooner, nothing, found_after, with_form, form_of}
+use Rattle.hp_expand.specs.Shapes.{Mark, plain_at, bound_at, integer_at, no_form, of_call, see, nothing, found_after, with_form, form_of}
 use Rattle.hp_expand.specs.Formed.{MakeNoPlainCall, InlineNoContract, IsShaped, AreShaped, HasShapes}
 use Rattle.hp_contract.specs.Forgetting.{ContractsCallNothing}
 use Rattle.hp_valued.specs.Judged.{PlainExpr, PlainTests, IsPlain, AllPlain, OnePlain, ArmsPlain, StatesPlain, PlainContract}
@@ -81,17 +83,9 @@ clean_call at form h = by form.has_contract form.plain refl refl h
     by false (Some s) e p h = absurd h
 
 -- where no plain call is found there is none
-still_found : (o : Option Span) (at : Span) → sooner o at ≡ None → ⊥
-still_found None at h = absurd (cc)
-still_found (Some first) at h = by (shapes.is_before at first) h
-  where
-    by : (b : Bool) → (if b then Some at else Some first) ≡ None → ⊥
-    by true h = absurd (cc)
-    by false h = absurd (cc)
-
 none_plain : (ms : List Mark) (f : Found) → (fold see f ms).plain ≡ None → (f.plain ≡ None) × MakeNoPlainCall ms
 none_plain [] f h = (h, tt)
-none_plain (plain_at at ∷ ms) f h = absurd (still_found f.plain at (none_plain ms (see f (plain_at at)) h).0)
+none_plain (plain_at at ∷ ms) f h = absurd (sooner-found itself f.plain at (none_plain ms (see f (plain_at at)) h).0)
 none_plain (bound_at at ∷ ms) f h = none_plain ms (see f (bound_at at)) h
 none_plain (integer_at at ∷ ms) f h = none_plain ms (see f (integer_at at)) h
 
@@ -464,7 +458,7 @@ module _ (at : Assignment) where
 
   contract_clocked : (o : Option Contract) → ContractCalls false o → ContractCalls false (contract_with_clocks at o)
   contract_clocked None h = tt
-  contract_clocked (Some c) h = (block_clocked in_guard c.body h.0, h.1)
+  contract_clocked (Some c) h = (block_clocked in_observer c.body h.0, h.1)
 
 written_called : (xs ys : List Item) → AreWritten IsClocked xs ys → EachNode (λ n. ContractCalls false n.contract) xs → ContractsCallNothing ys
 written_called [] [] w p = tt

@@ -7,7 +7,7 @@ use Rattle.hp_tree.specs.declared.block.Trans.{Trans}
 use Rattle.hp_tree.specs.Expressions.{Expr, constant, variable, last_of, one, two, choose, pre, fby, arrow, when_is, merge, call, Parts, no_part, more_parts}
 use Rattle.hp_tree.specs.Blocks.{Block, block, Eqns, no_eqn, more_eqns, Eqn, define, switch, reset, automaton, Arms, no_arm, more_arms, States, no_state, more_states}
 use Rattle.hp_tree.specs.Programs.{Contract}
-use Rattle.hp_tree.specs.Instant.{Guard, Assume, Enforce, Named, Equations, Head, Tail, Right, Test, Arms as ArmsOf, States as StatesOf, Until, Unless, Body, First, Second, Third, Args, Place}
+use Rattle.hp_tree.specs.Instant.{Observer, Assume, Enforce, Named, Equations, Head, Tail, Right, Test, Arms as ArmsOf, States as StatesOf, Until, Unless, Body, First, Second, Third, Args, Place}
 use Rattle.hp_tree.specs.Meaning.{defines, names_of}
 use Rattle.hp_causal.specs.declared.point.PointKind.TheVariants as kind
 use Rattle.hp_causal.specs.Points.{Placed, Whereabouts, point_at, calls, calls_in_parts, conditions, lefts, defined_by, points_of, points_of_all, points_of_one, points_of_arms, points_of_states, calls_told, points_of_contract}
@@ -99,5 +99,5 @@ no_calls_told (Some e) w h = no_calls e w h
 pub no_calls_in_contract : (o : Option Contract) (w : Whereabouts) → ContractCalls false o → NoCall (points_of_contract o w)
 no_calls_in_contract None w h = refl
 no_calls_in_contract (Some c) w h =
-    both (points_of [] c.body (below Guard w)) (calls_told c.assume (below Assume w) ++ calls_told c.enforce (below Enforce w)) (no_points [] c.body (below Guard w) h.0)
+    both (points_of [] c.body (below Observer w)) (calls_told c.assume (below Assume w) ++ calls_told c.enforce (below Enforce w)) (no_points [] c.body (below Observer w) h.0)
     (both (calls_told c.assume (below Assume w)) (calls_told c.enforce (below Enforce w)) (no_calls_told c.assume (below Assume w) h.1.0) (no_calls_told c.enforce (below Enforce w) h.1.1))

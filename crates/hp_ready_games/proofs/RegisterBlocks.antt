@@ -8,7 +8,7 @@ use Rattle.hp_tree.specs.declared.block.Trans.{Trans}
 use Rattle.hp_tree.specs.Expressions.{Expr}
 use Rattle.hp_tree.specs.Blocks.{Decl, Block, block, Eqns, no_eqn, more_eqns, Eqn, define, switch, reset, automaton, Arms, no_arm, more_arms, States, no_state, more_states}
 use Rattle.hp_tree.specs.Programs.{TypeDecl, Contract, Node}
-use Rattle.hp_tree.specs.Instant.{Step, Body, Guard, Assume, Enforce, Named, Equations, Head, Tail, Right, Test, Arms as ArmsOf, States as StatesOf, Until, Unless, Next, Pending, Place, Instant, part}
+use Rattle.hp_tree.specs.Instant.{Step, Body, Observer, Assume, Enforce, Named, Equations, Head, Tail, Right, Test, Arms as ArmsOf, States as StatesOf, Until, Unless, Next, Pending, Place, Instant, part}
 use Rattle.hp_tree.specs.ExpressionTypes as tree
 use Rattle.hp_tree.specs.ExpressionTypes.{typed_in, scope_of}
 use Rattle.hp_typing.specs.Scopes.{with_variables, inside}
@@ -56,9 +56,9 @@ first_state : (ss : States) → HasState ss → (v : Value) → v ≡ E 0 0 → 
 first_state no_state h v e = absurd h
 first_state (more_states f b until unless at ss) h v e = (0, (e, omega arith))
 
-not_told : (k : Option Step) → begins Guard k → both Assume Enforce k → ⊥
-not_told k g (inl h) = let e : Some Guard ≡ Some Assume = sym g ∙ h in cc
-not_told k g (inr h) = let e : Some Guard ≡ Some Enforce = sym g ∙ h in cc
+not_told : (k : Option Step) → begins Observer k → both Assume Enforce k → ⊥
+not_told k g (inl h) = let e : Some Observer ≡ Some Assume = sym g ∙ h in cc
+not_told k g (inr h) = let e : Some Observer ≡ Some Enforce = sym g ∙ h in cc
 
 module _ (types : List TypeDecl) (owns : (t : List ℕ) → OwnsConstructors types (ty.Enum t)) (among : List ℕ → Option Node) (kept : List ℕ → Instant → Instant → Type 0) (may : Bool)
     (firsts : (f : List ℕ) (n : Node) → among f ≡ Some n → DeclsHaveFirsts types n.outputs)
@@ -172,17 +172,17 @@ module _ (types : List TypeDecl) (owns : (t : List ℕ) → OwnsConstructors typ
 
   -- a contract, by its first steps
   abbrev pub of_contract : Option Step → Type 0
-  of_contract = either (begins Guard) (both Assume Enforce)
+  of_contract = either (begins Observer) (both Assume Enforce)
 
   pub contract_piece : (o : Option Contract) (s : Scope) (lasts : Lasts) (names : tree.Scope) → Agrees types s names → ConsTyped types s → (w : Place → Place) → Apart w → ContractHasFirsts types o → ContractCalls may o → PlainContract o → ContractSound types among s lasts o
       → Piece of_contract w (slots_of_contract types outs called o names w) (λ i. ContractKept types kept s o i i)
   contract_piece None s lasts names known conses w a f k p ok = loose nowhere of_contract w [] (λ i. ⊤) (λ i. ⊤) (none w (λ i. ⊤) (λ i. tt)) (λ h x. absurd x) (λ i h. h)
   contract_piece (Some c) s lasts names known conses w a f k p ok =
-      join (begins Guard) (both Assume Enforce) w (slots_of_block types outs called c.body names (below Guard w))
+      join (begins Observer) (both Assume Enforce) w (slots_of_block types outs called c.body names (below Observer w))
       (slots_told types outs called c.assume (scope_of c.body names) (below Assume w) ++ slots_told types outs called c.enforce (scope_of c.body names) (below Enforce w))
-      (λ i. BlockKept types kept s c.body (part Guard i) (part Guard i))
+      (λ i. BlockKept types kept s c.body (part Observer i) (part Observer i))
       (λ i. ToldKept types kept (inside s c.body) c.assume (part Assume i) (part Assume i) × ToldKept types kept (inside s c.body) c.enforce (part Enforce i) (part Enforce i)) a
-      (under anywhere Guard w (slots_of_block types outs called c.body names (below Guard w)) (λ i. BlockKept types kept s c.body i i) (block_piece c.body s lasts names known conses (below Guard w) (apart_below Guard w a) f k.0 p ok.0))
+      (under anywhere Observer w (slots_of_block types outs called c.body names (below Observer w)) (λ i. BlockKept types kept s c.body i i) (block_piece c.body s lasts names known conses (below Observer w) (apart_below Observer w a) f k.0 p ok.0))
       (pair Assume Enforce w (slots_told types outs called c.assume (scope_of c.body names) (below Assume w)) (slots_told types outs called c.enforce (scope_of c.body names) (below Enforce w))
       (λ i. ToldKept types kept (inside s c.body) c.assume i i) (λ i. ToldKept types kept (inside s c.body) c.enforce i i) a (λ e. cc)
       (told_piece c.body s lasts names known conses f ok.0 c.assume (below Assume w) (apart_below Assume w a) k.1.0 ok.1.0)

@@ -8,7 +8,7 @@ use Rattle.hp_tree.specs.declared.program.Item.{Item}
 use Rattle.hp_tree.specs.declared.program.Item.TheVariants.{TypeItem, NodeItem}
 use Rattle.hp_tree.specs.Blocks.{Decl}
 use Rattle.hp_tree.specs.Programs.{TypeDecl, Contract, Node}
-use Rattle.hp_tree.specs.Instant.{Step, Inputs, Controls, Body, Guard, Assume, Enforce, Named, Head, Tail, Place, Instant, part}
+use Rattle.hp_tree.specs.Instant.{Step, Inputs, Controls, Body, Observer, Assume, Enforce, Named, Head, Tail, Place, Instant, part}
 use Rattle.hp_tree.specs.Meaning.{types_of, controls_of, node_among}
 use Rattle.hp_tree.specs.ExpressionTypes as tree
 use Rattle.hp_tree.specs.ExpressionTypes.{typed_in, untyped, type_with}
@@ -100,17 +100,17 @@ decls_by (Some n) = n.outputs
 
 -- ---- first steps that are others
 
-no_contract : (k : Option Step) → a_name k → either (begins Guard) (both Assume Enforce) k → ⊥
-no_contract k h (inl e) = let f : Some (Named h.0) ≡ Some Guard = sym h.1 ∙ e in cc
+no_contract : (k : Option Step) → a_name k → either (begins Observer) (both Assume Enforce) k → ⊥
+no_contract k h (inl e) = let f : Some (Named h.0) ≡ Some Observer = sym h.1 ∙ e in cc
 no_contract k h (inr (inl e)) = let f : Some (Named h.0) ≡ Some Assume = sym h.1 ∙ e in cc
 no_contract k h (inr (inr e)) = let f : Some (Named h.0) ≡ Some Enforce = sym h.1 ∙ e in cc
 
-no_body : (k : Option Step) → either (begins Guard) (both Assume Enforce) k → begins Body k → ⊥
-no_body k (inl h) e = let f : Some Guard ≡ Some Body = sym h ∙ e in cc
+no_body : (k : Option Step) → either (begins Observer) (both Assume Enforce) k → begins Body k → ⊥
+no_body k (inl h) e = let f : Some Observer ≡ Some Body = sym h ∙ e in cc
 no_body k (inr (inl h)) e = let f : Some Assume ≡ Some Body = sym h ∙ e in cc
 no_body k (inr (inr h)) e = let f : Some Enforce ≡ Some Body = sym h ∙ e in cc
 
-no_part : (k : Option Step) → a_name k → either (either (begins Guard) (both Assume Enforce)) (begins Body) k → ⊥
+no_part : (k : Option Step) → a_name k → either (either (begins Observer) (both Assume Enforce)) (begins Body) k → ⊥
 no_part k h (inl e) = no_contract k h e
 no_part k h (inr e) = let f : Some (Named h.0) ≡ Some Body = sym h.1 ∙ e in cc
 
@@ -137,9 +137,9 @@ module _ (types : List TypeDecl) (owns : (t : List ℕ) → OwnsConstructors typ
             → Piece anywhere w (elim o [ None ↦ [] | Some c ↦ lasts_slots types n.outputs w ++ slots_of_contract types no_outputs no_slots (Some c) (seen n) w ]) (λ i. OwnKept types (scope_behind earlier) n o i i)
         by None k p fc ok = empty w (λ i. ⊤) (λ i. tt)
         by (Some c) k p fc ok =
-            loose (either a_name (either (begins Guard) (both Assume Enforce))) anywhere w (lasts_slots types n.outputs w ++ slots_of_contract types no_outputs no_slots (Some c) (seen n) w)
+            loose (either a_name (either (begins Observer) (both Assume Enforce))) anywhere w (lasts_slots types n.outputs w ++ slots_of_contract types no_outputs no_slots (Some c) (seen n) w)
             (λ i. LastsKept types (inside_node (scope_behind earlier) n) n.outputs i × ContractKept types none_kept (inside_node (scope_behind earlier) n) (Some c) i i) (λ i. OwnKept types (scope_behind earlier) n (Some c) i i)
-            (join a_name (either (begins Guard) (both Assume Enforce)) w (lasts_slots types n.outputs w) (slots_of_contract types no_outputs no_slots (Some c) (seen n) w)
+            (join a_name (either (begins Observer) (both Assume Enforce)) w (lasts_slots types n.outputs w) (slots_of_contract types no_outputs no_slots (Some c) (seen n) w)
             (λ i. LastsKept types (inside_node (scope_behind earlier) n) n.outputs i) (λ i. ContractKept types none_kept (inside_node (scope_behind earlier) n) (Some c) i i) a
             (lasts_piece types owns (node_among earlier) (inside_node (scope_behind earlier) n) n.outputs w a acc.sound.0.1 f.outputs)
             (contract_piece types owns (node_among earlier) none_kept false (outputs_have types earlier fs) no_outputs (λ h g m e. absurd (cc)) no_slots (λ h g m e. absurd (cc))
@@ -197,7 +197,7 @@ module _ (types : List TypeDecl) (owns : (t : List ℕ) → OwnsConstructors typ
     abbrev all : List Slot
     all = row_slots input n.inputs (below Inputs here) ++ (lasts_slots types n.outputs here ++ (row_slots control (controls_of n.contract) (below Controls here) ++ (in_contract ++ in_body)))
 
-    node_piece : Piece (either a_name (either (either (begins Guard) (both Assume Enforce)) (begins Body))) here all
+    node_piece : Piece (either a_name (either (either (begins Observer) (both Assume Enforce)) (begins Body))) here all
         (λ i. LastsKept types within n.outputs i × (ContractKept types (CalleeKept types earlier) within n.contract i i × BlockKept types (CalleeKept types earlier) (body_scope (scope_behind earlier) n) n.body (part Body i) (part Body i)))
     node_piece =
         let a : Apart here = λ p q e. e in
@@ -206,18 +206,18 @@ module _ (types : List TypeDecl) (owns : (t : List ℕ) → OwnsConstructors typ
         let firsts = outputs_have types earlier z.firsts.1 in
         let outer : ConsTyped types (inside_node (scope_behind earlier) n) = cons_inside types n.outputs (with_variables (scope_behind earlier) n.inputs) (cons_inside types n.inputs (scope_behind earlier) conses) in
         let own : ConsTyped types (body_scope (scope_behind earlier) n) = cons_inside types (controls_of n.contract) (inside_node (scope_behind earlier) n) outer in
-        beside (either a_name (either (either (begins Guard) (both Assume Enforce)) (begins Body))) here (row_slots input n.inputs (below Inputs here))
+        beside (either a_name (either (either (begins Observer) (both Assume Enforce)) (begins Body))) here (row_slots input n.inputs (below Inputs here))
         (lasts_slots types n.outputs here ++ (row_slots control (controls_of n.contract) (below Controls here) ++ (in_contract ++ in_body)))
         (λ i. LastsKept types within n.outputs i × (ContractKept types (CalleeKept types earlier) within n.contract i i × BlockKept types (CalleeKept types earlier) (body_scope (scope_behind earlier) n) n.body (part Body i) (part Body i)))
         (inputs_no n.inputs (below Inputs here))
-        (join a_name (either (either (begins Guard) (both Assume Enforce)) (begins Body)) here (lasts_slots types n.outputs here) (row_slots control (controls_of n.contract) (below Controls here) ++ (in_contract ++ in_body))
+        (join a_name (either (either (begins Observer) (both Assume Enforce)) (begins Body)) here (lasts_slots types n.outputs here) (row_slots control (controls_of n.contract) (below Controls here) ++ (in_contract ++ in_body))
         (λ i. LastsKept types within n.outputs i)
         (λ i. ContractKept types (CalleeKept types earlier) within n.contract i i × BlockKept types (CalleeKept types earlier) (body_scope (scope_behind earlier) n) n.body (part Body i) (part Body i)) a
         (lasts_piece types owns (node_among earlier) within n.outputs here a ok.0.1 z.firsts.0.outputs)
-        (beside (either (either (begins Guard) (both Assume Enforce)) (begins Body)) here (row_slots control (controls_of n.contract) (below Controls here)) (in_contract ++ in_body)
+        (beside (either (either (begins Observer) (both Assume Enforce)) (begins Body)) here (row_slots control (controls_of n.contract) (below Controls here)) (in_contract ++ in_body)
         (λ i. ContractKept types (CalleeKept types earlier) within n.contract i i × BlockKept types (CalleeKept types earlier) (body_scope (scope_behind earlier) n) n.body (part Body i) (part Body i))
         (controls_no (controls_of n.contract) (below Controls here))
-        (join (either (begins Guard) (both Assume Enforce)) (begins Body) here in_contract in_body
+        (join (either (begins Observer) (both Assume Enforce)) (begins Body) here in_contract in_body
         (λ i. ContractKept types (CalleeKept types earlier) within n.contract i i) (λ i. BlockKept types (CalleeKept types earlier) (body_scope (scope_behind earlier) n) n.body (part Body i) (part Body i)) a
         (contract_piece types owns (node_among earlier) kept true firsts outs outs_are called instances n.contract within (lasts_in n.outputs no_lasts) (seen n)
         (agrees_seen types (node_among earlier) (scope_behind earlier) n (no_variables earlier) ok z.firsts.0) outer here a z.firsts.0.contract (contract_calls n.contract) z.accepted.0.plain_contract ok.1.1.1.1.1)

@@ -349,14 +349,14 @@ module _ (known : List ℕ → Size) (nodes : List ℕ → Node) (counted : (f :
   condition_within k (Some e) = expr_within k e
 
   -- how many there are in the block of a contract
-  abbrev in_guard : Option Contract → ℕ
-  in_guard None = 0
-  in_guard (Some c) = decls_in_block c.body
+  abbrev in_observer : Option Contract → ℕ
+  in_observer None = 0
+  in_observer (Some c) = decls_in_block c.body
 
-  guard_by : (k : ℕ) (b : Block) (assume enforce : Option Expr) → let r = in_eqns nodes k (equations_of b) in let q = in_condition nodes r.next assume in let o = in_condition nodes q.next enforce in
+  observer_by : (k : ℕ) (b : Block) (assume enforce : Option Expr) → let r = in_eqns nodes k (equations_of b) in let q = in_condition nodes r.next assume in let o = in_condition nodes q.next enforce in
       decls_in_block (block (locals_of b ++ (r.locals ++ (q.locals ++ o.locals))) (eqns_of (list_of_eqns r.part ++ (q.before ++ o.before)))) ≤ (sizes.in_block known b).places + ((sizes.in_condition known assume).places + (sizes.in_condition known enforce).places)
   unfolding places join
-  guard_by k (block ds es) assume enforce =
+  observer_by k (block ds es) assume enforce =
       let r = in_eqns nodes k es in
       let q = in_condition nodes r.next assume in
       let o = in_condition nodes q.next enforce in
@@ -371,21 +371,21 @@ module _ (known : List ℕ → Size) (nodes : List ℕ → Node) (counted : (f :
       let i : length o.locals + decls_in_eqns (eqns_of o.before) ≤ (sizes.in_condition known enforce).places = condition_within q.next enforce in
       omega (arith, a, b, c, d, e, f, g, h, i)
 
-  guard_within : (c : Option Contract) → in_guard (in_contract nodes 1 c).part ≤ (sizes.in_contract known c).places
+  observer_within : (c : Option Contract) → in_observer (in_contract nodes 1 c).part ≤ (sizes.in_contract known c).places
   unfolding places join
-  guard_within None = nothing_less 0
-  guard_within (Some c) = let h = guard_by 1 c.body c.assume c.enforce in omega (arith, h)
+  observer_within None = nothing_less 0
+  observer_within (Some c) = let h = observer_by 1 c.body c.assume c.enforce in omega (arith, h)
 
-  behind_guard : (c : Option Contract) → behind c ≤ suc (in_guard c)
-  behind_guard None = omega arith
-  behind_guard (Some c) = let h : new_in_block c.body ≤ decls_in_block c.body = new_block c.body in omega (arith, h)
+  behind_observer : (c : Option Contract) → behind c ≤ suc (in_observer c)
+  behind_observer None = omega arith
+  behind_observer (Some c) = let h : new_in_block c.body ≤ decls_in_block c.body = new_block c.body in omega (arith, h)
 
   few : (n : Node) → (sizes.in_node known n).places ≤ 60000 → FewVariables (in_node nodes n)
   unfolding places join
   few n f =
       let k = (in_contract nodes 1 n.contract).next in
-      let a : behind (in_contract nodes 1 n.contract).part ≤ suc (in_guard (in_contract nodes 1 n.contract).part) = behind_guard (in_contract nodes 1 n.contract).part in
-      let b : in_guard (in_contract nodes 1 n.contract).part ≤ (sizes.in_contract known n.contract).places = guard_within n.contract in
+      let a : behind (in_contract nodes 1 n.contract).part ≤ suc (in_observer (in_contract nodes 1 n.contract).part) = behind_observer (in_contract nodes 1 n.contract).part in
+      let b : in_observer (in_contract nodes 1 n.contract).part ≤ (sizes.in_contract known n.contract).places = observer_within n.contract in
       let c : new_in_block (in_block nodes k n.body).part ≤ decls_in_block (in_block nodes k n.body).part = new_block (in_block nodes k n.body).part in
       let d : decls_in_block (in_block nodes k n.body).part ≤ (sizes.in_block known n.body).places = block_within k n.body in
       omega (arith, a, b, c, d, f)

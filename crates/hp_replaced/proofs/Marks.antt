@@ -102,15 +102,15 @@ module _ (nodes : List ℕ → Node) where
   condition_marks k None = none_more k
   condition_marks k (Some e) = expr_marks k e
 
-  guard_marks : (k : ℕ) (b : Block) → (in_eqns nodes k (equations_of b)).next ≡ k + count.in_block b
-  guard_marks k (block ds es) = eqns_marks k es
+  observer_marks : (k : ℕ) (b : Block) → (in_eqns nodes k (equations_of b)).next ≡ k + count.in_block b
+  observer_marks k (block ds es) = eqns_marks k es
 
   contract_marks : (k : ℕ) (c : Option Contract) → (in_contract nodes k c).next ≡ k + count.in_contract c
   contract_marks k None = none_more k
   contract_marks k (Some c) =
       let m = (in_eqns nodes k (equations_of c.body)).next in
       let p = (in_condition nodes m c.assume).next in
-      after k m (in_condition nodes p c.enforce).next (count.in_block c.body) (count.in_condition c.assume + count.in_condition c.enforce) (guard_marks k c.body)
+      after k m (in_condition nodes p c.enforce).next (count.in_block c.body) (count.in_condition c.assume + count.in_condition c.enforce) (observer_marks k c.body)
       (after m p (in_condition nodes p c.enforce).next (count.in_condition c.assume) (count.in_condition c.enforce) (condition_marks m c.assume) (condition_marks p c.enforce))
 
   pub few_calls : (n : Node) → count.in_node n < 1000000 → FewCalls nodes n

@@ -13,7 +13,7 @@ use Rattle.hp_tree.specs.Operators.{marked, constant_of}
 use Rattle.hp_tree.specs.Values.{IsOf}
 use Rattle.hp_tree.specs.Filled.{first_value}
 use Rattle.hp_tree.specs.Meaning.{controls_of, state_word}
-use Rattle.hp_tree.specs.Instant.{Named, Instant, nothing, alone, with_one, with_two, with_three, in_row, with_row, with_instance, of_two, in_block, in_right, with_arms, with_body, in_state, with_words, in_guard, in_node}
+use Rattle.hp_tree.specs.Instant.{Named, Instant, nothing, alone, with_one, with_two, with_three, in_row, with_row, with_instance, of_two, in_block, in_right, with_arms, with_body, in_state, with_words, in_observer, in_node}
 use Rattle.hp_known.specs.Known.{lookup}
 use Rattle.hp_typing.specs.Scopes.{with_variables, inside, inside_node}
 use Rattle.hp_typing.specs.Types.{type_of, types_in, type_of_one, args_fit, input_type, merge_type}
@@ -262,9 +262,9 @@ module _ (types : List TypeDecl) (among : List ℕ → Option Node) (typed : Lis
       let inner : HaveFirsts types (inside s c.body) = firsts_in_block c.body s lasts fs f ok.0 in
       let a = told_has c.assume (inside s c.body) (lasts_of c.body lasts) inner k.1.0 ok.1.0 in
       let g = told_has c.enforce (inside s c.body) (lasts_of c.body lasts) inner k.1.1 ok.1.1 in
-      (in_guard i.0 a.0 g.0, (i.1, (a.1, g.1)))
+      (in_observer i.0 a.0 g.0, (i.1, (a.1, g.1)))
 
   -- what is typed of a contract is so in its node
-  pub contract_in : (o : Option Contract) (s : Scope) (outputs : List ℕ → Value) (inputs controls : List Value) (body guard : Instant) → ContractTyped types typed s o guard → ContractTyped types typed s o (in_node outputs inputs controls body guard)
-  contract_in None s outputs inputs controls body guard h = tt
-  contract_in (Some c) s outputs inputs controls body guard h = h
+  pub contract_in : (o : Option Contract) (s : Scope) (outputs : List ℕ → Value) (inputs controls : List Value) (body observer : Instant) → ContractTyped types typed s o observer → ContractTyped types typed s o (in_node outputs inputs controls body observer)
+  contract_in None s outputs inputs controls body observer h = tt
+  contract_in (Some c) s outputs inputs controls body observer h = h

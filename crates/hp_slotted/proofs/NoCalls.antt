@@ -6,7 +6,7 @@ use Rattle.hp_tree.specs.declared.block.Trans.{Trans}
 use Rattle.hp_tree.specs.Expressions.{Expr, constant, variable, last_of, one, two, choose, pre, fby, arrow, when_is, merge, call, Parts, no_part, more_parts}
 use Rattle.hp_tree.specs.Blocks.{Block, block, Eqns, no_eqn, more_eqns, Eqn, define, switch, reset, automaton, Arms, no_arm, more_arms, States, no_state, more_states}
 use Rattle.hp_tree.specs.Programs.{Contract}
-use Rattle.hp_tree.specs.Instant.{Guard, Assume, Enforce, Named, Equations, Head, Tail, Right, Test, Arms as ArmsOf, States as StatesOf, Until, Unless, Body, First, Second, Third, Args, Place}
+use Rattle.hp_tree.specs.Instant.{Observer, Assume, Enforce, Named, Equations, Head, Tail, Right, Test, Arms as ArmsOf, States as StatesOf, Until, Unless, Body, First, Second, Third, Args, Place}
 use Rattle.hp_tree.specs.Meaning.{names_of}
 use Rattle.hp_causal.specs.Sources.{below}
 use Rattle.hp_causal.specs.Points.{Placed, Whereabouts, calls, calls_in_parts, conditions, lefts, defined_by, points_of, points_of_all, points_of_one, points_of_arms, points_of_states, calls_told, points_of_contract}
@@ -117,5 +117,5 @@ contract_none None w h = tt
 contract_none (Some c) w h =
     let a = calls_told c.assume (below Assume w) in
     let g = calls_told c.enforce (below Enforce w) in
-    let k = second (points_of [] c.body (below Guard w)) (a ++ g) h in
-    (block_none [] c.body (below Guard w) (first (points_of [] c.body (below Guard w)) (a ++ g) h), (told_none c.assume (below Assume w) (first a g k), told_none c.enforce (below Enforce w) (second a g k)))
+    let k = second (points_of [] c.body (below Observer w)) (a ++ g) h in
+    (block_none [] c.body (below Observer w) (first (points_of [] c.body (below Observer w)) (a ++ g) h), (told_none c.assume (below Assume w) (first a g k), told_none c.enforce (below Enforce w) (second a g k)))

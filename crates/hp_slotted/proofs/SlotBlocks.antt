@@ -7,7 +7,7 @@ use Rattle.hp_tree.specs.declared.program.Item.{Item}
 use Rattle.hp_tree.specs.Expressions.{Expr}
 use Rattle.hp_tree.specs.ExpressionTypes.{Scope, typed_in, scope_of}
 use Rattle.hp_tree.specs.Blocks.{Decl, Block, block, Eqns, no_eqn, more_eqns, Eqn, define, switch, reset, automaton, Arms, no_arm, more_arms, States, no_state, more_states}
-use Rattle.hp_tree.specs.Instant.{Equations, Head, Tail, Right, Test, Arms as ArmsOf, States as StatesOf, Until, Unless, Body, Guard, Assume, Enforce, Next, Pending, Place}
+use Rattle.hp_tree.specs.Instant.{Equations, Head, Tail, Right, Test, Arms as ArmsOf, States as StatesOf, Until, Unless, Body, Observer, Assume, Enforce, Next, Pending, Place}
 use Rattle.hp_tree.specs.Meaning.{types_of}
 use Rattle.hp_tree.specs.Programs.{TypeDecl, Contract}
 use Rattle.hp_causal.specs.Sources.{below}
@@ -17,7 +17,7 @@ use Rattle.hp_circuit.specs.declared.circuit.Shape.TheVariants.{Cons}
 use Rattle.hp_drawing.specs.Kept.{Kept, register, with_kept}
 use Rattle.hp_drawing.specs.Told.{Told, told_of}
 use Rattle.hp_drawing.specs.Planned as planned
-use Rattle.hp_drawing.specs.Planned.{Names, Callee, declaring, in_block, with_lasts, with_words, planned_conditions, planned_block, planned_eqns, planned_eqn, planned_arms, planned_states, planned_told, planned_contract, planned_guard}
+use Rattle.hp_drawing.specs.Planned.{Names, Callee, declaring, in_block, with_lasts, with_words, planned_conditions, planned_block, planned_eqns, planned_eqn, planned_arms, planned_states, planned_told, planned_contract, planned_observer}
 use Rattle.hp_slotted.proofs.Calling.{TestsCall, BlockCalls, EqnsCall, EqnCalls, ArmsCall, StatesCall, ToldCalls, ContractCalls}
 use Rattle.hp_slotted.proofs.TypeLaws.{seen, declared-same}
 use Rattle.hp_slotted.proofs.Declaring.{BlockDeclares, EqnsDeclare, EqnDeclares, ArmsDeclare, StatesDeclare, ContractDeclares}
@@ -130,16 +130,16 @@ module _ (L : Look) (program : List Item) (first : Place → ℕ) (may : Bool) (
   remembers_told (Some e) zero past = remembers types memory e zero past
 
   -- the registers of a contract start
-  abbrev pub GuardStarts : Option Contract → (Place → Place) → Instant → Type 0
-  GuardStarts None w zero = ⊤
-  GuardStarts (Some c) w zero =
-      Starts L first (below Guard w) (remembers_block types memory c.body (part Guard zero) [])
+  abbrev pub ObserverStarts : Option Contract → (Place → Place) → Instant → Type 0
+  ObserverStarts None w zero = ⊤
+  ObserverStarts (Some c) w zero =
+      Starts L first (below Observer w) (remembers_block types memory c.body (part Observer zero) [])
       × (Starts L first (below Assume w) (remembers_told c.assume (part Assume zero) []) × Starts L first (below Enforce w) (remembers_told c.enforce (part Enforce zero) []))
 
-  pub guard_starts : (o : Option Contract) (w : Place → Place) (zero : Instant) (outputs : List ℕ → Value) (body : Instant)
-      → Starts L first w (in_memory outputs body (remembers_contract types memory o zero [])) → GuardStarts o w zero
-  guard_starts None w zero outputs body k = tt
-  guard_starts (Some c) w zero outputs body k = ((λ p. k (Guard ∷ p)), ((λ p. k (Assume ∷ p)), (λ p. k (Enforce ∷ p))))
+  pub observer_starts : (o : Option Contract) (w : Place → Place) (zero : Instant) (outputs : List ℕ → Value) (body : Instant)
+      → Starts L first w (in_memory outputs body (remembers_contract types memory o zero [])) → ObserverStarts o w zero
+  observer_starts None w zero outputs body k = tt
+  observer_starts (Some c) w zero outputs body k = ((λ p. k (Observer ∷ p)), ((λ p. k (Assume ∷ p)), (λ p. k (Enforce ∷ p))))
 
   told_brings : (o : Option Expr) (names : Names) (scope : Scope) (w : Place → Place) (zero : Instant) (before : List Kept) → names ≡ seen types scope → ToldCalls may o
       → Starts L first w (remembers_told o zero []) → Zeros L zero
@@ -148,7 +148,7 @@ module _ (L : Look) (program : List Item) (first : Place → ℕ) (may : Bool) (
   told_brings (Some x) names scope w zero before e h k z = subst (λ (ns : Names). Brings L types first before (planned_told t callee (Some x) ns before) (slots_in x scope w)) (sym e) (brings L program first may callee outs called memory known x scope w zero before h k z)
 
   pub contract_brings : (c : Contract) (scope : Scope) (w : Place → Place) (zero : Instant) (before : List Kept) → ContractCalls may (Some c) → BlockDeclares Good c.body
-      → GuardStarts (Some c) w zero → Zeros L zero
+      → ObserverStarts (Some c) w zero → Zeros L zero
       → Brings L types first before (planned_contract t callee c (seen types scope) before) (slots.slots_of_contract types outs called (Some c) scope w)
   contract_brings c scope w zero before h g k z =
       let names = seen types scope in
@@ -157,11 +157,11 @@ module _ (L : Look) (program : List Item) (first : Place → ℕ) (may : Bool) (
       let d2 = planned_told t callee c.assume own d1 in
       let s2 = told_slots c.assume (scope_of c.body scope) (below Assume w) in
       let s3 = told_slots c.enforce (scope_of c.body scope) (below Enforce w) in
-      both L types first before d1 (planned_told t callee c.enforce own d2) (slots.slots_of_block types outs called c.body scope (below Guard w)) (s2 ++ s3) (block_brings c.body scope (below Guard w) (part Guard zero) before h.0 g k.0 (λ p. z (Guard ∷ p)))
+      both L types first before d1 (planned_told t callee c.enforce own d2) (slots.slots_of_block types outs called c.body scope (below Observer w)) (s2 ++ s3) (block_brings c.body scope (below Observer w) (part Observer zero) before h.0 g k.0 (λ p. z (Observer ∷ p)))
       (both L types first d1 d2 (planned_told t callee c.enforce own d2) s2 s3 (told_brings c.assume own (scope_of c.body scope) (below Assume w) (part Assume zero) d1 (in-same c.body scope) h.1.0 k.1.0 (λ p. z (Assume ∷ p))) (told_brings c.enforce own (scope_of c.body scope) (below Enforce w) (part Enforce zero) d2 (in-same c.body scope) h.1.1 k.1.1 (λ p. z (Enforce ∷ p))))
 
-  pub guard_brings : (o : Option Contract) (scope : Scope) (w : Place → Place) (zero : Instant) (before : List Kept) → ContractCalls may o → ContractDeclares Good o
-      → GuardStarts o w zero → Zeros L zero
-      → Brings L types first before (planned_guard t callee o (seen types scope) before) (slots.slots_of_contract types outs called o scope w)
-  guard_brings None scope w zero before h g k z = nothing L types first before
-  guard_brings (Some c) scope w zero before h g k z = contract_brings c scope w zero before h g k z
+  pub observer_brings : (o : Option Contract) (scope : Scope) (w : Place → Place) (zero : Instant) (before : List Kept) → ContractCalls may o → ContractDeclares Good o
+      → ObserverStarts o w zero → Zeros L zero
+      → Brings L types first before (planned_observer t callee o (seen types scope) before) (slots.slots_of_contract types outs called o scope w)
+  observer_brings None scope w zero before h g k z = nothing L types first before
+  observer_brings (Some c) scope w zero before h g k z = contract_brings c scope w zero before h g k z

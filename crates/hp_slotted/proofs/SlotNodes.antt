@@ -15,7 +15,7 @@ use Rattle.hp_contract.specs.Slots as slots
 use Rattle.hp_contract.specs.Slots.{Slot, callee_slots, slots_of_contract, slots_of_node}
 use Rattle.hp_drawing.specs.Kept.{Kept, input, control, free}
 use Rattle.hp_drawing.specs.Told.{Told, told_of, with_nodes, put_at, none_of}
-use Rattle.hp_drawing.specs.Planned.{Names, outputs_by, declaring, with_row, with_lasts, with_call, planned_block, planned_contract, planned_guard, contract_names, no_callee, called_of, called, planned_node}
+use Rattle.hp_drawing.specs.Planned.{Names, outputs_by, declaring, with_row, with_lasts, with_call, planned_block, planned_contract, planned_observer, contract_names, no_callee, called_of, called, planned_node}
 use Rattle.hp_slotted.proofs.AllCall.{block_calls, contract_calls}
 use Rattle.hp_slotted.proofs.Calling.{ContractCalls}
 use Rattle.hp_slotted.proofs.NoCalls.{contract_none}
@@ -23,7 +23,7 @@ use Rattle.hp_slotted.proofs.TypeLaws.{seen, declared-same, node-same}
 use Rattle.hp_slotted.proofs.Declaring.{ContractDeclares, NodeDeclares, NodesDeclare}
 use Rattle.hp_contract.specs.Memory.{in_memory, remembers_block, remembers_contract, remembers_callee, remembers_node}
 use Rattle.hp_slotted.proofs.SlotLaws.{Look, Starts, Zeros, AllStart, remembered, Brings, Callees, nothing, both, lasts_slots, lasts_bring, outputs_slots, outputs_bring, row_slots, row_brings, input_kept, control_kept}
-use Rattle.hp_slotted.proofs.SlotBlocks.{block_brings, contract_brings, guard_brings, guard_starts}
+use Rattle.hp_slotted.proofs.SlotBlocks.{block_brings, contract_brings, observer_brings, observer_starts}
 
 -- ---- no node has a contract with a call
 
@@ -94,7 +94,7 @@ module _ (L : Look) (program : List Item) (first : Place → ℕ) (Good : List D
       both L types first before d1 (planned_contract t no_callee c (contract_names t n) d1) (lasts_slots types n.outputs w) (slots_of_contract types no_outputs no_slots (Some c) (outer n) w)
       (lasts_bring L program first n.outputs before w (remembered types n.outputs) (starting n.outputs d) (λ x. k (Named x ∷ [])))
       (subst (λ (ns : Names). Brings L types first d1 (planned_contract t no_callee c ns d1) (slots_of_contract types no_outputs no_slots (Some c) (outer n) w)) (sym (outer-same n))
-      (contract_brings L program first false no_callee no_outputs no_slots no_past nothing_called Good starting c (outer n) w zero d1 h g (guard_starts L program first false no_callee no_outputs no_slots no_past nothing_called Good starting (Some c) w zero (remembered types n.outputs) no_memory k) z))
+      (contract_brings L program first false no_callee no_outputs no_slots no_past nothing_called Good starting c (outer n) w zero d1 h g (observer_starts L program first false no_callee no_outputs no_slots no_past nothing_called Good starting (Some c) w zero (remembered types n.outputs) no_memory k) z))
 
   node_called : (o : Option Node) (w : Place → Place) (zero : Instant) (before : List Kept) → CallsNone o → DeclaresGood Good o
       → Starts L first w (remembers_callee types o zero []) → Zeros L zero
@@ -131,7 +131,7 @@ module _ (L : Look) (program : List Item) (first : Place → ℕ) (Good : List D
       let d1 = with_row input t n.inputs before in
       let d2 = with_lasts t n.outputs d1 in
       let d3 = with_row control t controls d2 in
-      let d4 = planned_guard t called n.contract names d3 in
+      let d4 = planned_observer t called n.contract names d3 in
       let d5 = planned_block t called n.body (declaring t controls names) d4 in
       let s1 = row_slots types slots.input n.inputs (below Inputs here) in
       let s2 = lasts_slots types n.outputs here in
@@ -142,6 +142,6 @@ module _ (L : Look) (program : List Item) (first : Place → ℕ) (Good : List D
       (both L types first d1 d2 d5 s2 (s3 ++ (s4 ++ s5)) (lasts_bring L program first n.outputs d1 here (remembered types n.outputs) (starting n.outputs g.0) (λ x. k (Named x ∷ [])))
       (both L types first d2 d3 d5 s3 (s4 ++ s5) (row_brings L program first control slots.control (control_kept L types first) controls d2 (below Controls here))
       (both L types first d3 d4 d5 s4 s5
-      (subst (λ (ns : Names). Brings L types first d3 (planned_guard t called n.contract ns d3) s4) (sym (outer-same n)) (guard_brings L program first true called outs callee memory known Good starting n.contract (outer n) here zero d3 (contract_calls n.contract) g.1.0 (guard_starts L program first true called outs callee memory known Good starting n.contract here zero (remembered types n.outputs) (remembers_block types memory n.body (part Body zero) []) k) z))
+      (subst (λ (ns : Names). Brings L types first d3 (planned_observer t called n.contract ns d3) s4) (sym (outer-same n)) (observer_brings L program first true called outs callee memory known Good starting n.contract (outer n) here zero d3 (contract_calls n.contract) g.1.0 (observer_starts L program first true called outs callee memory known Good starting n.contract here zero (remembered types n.outputs) (remembers_block types memory n.body (part Body zero) []) k) z))
       (subst (λ (ns : Names). Brings L types first d4 (planned_block t called n.body ns d4) s5) (sym (ap (declaring t controls) (outer-same n) ∙ declared-same program controls (outer n)))
       (block_brings L program first true called outs callee memory known Good starting n.body (typed_in controls (outer n)) (below Body here) (part Body zero) d4 (block_calls n.body) g.1.1 (λ p. k (Body ∷ p)) (λ p. z (Body ∷ p)))))))

@@ -2,7 +2,7 @@
 use Rattle.std.proofs.Common.{◌≡◌, ℕ, Bool, true, false, if◌then◌else◌, nat_eq, [], ◌∷◌, Option, None, Some, refl, ◌∙◌, inl, inr}
 use Rattle.std.specs.Prelude.{◌⊎◌}
 use Rattle.hp_tree.specs.Expressions.{Expr, constant, variable, last_of, one, two, choose, pre, fby, arrow, when_is, merge, call}
-use Rattle.hp_tree.specs.Instant.{Guard, Assume}
+use Rattle.hp_tree.specs.Instant.{Observer, Assume}
 use Rattle.hp_tree.specs.Programs.{Contract}
 use Rattle.hp_causal.specs.Sources.{Sources, none, only, both, also, NameSources, PlaceSources, below}
 use Rattle.hp_causal.specs.WhatIsRead.{of_clock, of_expr, at_expr, at_told, names_in_block, in_contract}
@@ -19,7 +19,7 @@ told_reads (Some e) names k = of_expr e names k
 -- and of the assumption of a contract that sees these names
 abbrev pub assumption_reads : Option Contract → NameSources → Sources
 assumption_reads None names = none
-assumption_reads (Some c) names = told_reads c.assume (names_in_block c.body names (below Guard only)) (below Assume only)
+assumption_reads (Some c) names = told_reads c.assume (names_in_block c.body names (below Observer only)) (below Assume only)
 
 module _ (steers : Steering) where
   -- beside the clock
@@ -67,11 +67,11 @@ module _ (steers : Steering) where
   -- so it is of the assumption
   pub assumption-place : (o : Option Contract) (names : NameSources) → Leads steers (assumption_reads o names) → Leads steers (in_contract o names only (Assume ∷ [])) ⊎ steers.places (Assume ∷ [])
   assumption-place None names l = absurd l
-  assumption-place (Some c) names l = told-place c.assume (names_in_block c.body names (below Guard only)) (below Assume only) l
+  assumption-place (Some c) names l = told-place c.assume (names_in_block c.body names (below Observer only)) (below Assume only) l
 
   pub assumption-value : (o : Option Contract) (names : NameSources) → Leads steers (in_contract o names only (Assume ∷ [])) → steers.places (Assume ∷ []) → Leads steers (assumption_reads o names)
   assumption-value None names l h = absurd l
-  assumption-value (Some c) names l h = told-value c.assume (names_in_block c.body names (below Guard only)) (below Assume only) l h
+  assumption-value (Some c) names l h = told-value c.assume (names_in_block c.body names (below Observer only)) (below Assume only) l h
 
 -- ---- the wire that is assumed
 

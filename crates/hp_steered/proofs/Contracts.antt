@@ -5,7 +5,7 @@ use Rattle.std.specs.Str.{bytes_eq}
 use Rattle.std.proofs.lemmas.Option.{same_Some, none-some}
 use Rattle.hp_tree.specs.Blocks.{Decl}
 use Rattle.hp_tree.specs.Expressions.{Expr}
-use Rattle.hp_tree.specs.Instant.{Guard, Assume, Enforce, Place as TreePlace}
+use Rattle.hp_tree.specs.Instant.{Observer, Assume, Enforce, Place as TreePlace}
 use Rattle.hp_tree.specs.Meaning.{declares}
 use Rattle.hp_tree.specs.Programs.{Contract, Node}
 use Rattle.hp_causal.specs.Sources.{Sources, none, both, NameSources, PlaceSources, below}
@@ -19,7 +19,7 @@ use Rattle.hp_drawing.specs.Places.{called_at}
 use Rattle.hp_drawing.specs.Scopes.{Scope, Layer, no_scope, entry_at, entry_if, entry_in, put, add_if, add, value_by, wire_by, wire_in, or_found, value_in, last_in, add_lasts, push_values, push_lasts}
 use Rattle.hp_drawing.specs.DrawnExpressions.{Brings}
 use Rattle.hp_drawing.specs.DrawnBlocks.{drawn_block}
-use Rattle.hp_drawing.specs.DrawnNodes.{Guard as Drawn, put_from, put_row, contract_layer, scope_over, contract_scope, drawn_told, drawn_contract, no_brings, contracts, drawn_called_if, drawn_called}
+use Rattle.hp_drawing.specs.DrawnNodes.{Observer as Drawn, put_from, put_row, contract_layer, scope_over, contract_scope, drawn_told, drawn_contract, no_brings, contracts, drawn_called_if, drawn_called}
 use Rattle.hp_drawn.proofs.Layers.{same-name, self-name, put-found}
 use Rattle.hp_steered.specs.Marks.{Steering, Marks, Grows, AreRow, Has, Leads, Low, There, AreMarked, IsPlaced}
 use Rattle.hp_steered.specs.Placed.{Held, none_held, contracts_held, ToldPlaced, ContractPlaced, CalledPlaced}
@@ -218,8 +218,8 @@ module _ (steers : Steering) where
   -- ---- contracts
 
   -- What is drawn of a contract goes on with marks, and what is assumed leads nowhere else.
-  abbrev pub Guarded : Marks → Sources → Drawn × Sketch → Type 0
-  Guarded ms m g = (ms' : Marks) × Grows ms ms' × AreMarked steers g.1 ms' × Low steers ms' g.0.assume m × There steers ms' g.0.enforce
+  abbrev pub Observed : Marks → Sources → Drawn × Sketch → Type 0
+  Observed ms m g = (ms' : Marks) × Grows ms ms' × AreMarked steers g.1 ms' × Low steers ms' g.0.assume m × There steers ms' g.0.enforce
 
   module _ (t : Told) (brings : Brings) (held : Held) (b : (context : Sources) → BringsMarked steers t brings held context) where
     -- what is told leads nowhere else
@@ -228,15 +228,15 @@ module _ (steers : Steering) where
     told-low None z context names k spot s ms fit o j at = (ms, grows-none ms, at.marks, low-up steers ms high none (both context none) (λ l. absurd l) at.marks.high_is)
     told-low (Some e) z context names k spot s ms fit o j at = expr steers t brings held z context names (b context) e [] k spot fit o s ms j at
 
-    pub contract-marked : (c : Contract) (z : Scope) (context : Sources) (names : NameSources) (k : PlaceSources) (spot : Place) (s : Sketch) (ms : Marks) → ContractFits t (Some c) → Owes steers context (in_block c.body names (below Guard k)) (below Guard k)
-        → Owes steers context (at_told c.assume (names_in_block c.body names (below Guard k)) (below Assume k)) (below Assume k) → Owes steers context (at_told c.enforce (names_in_block c.body names (below Guard k)) (below Enforce k)) (below Enforce k)
+    pub contract-marked : (c : Contract) (z : Scope) (context : Sources) (names : NameSources) (k : PlaceSources) (spot : Place) (s : Sketch) (ms : Marks) → ContractFits t (Some c) → Owes steers context (in_block c.body names (below Observer k)) (below Observer k)
+        → Owes steers context (at_told c.assume (names_in_block c.body names (below Observer k)) (below Assume k)) (below Assume k) → Owes steers context (at_told c.enforce (names_in_block c.body names (below Observer k)) (below Enforce k)) (below Enforce k)
         → ContractPlaced steers t brings held z spot c k s → IsAt steers z context names ms s spot
-        → Guarded ms (both context (told_reads c.assume (names_in_block c.body names (below Guard k)) (below Assume k))) (drawn_contract t brings z spot c s)
+        → Observed ms (both context (told_reads c.assume (names_in_block c.body names (below Observer k)) (below Assume k))) (drawn_contract t brings z spot c s)
     contract-marked c z context names k spot s ms fit o o_assume o_enforce j at =
-        behind (drawn_block t brings z spot c.body s) (j.1, j.2) (block-marked steers t brings held b c.body fit.0 z context names (below Guard k) spot s ms o j.0 at)
+        behind (drawn_block t brings z spot c.body s) (j.1, j.2) (block-marked steers t brings held b c.body fit.0 z context names (below Observer k) spot s ms o j.0 at)
       where
         inner : NameSources
-        inner = names_in_block c.body names (below Guard k)
+        inner = names_in_block c.body names (below Observer k)
 
         behind : (inside : Scope × Sketch)
             → (let assume = drawn_told t brings inside.0 spot c.assume inside.1 in ToldPlaced steers t brings held inside.0 spot c.assume (below Assume k) inside.1 × ToldPlaced steers t brings held inside.0 spot c.enforce (below Enforce k) assume.1)
@@ -285,16 +285,16 @@ module _ (steers : Steering) where
         all_go p h = h
 
         inner : NameSources
-        inner = names_in_block contract.body const (below Guard here)
+        inner = names_in_block contract.body const (below Observer here)
 
         inner_go : (x : List ℕ) → Leads steers (inner x) → Leads steers m
-        inner_go = names-inside steers (Leads steers m) contract.body const (below Guard here) names_go (λ p. all_go (Guard ∷ p))
+        inner_go = names-inside steers (Leads steers m) contract.body const (below Observer here) names_go (λ p. all_go (Observer ∷ p))
 
         seen : (inside : Place × Sketch) (ms1 : Marks) → Grows ms ms1 → There steers ms1 inside.0.here → (z : Scope × Sketch) → ContractPlaced steers t no_brings none_held z.0 inside.0 contract k z.1
             → AreMarked steers z.1 ms1 → IsPlaced steers ms1 inside.0 m → AreSeen steers ms1 z.0 m const
             → Step steers ms (let g = drawn_contract t no_brings z.0 inside.0 contract z.1 in add_call inside.0.here g.0.assume g.0.enforce g.1)
         seen inside ms1 g t1 z j a1 p1 seen1 =
-            let v = contract-marked t no_brings none_held nothing-brought contract z.0 m const here inside.0 z.1 ms1 fit (λ q h. same (in_block contract.body const (below Guard here) q) (block-places steers (Leads steers m) contract.body const (below Guard here) names_go (λ p. all_go (Guard ∷ p)) q) h)
+            let v = contract-marked t no_brings none_held nothing-brought contract z.0 m const here inside.0 z.1 ms1 fit (λ q h. same (in_block contract.body const (below Observer here) q) (block-places steers (Leads steers m) contract.body const (below Observer here) names_go (λ p. all_go (Observer ∷ p)) q) h)
             (λ q h. same (at_told contract.assume inner (below Assume here) q) (told-places steers (Leads steers m) contract.assume inner (below Assume here) inner_go (λ p. all_go (Assume ∷ p)) q) h)
             (λ q h. same (at_told contract.enforce inner (below Enforce here) q) (told-places steers (Leads steers m) contract.enforce inner (below Enforce here) inner_go (λ p. all_go (Enforce ∷ p)) q) h)
             (contract-fewer steers t no_brings contract z.0 inside.0 k here z.1 into j) (record { marks = a1; placed = p1; seen = seen1 }) in

@@ -3,7 +3,7 @@ use Rattle.std.proofs.Common.{ℕ, Bool, true, false, List, [], ◌∷◌, Optio
 use Rattle.hp_tree.specs.declared.block.Trans.{Trans}
 use Rattle.hp_tree.specs.Blocks.{Decl, Block, block, Eqns, no_eqn, more_eqns, Eqn, define, switch, reset, automaton, Arms, no_arm, more_arms, States, no_state, more_states}
 use Rattle.hp_tree.specs.Expressions.{Expr, constant, variable, last_of, one, two, choose, pre, fby, arrow, when_is, merge, call, Exprs, no_expr, more_exprs, Parts, no_part, more_parts}
-use Rattle.hp_tree.specs.Instant.{Body, Guard, Assume, Enforce, Named, Equations, Head, Tail, Right, Test, Arms as ArmsOf, States as StatesOf, Until, Unless, First, Second, Third, Args, Instance, Place as TreePlace}
+use Rattle.hp_tree.specs.Instant.{Body, Observer, Assume, Enforce, Named, Equations, Head, Tail, Right, Test, Arms as ArmsOf, States as StatesOf, Until, Unless, First, Second, Third, Args, Instance, Place as TreePlace}
 use Rattle.hp_tree.specs.Programs.{Contract, Node}
 use Rattle.hp_causal.specs.Sources.{Sources, PlaceSources, below}
 use Rattle.hp_circuit.specs.declared.circuit.Shape.TheVariants.{Truth}
@@ -159,7 +159,7 @@ module _ (steers : Steering) (t : Told) (brings : Brings) where
   contract-fewer c z spot k k' s f h =
       let inside = drawn_block t brings z spot c.body s in
       let assume = drawn_told t brings inside.0 spot c.assume inside.1 in (
-        block-fewer c.body z spot (below Guard k) (below Guard k') s (λ p. f (Guard ∷ p)) h.0,
+        block-fewer c.body z spot (below Observer k) (below Observer k') s (λ p. f (Observer ∷ p)) h.0,
         told-fewer c.assume inside.0 spot (below Assume k) (below Assume k') inside.1 (λ p. f (Assume ∷ p)) h.1,
         told-fewer c.enforce inside.0 spot (below Enforce k) (below Enforce k') assume.1 (λ p. f (Enforce ∷ p)) h.2,
       )

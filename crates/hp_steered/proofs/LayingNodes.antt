@@ -16,9 +16,9 @@ use Rattle.hp_contract.specs.Slots.{Slot, is_int, callee_slots, slots_of_block, 
 use Rattle.hp_drawing.specs.Kept as kept
 use Rattle.hp_drawing.specs.Kept.{Kept, is_mark}
 use Rattle.hp_drawing.specs.Told.{Told}
-use Rattle.hp_drawing.specs.Planned.{Names, first_shape, outputs_by, with_row, with_lasts, with_call, declaring, planned_guard, contract_names, no_callee, called_of, called}
+use Rattle.hp_drawing.specs.Planned.{Names, first_shape, outputs_by, with_row, with_lasts, with_call, declaring, planned_observer, contract_names, no_callee, called_of, called}
 use Rattle.hp_steered.specs.Marks.{Steering}
-use Rattle.hp_steered.specs.Stands.{none_asked, CallStands, CalledStands, contracts_asked, GuardStands, NodeStands}
+use Rattle.hp_steered.specs.Stands.{none_asked, CallStands, CalledStands, contracts_asked, ObserverStands, NodeStands}
 use Rattle.hp_steered.specs.Nodes.{Depends, steering_of}
 use Rattle.hp_steered.specs.Laid.{laid, slot_place}
 use Rattle.hp_steered.proofs.Uncalled.{ContractCallsNothing}
@@ -101,10 +101,10 @@ module _ (program : List Item) (t : Told) (known : (f : List ℕ) → t.nodes f 
       subst (λ o. CallStands N t called (contracts_asked N t) o (λ p. only (w p)) before × At ps (with_call t called o before) rest) (sym (known f))
       (call-laid ps places t types (node_among (reverse program) f) w before rest (λ m e. nothing f m (known f ∙ e)) h)
 
-  guard-laid : (o : Option Contract) (names : Names) (scope : types_shown.Scope) (before : List Kept) (rest : List Place) → Agree names scope → At ps before (laid (slots_of_contract types outs brought o scope (λ p. p)) ++ rest)
-      → GuardStands N t o names before × At ps (planned_guard t called o names before) rest
-  guard-laid None names scope before rest g h = (tt, h)
-  guard-laid (Some c) names scope before rest g h = contract-laid ps places t types called (contracts_asked N t) outs brought ⊤ shaped calls c names scope (λ p. p) before rest g (inl tt) h
+  observer-laid : (o : Option Contract) (names : Names) (scope : types_shown.Scope) (before : List Kept) (rest : List Place) → Agree names scope → At ps before (laid (slots_of_contract types outs brought o scope (λ p. p)) ++ rest)
+      → ObserverStands N t o names before × At ps (planned_observer t called o names before) rest
+  observer-laid None names scope before rest g h = (tt, h)
+  observer-laid (Some c) names scope before rest g h = contract-laid ps places t types called (contracts_asked N t) outs brought ⊤ shaped calls c names scope (λ p. p) before rest g (inl tt) h
 
   pub rows-laid : (n : Node) → At ps [] (laid (slots_of_node program n)) → NodeStands N t n
   rows-laid n h =
@@ -113,20 +113,20 @@ module _ (program : List Item) (t : Told) (known : (f : List ℕ) → t.nodes f 
       let scope = seen n in
       let controls = controls_of n.contract in
       let body = slots_of_block types outs brought n.body (typed_in controls scope) (below Body here) in
-      let guard = slots_of_contract types outs brought n.contract scope here in
+      let observer = slots_of_contract types outs brought n.contract scope here in
       let given = row_slots ps slots.control controls (below Controls here) in
       let lasts = lasts_slots ps types n.outputs here in
       let first = row_slots ps slots.input n.inputs (below Inputs here) in
-      let start = h ∙ sym (append-nil (laid (first ++ (lasts ++ (given ++ (guard ++ body)))))) ∙ laid-both first (lasts ++ (given ++ (guard ++ body))) [] in
-      let one = at-row ps t kept.input slots.input (record { is = λ p u. refl }) n.inputs (below Inputs here) [] (laid (lasts ++ (given ++ (guard ++ body))) ++ []) start in
+      let start = h ∙ sym (append-nil (laid (first ++ (lasts ++ (given ++ (observer ++ body)))))) ∙ laid-both first (lasts ++ (given ++ (observer ++ body))) [] in
+      let one = at-row ps t kept.input slots.input (record { is = λ p u. refl }) n.inputs (below Inputs here) [] (laid (lasts ++ (given ++ (observer ++ body))) ++ []) start in
       let with_inputs = with_row kept.input t n.inputs [] in
-      let two = at-lasts ps t types n.outputs here with_inputs (laid (given ++ (guard ++ body)) ++ []) (one ∙ laid-both lasts (given ++ (guard ++ body)) []) in
+      let two = at-lasts ps t types n.outputs here with_inputs (laid (given ++ (observer ++ body)) ++ []) (one ∙ laid-both lasts (given ++ (observer ++ body)) []) in
       let with_memory = with_lasts t n.outputs with_inputs in
-      let three = at-row ps t kept.control slots.control (record { is = λ p u. refl }) controls (below Controls here) with_memory (laid (guard ++ body) ++ []) (two ∙ laid-both given (guard ++ body) []) in
+      let three = at-row ps t kept.control slots.control (record { is = λ p u. refl }) controls (below Controls here) with_memory (laid (observer ++ body) ++ []) (two ∙ laid-both given (observer ++ body) []) in
       let before = with_row kept.control t controls with_memory in
       let agree = contract-agree t n in
-      let u = guard-laid n.contract names scope before (laid body ++ []) agree (three ∙ laid-both guard body []) in
-      let v = block-laid ps places t types called (contracts_asked N t) outs brought ⊤ shaped calls n.body (declaring t controls names) (typed_in controls scope) (below Body here) (planned_guard t called n.contract names before) [] (declared-agree t controls names scope agree) (inl tt) u.1 in
+      let u = observer-laid n.contract names scope before (laid body ++ []) agree (three ∙ laid-both observer body []) in
+      let v = block-laid ps places t types called (contracts_asked N t) outs brought ⊤ shaped calls n.body (declaring t controls names) (typed_in controls scope) (below Body here) (planned_observer t called n.contract names before) [] (declared-agree t controls names scope agree) (inl tt) u.1 in
       (u.0, v.0)
 
 pub node-stands : (program : List Item) (t : Told) (n : Node) → ((f : List ℕ) → t.nodes f ≡ node_among (reverse program) f) → ((f : List ℕ) (m : Node) → t.nodes f ≡ Some m → ContractCallsNothing m.contract) → NodeStands (steering_of n (slot_place program n)) t n

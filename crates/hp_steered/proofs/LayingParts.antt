@@ -7,7 +7,7 @@ use Rattle.hp_tree.specs.Blocks.{Decl, Block, block, Eqns, no_eqn, more_eqns, Eq
 use Rattle.hp_tree.specs.Expressions.{Expr, constant, variable, last_of, one, two, choose, pre, fby, arrow, when_is, merge, call, Exprs, no_expr, more_exprs, Parts, no_part, more_parts}
 use Rattle.hp_tree.specs.ExpressionTypes as types_shown
 use Rattle.hp_tree.specs.ExpressionTypes.{typed_in, type_with, type_of_constant, type_of_two, first_type, type_of, type_of_parts, scope_of, untyped, some_place}
-use Rattle.hp_tree.specs.Instant.{Body, Guard, Assume, Enforce, Fresh, Equations, Head, Tail, Right, Test, Arms as ArmsOf, States as StatesOf, Until, Unless, Next, Pending, First, Second, Third, Args, Instance, Place}
+use Rattle.hp_tree.specs.Instant.{Body, Observer, Assume, Enforce, Fresh, Equations, Head, Tail, Right, Test, Arms as ArmsOf, States as StatesOf, Until, Unless, Next, Pending, First, Second, Third, Args, Instance, Place}
 use Rattle.hp_tree.specs.Operators.{is_comparison}
 use Rattle.hp_tree.specs.Programs.{TypeDecl, Contract}
 use Rattle.hp_causal.specs.Sources.{only, below}
@@ -240,11 +240,11 @@ module _ (ps : List Place) (places : Place → Type 0) (t : Told) (types : List 
   pub contract-laid : (c : Contract) (names : Names) (scope : types_shown.Scope) (w : Place → Place) (before : List Kept) (rest : List Place) → Agree names scope → Ok (ContractCallsNothing (Some c)) → At ps before (laid (slots_of_contract types outs callee_laid (Some c) scope w) ++ rest)
       → ContractStands S t callee asked c names (λ p. only (w p)) before × At ps (planned_contract t callee c names before) rest
   contract-laid c names scope w before rest g o h =
-      let body = slots_of_block types outs callee_laid c.body scope (below Guard w) in
+      let body = slots_of_block types outs callee_laid c.body scope (below Observer w) in
       let assume = slots_told c.assume (scope_of c.body scope) (below Assume w) in
       let enforce = slots_told c.enforce (scope_of c.body scope) (below Enforce w) in
       let inner = block-agree t c.body names scope g in
-      let u = block-laid c.body names scope (below Guard w) before (laid (assume ++ enforce) ++ rest) g (part (λ h. h.0) o) (h ∙ laid-both body (assume ++ enforce) rest) in
+      let u = block-laid c.body names scope (below Observer w) before (laid (assume ++ enforce) ++ rest) g (part (λ h. h.0) o) (h ∙ laid-both body (assume ++ enforce) rest) in
       let one = planned_block t callee c.body names before in
       let v = told-laid c.assume (in_block t c.body names) (scope_of c.body scope) (below Assume w) one (laid enforce ++ rest) inner (part (λ h. h.1) o) (u.1 ∙ laid-both assume enforce rest) in
       let x = told-laid c.enforce (in_block t c.body names) (scope_of c.body scope) (below Enforce w) (planned_told t callee c.assume (in_block t c.body names) one) rest inner (part (λ h. h.2) o) v.1 in

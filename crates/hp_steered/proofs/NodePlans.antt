@@ -9,13 +9,13 @@ use Rattle.hp_drawing.specs.declared.parts.Callee as code_callee
 use Rattle.hp_drawing.specs.declared.parts.Place.{Place}
 use Rattle.hp_drawing.specs.Kept.{kept_as}
 use Rattle.hp_drawing.specs.Told.{Told, type_shape}
-use Rattle.hp_drawing.specs.Planned.{Callee, unseen, over, with_row, with_lasts, with_declared, declaring, planned_block, planned_told, planned_contract, planned_guard, contract_names, no_callee, called, called_of}
+use Rattle.hp_drawing.specs.Planned.{Callee, unseen, over, with_row, with_lasts, with_declared, declaring, planned_block, planned_told, planned_contract, planned_observer, contract_names, no_callee, called, called_of}
 use Rattle.hp_drawing.specs.Sketch.{Sketch}
 use Rattle.hp_drawing.specs.Places.{top_place, called_at}
 use Rattle.hp_drawing.specs.Scopes.{Scope, Layer, no_scope, add, entry_at, unseen_entry, add_lasts, push_values, push_lasts, pop_values, shapes_in}
 use Rattle.hp_drawing.specs.DrawnExpressions.{Brings}
 use Rattle.hp_drawing.specs.DrawnBlocks.{drawn_block}
-use Rattle.hp_drawing.specs.DrawnNodes.{put_from, put_row, put_outputs, contract_layer, scope_over, contract_scope, body_layer, drawn_told, drawn_contract, no_brings, drawn_called_if, contracts, add_one_given, add_given, drawn_guard, body_scope}
+use Rattle.hp_drawing.specs.DrawnNodes.{put_from, put_row, put_outputs, contract_layer, scope_over, contract_scope, body_layer, drawn_told, drawn_contract, no_brings, drawn_called_if, contracts, add_one_given, add_given, drawn_observer, body_scope}
 use Rattle.hp_drawing.proofs.KeptLaws.{kept_at, given-kept, called-kept, call-kept}
 use Rattle.hp_drawing.proofs.NamesLaws.{says, said-add, over-declared, shapes-pushed, shapes-lasts}
 use Rattle.hp_drawing.proofs.PlanLaws.{lasts-kept}
@@ -112,6 +112,6 @@ pub given-row : (t : Told) (r : Role) (ds : List Decl) (s : Sketch) → kept_at 
 given-row t r [] s = refl
 given-row t r (d ∷ ds) s = given-row t r ds (add_one_given r (type_shape t d.ty) s) ∙ ap (λ k. with_row (kept_as r) t ds k) (given-kept r (type_shape t d.ty) s)
 
-pub guard-planned : (t : Told) (z : Scope) (o : Option Contract) (s : Sketch) → kept_at (drawn_guard t z o s).1 ≡ planned_guard t called o (shapes_in z) (kept_at s)
-guard-planned t z None s = refl
-guard-planned t z (Some c) s = contract-planned t contracts called (agrees t) z top_place c s
+pub observer-planned : (t : Told) (z : Scope) (o : Option Contract) (s : Sketch) → kept_at (drawn_observer t z o s).1 ≡ planned_observer t called o (shapes_in z) (kept_at s)
+observer-planned t z None s = refl
+observer-planned t z (Some c) s = contract-planned t contracts called (agrees t) z top_place c s

@@ -3,7 +3,7 @@ use Rattle.std.proofs.Common.{◌≡◌, ℕ, suc, ◌+◌, ◌<◌, Bool, true,
 use Rattle.std.specs.Str.{bytes_eq}
 use Rattle.std.proofs.lemmas.Option.{none-some}
 use Rattle.hp_tree.specs.Blocks.{Decl, Block, block}
-use Rattle.hp_tree.specs.Instant.{Body, Controls, Guard, Assume, Enforce, Named, Head, Tail, Place as TreePlace}
+use Rattle.hp_tree.specs.Instant.{Body, Controls, Observer, Assume, Enforce, Named, Head, Tail, Place as TreePlace}
 use Rattle.hp_tree.specs.Meaning.{declares, controls_of}
 use Rattle.hp_tree.specs.Programs.{Contract, Node}
 use Rattle.hp_causal.specs.Sources.{Sources, none, only, both, also, IsRead, NameSources, PlaceSources, below}
@@ -20,12 +20,12 @@ use Rattle.hp_drawing.specs.Places.{top_place}
 use Rattle.hp_drawing.specs.Scopes.{Scope, Layer, unseen_entry, entry_in, add, or_found, found, value_by, outer_layers, value_in, last_in, push_values, push_lasts, pop_values}
 use Rattle.hp_drawing.specs.DrawnExpressions.{add_holes}
 use Rattle.hp_drawing.specs.DrawnBlocks.{drawn_block}
-use Rattle.hp_drawing.specs.DrawnNodes.{contract_scope, put_row, put_outputs, body_layer, body_scope, contracts, Guard as Drawn, add_given, define_from, define_outputs, drawn_guard, drawn_body, with_outputs, with_inputs, with_controls, node_scope, drawn_node}
+use Rattle.hp_drawing.specs.DrawnNodes.{contract_scope, put_row, put_outputs, body_layer, body_scope, contracts, Observer as Drawn, add_given, define_from, define_outputs, drawn_observer, drawn_body, with_outputs, with_inputs, with_controls, node_scope, drawn_node}
 use Rattle.hp_drawn.proofs.Layers.{self-name}
 use Rattle.hp_steered.specs.Marks.{Steering, Marks, Grows, Has, Leads, Low, AreMarked, IsPlaced}
 use Rattle.hp_steered.specs.Placed.{contracts_held, BlockPlaced}
 use Rattle.hp_steered.specs.Asked.{AreSeen, BringsMarked, ContractFits}
-use Rattle.hp_steered.specs.Nodes.{Depends, steering_of, NodeFits, GuardPlaced, NodePlaced}
+use Rattle.hp_steered.specs.Nodes.{Depends, steering_of, NodeFits, ObserverPlaced, NodePlaced}
 use Rattle.hp_steered.proofs.Steps.{grows-none, grows-both, has-grows, low-grows, there-grows, low-up, low-there, low-own, Made, Step, hole-marked, define-marked}
 use Rattle.hp_steered.proofs.Parts.{given-marked, given-control-marked}
 use Rattle.hp_steered.proofs.Rows.{hole-number, hole-next, given-number, given-next-number}
@@ -33,7 +33,7 @@ use Rattle.hp_steered.proofs.Values.{IsAt, seen-grows}
 use Rattle.hp_steered.proofs.Bodies.{Blocked}
 use Rattle.hp_steered.proofs.Blocks.{block-marked}
 use Rattle.hp_steered.proofs.Steered.{leads, free-leads}
-use Rattle.hp_steered.proofs.Contracts.{AreNamed, named-grows, Says, says-add, says-row, finish-marked, LowAt, Guarded, contract-seen, contract-marked, contracts-marked}
+use Rattle.hp_steered.proofs.Contracts.{AreNamed, named-grows, Says, says-add, says-row, finish-marked, LowAt, Observed, contract-seen, contract-marked, contracts-marked}
 use Rattle.hp_steered.proofs.Assumed.{told_reads, assumption-place, finish-assume}
 
 -- ---- the scope of a body has one layer
@@ -173,18 +173,18 @@ module _ (steers : Steering) (t : Told) (n : Node) (fits : NodeFits t n) (closed
   alone s p f (inr l) = f l
 
   -- what is assumed and enforced
-  guarded : (z : Scope) (s : Sketch) (ms : Marks) → GuardPlaced steers t z n.contract s → IsAt steers z none shown ms s top_place → Guarded steers ms (only (Assume ∷ [])) (drawn_guard t z n.contract s)
-  guarded z s ms placed at = by n.contract fits.contract (λ p. closed (Guard ∷ p)) (λ p. closed (Assume ∷ p)) (λ p. closed (Enforce ∷ p)) placed
+  observed : (z : Scope) (s : Sketch) (ms : Marks) → ObserverPlaced steers t z n.contract s → IsAt steers z none shown ms s top_place → Observed steers ms (only (Assume ∷ [])) (drawn_observer t z n.contract s)
+  observed z s ms placed at = by n.contract fits.contract (λ p. closed (Observer ∷ p)) (λ p. closed (Assume ∷ p)) (λ p. closed (Enforce ∷ p)) placed
     where
-      by : (o : Option Contract) → ContractFits t o → ((p : TreePlace) → Leads steers (in_contract o shown only (Guard ∷ p)) → steers.places (Guard ∷ p)) → ((p : TreePlace) → Leads steers (in_contract o shown only (Assume ∷ p)) → steers.places (Assume ∷ p))
-          → ((p : TreePlace) → Leads steers (in_contract o shown only (Enforce ∷ p)) → steers.places (Enforce ∷ p)) → GuardPlaced steers t z o s → Guarded steers ms (only (Assume ∷ [])) (drawn_guard t z o s)
+      by : (o : Option Contract) → ContractFits t o → ((p : TreePlace) → Leads steers (in_contract o shown only (Observer ∷ p)) → steers.places (Observer ∷ p)) → ((p : TreePlace) → Leads steers (in_contract o shown only (Assume ∷ p)) → steers.places (Assume ∷ p))
+          → ((p : TreePlace) → Leads steers (in_contract o shown only (Enforce ∷ p)) → steers.places (Enforce ∷ p)) → ObserverPlaced steers t z o s → Observed steers ms (only (Assume ∷ [])) (drawn_observer t z o s)
       by None fit f g h placed = (ms, grows-none ms, at.marks, low-up steers ms high none (only (Assume ∷ [])) (λ l. absurd l) at.marks.high_is, low-there steers ms high none at.marks.high_is)
       by (Some c) fit f g h placed =
-          let inner = names_in_block c.body shown (below Guard only) in
-          let u = contract-marked steers t contracts (contracts_held steers t) brought c z none shown only top_place s ms fit (λ p. alone (in_block c.body shown (below Guard only) p) (Guard ∷ p) (f p)) (λ p. alone (at_told c.assume inner (below Assume only) p) (Assume ∷ p) (g p))
+          let inner = names_in_block c.body shown (below Observer only) in
+          let u = contract-marked steers t contracts (contracts_held steers t) brought c z none shown only top_place s ms fit (λ p. alone (in_block c.body shown (below Observer only) p) (Observer ∷ p) (f p)) (λ p. alone (at_told c.assume inner (below Assume only) p) (Assume ∷ p) (g p))
           (λ p. alone (at_told c.enforce inner (below Enforce only) p) (Enforce ∷ p) (h p)) placed at in
           let reads = both none (told_reads c.assume inner (below Assume only)) in
-          (u.0, u.1, u.2, low-up steers u.0 (drawn_guard t z (Some c) s).0.assume reads (only (Assume ∷ [])) (λ l. elim l [ inl i ↦ absurd i | inr i ↦ elim (assumption-place steers (Some c) shown i) [ inl j ↦ g [] j | inr j ↦ j ] ]) u.3, u.4)
+          (u.0, u.1, u.2, low-up steers u.0 (drawn_observer t z (Some c) s).0.assume reads (only (Assume ∷ [])) (λ l. elim l [ inl i ↦ absurd i | inr i ↦ elim (assumption-place steers (Some c) shown i) [ inl j ↦ g [] j | inr j ↦ j ] ]) u.3, u.4)
 
   -- the body, behind which the outputs are what it defines
   bodied : (z : Scope) (l : Layer) (outputs : ℕ) (s : Sketch) (ms : Marks) → BlockPlaced steers t contracts (contracts_held steers t) (body_scope l z) top_place n.body (below Body only) s → AreMarked steers s ms → AreSeen steers ms (body_scope l z) none seen_inside
@@ -204,17 +204,17 @@ module _ (steers : Steering) (t : Told) (n : Node) (fits : NodeFits t n) (closed
       )
 
   -- the contract and the body, behind the wires of inputs, outputs and controllable variables
-  rest-marked : (z : Scope) (inputs controls outputs : ℕ) (s : Sketch) (ms : Marks) → GuardPlaced steers t z n.contract s
-      → (let g = drawn_guard t z n.contract s in BlockPlaced steers t contracts (contracts_held steers t) (body_scope (body_layer t n inputs controls) z) top_place n.body (below Body only) g.1) → outer_layers z.values ≡ [] → AreMarked steers s ms → AreSeen steers ms z none shown
+  rest-marked : (z : Scope) (inputs controls outputs : ℕ) (s : Sketch) (ms : Marks) → ObserverPlaced steers t z n.contract s
+      → (let g = drawn_observer t z n.contract s in BlockPlaced steers t contracts (contracts_held steers t) (body_scope (body_layer t n inputs controls) z) top_place n.body (below Body only) g.1) → outer_layers z.values ≡ [] → AreMarked steers s ms → AreSeen steers ms z none shown
       → AreNamed ms inputs n.inputs (λ x. none) → AreNamed ms controls (controls_of n.contract) (λ x. only (Controls ∷ [])) → AreNamed ms outputs n.outputs shown
-      → (let g = drawn_guard t z n.contract s in Made steers ms (only (Assume ∷ [])) (g.0.assume, finish g.0.assume g.0.enforce (drawn_body t z (body_layer t n inputs controls) n outputs g.1)))
-  rest-marked z inputs controls outputs s ms guard_placed body_placed one_layer a seen i c o =
-      behind (drawn_guard t z n.contract s) body_placed (guarded z s ms guard_placed (record { marks = a; placed = top-placed steers t s ms a; seen = seen }))
+      → (let g = drawn_observer t z n.contract s in Made steers ms (only (Assume ∷ [])) (g.0.assume, finish g.0.assume g.0.enforce (drawn_body t z (body_layer t n inputs controls) n outputs g.1)))
+  rest-marked z inputs controls outputs s ms observer_placed body_placed one_layer a seen i c o =
+      behind (drawn_observer t z n.contract s) body_placed (observed z s ms observer_placed (record { marks = a; placed = top-placed steers t s ms a; seen = seen }))
     where
       l : Layer
       l = body_layer t n inputs controls
 
-      behind : (g : Drawn × Sketch) → BlockPlaced steers t contracts (contracts_held steers t) (body_scope l z) top_place n.body (below Body only) g.1 → Guarded steers ms (only (Assume ∷ [])) g
+      behind : (g : Drawn × Sketch) → BlockPlaced steers t contracts (contracts_held steers t) (body_scope l z) top_place n.body (below Body only) g.1 → Observed steers ms (only (Assume ∷ [])) g
           → Made steers ms (only (Assume ∷ [])) (g.0.assume, finish g.0.assume g.0.enforce (drawn_body t z l n outputs g.1))
       behind g placed u =
           let says = body-says steers t n inputs controls (only (Controls ∷ [])) u.0 g.1 u.2 (λ p. controlled p) (named-grows ms u.0 u.1 inputs n.inputs (λ x. none) i) (named-grows ms u.0 u.1 controls (controls_of n.contract) (λ x. only (Controls ∷ [])) c) in
@@ -241,7 +241,7 @@ module _ (steers : Steering) (t : Told) (n : Node) (fits : NodeFits t n) (closed
       let s = with_controls t n z.1 in
       let w = rest-marked z.0 (next_wire (with_outputs t n empty)) (next_wire z.1) (next_wire empty) s v.0 placed.0 placed.1 (contract-alone t top_place n (next_wire (with_outputs t n empty)) (next_wire empty) (with_inputs t n empty)) v.2 (seen-grows steers z.0 none shown u.0 v.0 v.1 u.3)
       (named-grows u.0 v.0 v.1 (next_wire (with_outputs t n empty)) n.inputs (λ x. none) u.4) v.3 (named-grows u.0 v.0 v.1 (next_wire empty) n.outputs shown u.5) in
-      let g = drawn_guard t z.0 n.contract s in
+      let g = drawn_observer t z.0 n.contract s in
       let e = finish-assume g.0.assume g.0.enforce (drawn_body t z.0 (body_layer t n (next_wire (with_outputs t n empty)) (next_wire z.1)) n (next_wire empty) g.1) in
       (w.0, w.2, subst (λ a. Low steers w.0 a (only (Assume ∷ []))) (sym e) w.3)
 

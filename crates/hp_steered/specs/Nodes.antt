@@ -14,7 +14,7 @@ use Rattle.hp_drawing.specs.Told.{Told}
 use Rattle.hp_drawing.specs.Sketch.{Sketch, empty}
 use Rattle.hp_drawing.specs.Places.{top_place}
 use Rattle.hp_drawing.specs.Scopes.{Scope}
-use Rattle.hp_drawing.specs.DrawnNodes.{contracts, node_scope, node_rows, with_controls, drawn_guard, body_layer, body_scope, drawn_node}
+use Rattle.hp_drawing.specs.DrawnNodes.{contracts, node_scope, node_rows, with_controls, drawn_observer, body_layer, body_scope, drawn_node}
 use Rattle.hp_steered.specs.Marks.{Steering}
 use Rattle.hp_steered.specs.Placed.{contracts_held, ContractPlaced, BlockPlaced}
 use Rattle.hp_steered.specs.Stands.{NodeStands}
@@ -36,9 +36,9 @@ pub record NodeFits (t : Told) (n : Node) : Type 0 where
   pub callees : (f : List ℕ) (m : Node) → t.nodes f ≡ Some m → ContractFits t m.contract
 
 module _ (steers : Steering) where
-  abbrev pub GuardPlaced : Told → Scope → Option Contract → Sketch → Type 0
-  GuardPlaced t z None s = ⊤
-  GuardPlaced t z (Some c) s = ContractPlaced steers t contracts (contracts_held steers t) z top_place c only s
+  abbrev pub ObserverPlaced : Told → Scope → Option Contract → Sketch → Type 0
+  ObserverPlaced t z None s = ⊤
+  ObserverPlaced t z (Some c) s = ContractPlaced steers t contracts (contracts_held steers t) z top_place c only s
 
   -- the slots of a node stand for its places
   abbrev pub NodePlaced : Told → Node → Type 0
@@ -46,8 +46,8 @@ module _ (steers : Steering) where
       let z = node_scope t n empty in
       let s = with_controls t n z.1 in
       let rows = node_rows t n empty z.1 in
-      let g = drawn_guard t z.0 n.contract s in
-      GuardPlaced t z.0 n.contract s × BlockPlaced steers t contracts (contracts_held steers t) (body_scope (body_layer t n rows.inputs rows.controls) z.0) top_place n.body (below Body only) g.1
+      let g = drawn_observer t z.0 n.contract s in
+      ObserverPlaced t z.0 n.contract s × BlockPlaced steers t contracts (contracts_held steers t) (body_scope (body_layer t n rows.inputs rows.controls) z.0) top_place n.body (below Body only) g.1
 
 -- Where the free slots of a node stand for its places by the plan of its slots, one whose wire in what is drawn reads a controllable variable is that of a place that depends on one.
 abbrev pub NodeMarksLaw : Type 0

@@ -4,7 +4,7 @@ use Rattle.hp_base.specs.declared.span.Span.{Span}
 use Rattle.hp_tree.specs.declared.block.Trans.{Trans}
 use Rattle.hp_tree.specs.Blocks.{Decl, Block, block, Eqns, no_eqn, more_eqns, Eqn, define, switch, reset, automaton, Arms, no_arm, more_arms, States, no_state, more_states}
 use Rattle.hp_tree.specs.Expressions.{Expr, constant, variable, last_of, one, two, choose, pre, fby, arrow, when_is, merge, call, Exprs, no_expr, more_exprs, Parts, no_part, more_parts}
-use Rattle.hp_tree.specs.Instant.{Body, Guard, Assume, Enforce, Named, Equations, Head, Tail, Right, Test, Arms as ArmsOf, States as StatesOf, Until, Unless, First, Second, Third, Args, Instance}
+use Rattle.hp_tree.specs.Instant.{Body, Observer, Assume, Enforce, Named, Equations, Head, Tail, Right, Test, Arms as ArmsOf, States as StatesOf, Until, Unless, First, Second, Third, Args, Instance}
 use Rattle.hp_tree.specs.Programs.{Contract, Node}
 use Rattle.hp_causal.specs.Sources.{Sources, PlaceSources, below}
 use Rattle.hp_circuit.specs.declared.circuit.Shape.TheVariants.{Truth}
@@ -169,7 +169,7 @@ module _ (steers : Steering) where
     ContractPlaced z spot c k s =
         let inside = drawn_block t brings z spot c.body s in
         let assume = drawn_told t brings inside.0 spot c.assume inside.1 in
-        BlockPlaced z spot c.body (below Guard k) s × ToldPlaced inside.0 spot c.assume (below Assume k) inside.1 × ToldPlaced inside.0 spot c.enforce (below Enforce k) assume.1
+        BlockPlaced z spot c.body (below Observer k) s × ToldPlaced inside.0 spot c.assume (below Assume k) inside.1 × ToldPlaced inside.0 spot c.enforce (below Enforce k) assume.1
 
   -- the contract of a node that is called
   abbrev pub CalledPlaced : Told → Spot → Node → Option Contract → Callee → Sketch → PlaceSources → Type 0

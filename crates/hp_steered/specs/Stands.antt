@@ -3,7 +3,7 @@ use Rattle.std.specs.Prelude.{⊤, Bool, true, false, ◌&&◌, List, [], ◌∷
 use Rattle.hp_tree.specs.declared.block.Trans.{Trans}
 use Rattle.hp_tree.specs.Blocks.{Decl, Block, block, Eqns, no_eqn, more_eqns, Eqn, define, switch, reset, automaton, Arms, no_arm, more_arms, States, no_state, more_states}
 use Rattle.hp_tree.specs.Expressions.{Expr, constant, variable, last_of, one, two, choose, pre, fby, arrow, when_is, merge, call, Exprs, no_expr, more_exprs, Parts, no_part, more_parts}
-use Rattle.hp_tree.specs.Instant.{Body, Guard, Assume, Enforce, Named, Equations, Head, Tail, Right, Test, Arms as ArmsOf, States as StatesOf, Until, Unless, First, Second, Third, Args, Instance}
+use Rattle.hp_tree.specs.Instant.{Body, Observer, Assume, Enforce, Named, Equations, Head, Tail, Right, Test, Arms as ArmsOf, States as StatesOf, Until, Unless, First, Second, Third, Args, Instance}
 use Rattle.hp_tree.specs.Meaning.{controls_of}
 use Rattle.hp_tree.specs.Operators.{is_comparison}
 use Rattle.hp_tree.specs.Programs.{Contract, Node}
@@ -11,7 +11,7 @@ use Rattle.hp_causal.specs.Sources.{Sources, only, PlaceSources, below}
 use Rattle.hp_circuit.specs.declared.circuit.Shape.TheVariants.{Truth}
 use Rattle.hp_drawing.specs.Kept.{Kept, register, input, control, free, is_mark, with_kept, with_shaped}
 use Rattle.hp_drawing.specs.Told.{Told, type_shape}
-use Rattle.hp_drawing.specs.Planned.{Names, Callee, shape_in, with_register, with_comparison, with_row, with_lasts, with_call, with_words, declaring, count_states, in_block, planned, planned_conditions, planned_block, planned_eqn, planned_told, planned_guard, contract_names, no_callee, called}
+use Rattle.hp_drawing.specs.Planned.{Names, Callee, shape_in, with_register, with_comparison, with_row, with_lasts, with_call, with_words, declaring, count_states, in_block, planned, planned_conditions, planned_block, planned_eqn, planned_told, planned_observer, contract_names, no_callee, called}
 use Rattle.hp_steered.specs.Marks.{Steering, Leads}
 
 -- what is asked of the contract of a node that is called
@@ -115,7 +115,7 @@ module _ (steers : Steering) where
     abbrev pub ContractStands : Contract → Names → PlaceSources → List Kept → Type 0
     ContractStands c names k before =
         let body = planned_block t callee c.body names before in
-        BlockStands c.body names (below Guard k) before × ToldStands c.assume (in_block t c.body names) (below Assume k) body
+        BlockStands c.body names (below Observer k) before × ToldStands c.assume (in_block t c.body names) (below Assume k) body
         × ToldStands c.enforce (in_block t c.body names) (below Enforce k) (planned_told t callee c.assume (in_block t c.body names) body)
 
   -- the contract of a node that is called
@@ -126,14 +126,14 @@ module _ (steers : Steering) where
   abbrev pub contracts_asked : Told → Asked
   contracts_asked t n k before = CalledStands t n.contract n k before
 
-  abbrev pub GuardStands : Told → Option Contract → Names → List Kept → Type 0
-  GuardStands t None names before = ⊤
-  GuardStands t (Some c) names before = ContractStands t called (contracts_asked t) c names only before
+  abbrev pub ObserverStands : Told → Option Contract → Names → List Kept → Type 0
+  ObserverStands t None names before = ⊤
+  ObserverStands t (Some c) names before = ContractStands t called (contracts_asked t) c names only before
 
   -- The free slots of a node stand for its places: comparisons of integers, outputs of calls, and what stands free in the contracts of those that are called.
   abbrev pub NodeStands : Told → Node → Type 0
   NodeStands t n =
       let names = contract_names t n in
       let start = with_row control t (controls_of n.contract) (with_lasts t n.outputs (with_row input t n.inputs [])) in
-      GuardStands t n.contract names start
-      × BlockStands t called (contracts_asked t) n.body (declaring t (controls_of n.contract) names) (below Body only) (planned_guard t called n.contract names start)
+      ObserverStands t n.contract names start
+      × BlockStands t called (contracts_asked t) n.body (declaring t (controls_of n.contract) names) (below Body only) (planned_observer t called n.contract names start)

@@ -9,7 +9,7 @@ use Rattle.hp_tree.specs.declared.block.Trans.{Trans}
 use Rattle.hp_tree.specs.Expressions.{Expr, constant, variable, last_of, one, two, choose, pre, fby, arrow, when_is, merge, call, Exprs, no_expr, more_exprs, Parts, no_part, more_parts}
 use Rattle.hp_tree.specs.Blocks.{Decl, Block, block, Eqns, no_eqn, more_eqns, Eqn, define, switch, reset, automaton, Arms, no_arm, more_arms, States, no_state, more_states}
 use Rattle.hp_tree.specs.Programs.{Contract, Node}
-use Rattle.hp_tree.specs.Instant.{Body, Guard, Named, Equations, Head, Tail, Right, Arms as ArmsOf, States as StatesOf, Place, Clock, without}
+use Rattle.hp_tree.specs.Instant.{Body, Observer, Named, Equations, Head, Tail, Right, Arms as ArmsOf, States as StatesOf, Place, Clock, without}
 use Rattle.hp_tree.specs.Meaning.{declares, some_defines, controls_of}
 use Rattle.hp_typing.specs.Scopes.{with_variables}
 use Rattle.hp_typed.specs.Scopes.{Scope}
@@ -17,7 +17,7 @@ use Rattle.hp_causal.specs.Sources.{below}
 use Rattle.hp_causal.specs.Points.{span_of}
 use Rattle.hp_causal.specs.Clocked.{Standing, base_alone, ClockRight, IsOn, ExprsOn, PartsOn}
 use Rattle.hp_clocking.specs.Terms.{value, IsShortest}
-use Rattle.hp_clocking.specs.Clocking.{On, Term, Assignment, open_at, Seen, nowhere, own, further, Sight, from_inside, seen_on, standing, controls_define, local_at, local_term, term_in, sight_in, sight_of, ClockUnit, declared, tested, AllAre, AllAllow, declarations, conditions, units, units_of_all, units_of_one, units_of_arms, units_of_states, known_on_base, contract_sight, body_sight, told, in_guard, in_body, contract_units, no_sight, sights, sights_of_all, sights_of_one, sights_of_arms, sights_of_states, contract_sights, node_sights, IsAllowed}
+use Rattle.hp_clocking.specs.Clocking.{On, Term, Assignment, open_at, Seen, nowhere, own, further, Sight, from_inside, seen_on, standing, controls_define, local_at, local_term, term_in, sight_in, sight_of, ClockUnit, declared, tested, AllAre, AllAllow, declarations, conditions, units, units_of_all, units_of_one, units_of_arms, units_of_states, known_on_base, contract_sight, body_sight, told, in_observer, in_body, contract_units, no_sight, sights, sights_of_all, sights_of_one, sights_of_arms, sights_of_states, contract_sights, node_sights, IsAllowed}
 
 -- ---- good steps
 
@@ -571,32 +571,32 @@ in_contract z None p = every
 in_contract z (Some c) p = goods all_good z c.body p
 
 abbrev good_at : (Scope → Good) → Scope → Node → Place → Good
-good_at B z n (Guard ∷ p) = in_contract z n.contract p
+good_at B z n (Observer ∷ p) = in_contract z n.contract p
 good_at B z n (Body ∷ p) = goods B z n.body p
 good_at B z n p = every
 
 module _ (at : Assignment) (at_place : Place → Good) (z : Scope) where
-  allow_contract : (c : Option Contract) (out : Sight) → Under at at_place in_guard (in_contract z c) → Bases at at_place out → AllAllow at (contract_units out c) → AllAllow (other at at_place) (contract_units out c)
+  allow_contract : (c : Option Contract) (out : Sight) → Under at at_place in_observer (in_contract z c) → Bases at at_place out → AllAllow at (contract_units out c) → AllAllow (other at at_place) (contract_units out c)
   allow_contract None out u o h = tt
   allow_contract (Some c) out u o h = by c.body c.assume c.enforce u h
     where
-      by : (b : Block) (assume enforce : Option Expr) → Under at at_place in_guard (goods all_good z b) → AllAllow at (units b in_guard out ++ (told (sight_of b in_guard out) assume ++ told (sight_of b in_guard out) enforce))
-          → AllAllow (other at at_place) (units b in_guard out ++ (told (sight_of b in_guard out) assume ++ told (sight_of b in_guard out) enforce))
+      by : (b : Block) (assume enforce : Option Expr) → Under at at_place in_observer (goods all_good z b) → AllAllow at (units b in_observer out ++ (told (sight_of b in_observer out) assume ++ told (sight_of b in_observer out) enforce))
+          → AllAllow (other at at_place) (units b in_observer out ++ (told (sight_of b in_observer out) assume ++ told (sight_of b in_observer out) enforce))
       by (block ds es) assume enforce v i =
-          let within = sight_in ds es in_guard out in
-          let f = filters_in at at_place every es in_guard (λ x. v (Named x ∷ [])) ds out o in
-          split at at_place (units (block ds es) in_guard out) (told within assume ++ told within enforce)
-          (λ j. allow_block at at_place all_good z (block ds es) in_guard out v o (every_block (block ds es) z) j)
+          let within = sight_in ds es in_observer out in
+          let f = filters_in at at_place every es in_observer (λ x. v (Named x ∷ [])) ds out o in
+          split at at_place (units (block ds es) in_observer out) (told within assume ++ told within enforce)
+          (λ j. allow_block at at_place all_good z (block ds es) in_observer out v o (every_block (block ds es) z) j)
           (λ j. split at at_place (told within assume) (told within enforce) (λ k. told_allows at at_place every within f assume (every_told assume) k) (λ k. told_allows at at_place every within f enforce (every_told enforce) k) j) i
 
-  right_contract : (c : Option Contract) (out : Sight) → Under at at_place in_guard (in_contract z c) → Bases at at_place out → (p : Place) → RightAt at at_place (contract_sights c out p) (Guard ∷ p)
-  right_contract None out u o p = right_none at at_place (Guard ∷ p)
-  right_contract (Some c) out u o p = right_block at at_place all_good z c.body in_guard out u o p
+  right_contract : (c : Option Contract) (out : Sight) → Under at at_place in_observer (in_contract z c) → Bases at at_place out → (p : Place) → RightAt at at_place (contract_sights c out p) (Observer ∷ p)
+  right_contract None out u o p = right_none at at_place (Observer ∷ p)
+  right_contract (Some c) out u o p = right_block at at_place all_good z c.body in_observer out u o p
 
 pub clocks_good : (B : Scope → Good) (z : Scope) (n : Node) (at : Assignment) → BlockGood B z n.body → IsShortest (IsAllowed n) at → BlockHas B at z in_body n.body
 clocks_good B z n at m s =
     let there = good_at B z n in
-    let ug : Under at there in_guard (in_contract z n.contract) = λ p. refl in
+    let ug : Under at there in_observer (in_contract z n.contract) = λ p. refl in
     let ub : Under at there in_body (goods B z n.body) = λ p. refl in
     let on_base : (y : Bool) → SeenBase at there (known_on_base y) = λ y. based y in
     let og : Bases at there (contract_sight n) = λ x. on_base (declares n.inputs x || declares n.outputs x) in
@@ -612,7 +612,7 @@ clocks_good B z n at m s =
     based true = λ e. refl
     based false = tt
 
-    right : (there : Place → Good) → Under at there in_guard (in_contract z n.contract) → Under at there in_body (goods B z n.body) → Bases at there (contract_sight n) → Bases at there (body_sight n) → (p : Place) → RightAt at there (node_sights n p) p
-    right there ug ub og ob (Guard ∷ p) = right_contract at there z n.contract (contract_sight n) ug og p
+    right : (there : Place → Good) → Under at there in_observer (in_contract z n.contract) → Under at there in_body (goods B z n.body) → Bases at there (contract_sight n) → Bases at there (body_sight n) → (p : Place) → RightAt at there (node_sights n p) p
+    right there ug ub og ob (Observer ∷ p) = right_contract at there z n.contract (contract_sight n) ug og p
     right there ug ub og ob (Body ∷ p) = right_block at there B z n.body in_body (body_sight n) ub ob p
     right there ug ub og ob p = right_none at there p

@@ -13,7 +13,7 @@ use Rattle.hp_tree.specs.Expressions.{Expr, constant, variable, last_of, one, tw
 use Rattle.hp_tree.specs.Blocks.{Decl, Block, block, Eqns, no_eqn, more_eqns, Eqn, define, switch, reset, automaton, Arms, no_arm, more_arms, States, no_state, more_states}
 use Rattle.hp_tree.specs.Programs.{TypeDecl, Contract, Node}
 use Rattle.hp_tree.specs.Operators.{constructor_from, filled}
-use Rattle.hp_tree.specs.Instant.{Body, Instant, Given, or_else, nothing, with_one, with_two, with_three, in_row, with_row, with_instance, of_two, in_block, in_right, with_arms, with_body, in_state, with_words, in_guard}
+use Rattle.hp_tree.specs.Instant.{Body, Instant, Given, or_else, nothing, with_one, with_two, with_three, in_row, with_row, with_instance, of_two, in_block, in_right, with_arms, with_body, in_state, with_words, in_observer}
 use Rattle.hp_tree.specs.Meaning.{types_of, controls_of, node_among, meaning}
 use Rattle.hp_tree.specs.Values.{constructors_of}
 use Rattle.hp_tree.specs.ExpressionTypes.{Scope, typed_in, untyped, scope_of, type_of}
@@ -90,11 +90,11 @@ module _ (types : List TypeDecl) (outputs : List ℕ → List Decl) (callee : Li
   abbrev firsts_of_contract : Option Contract → Scope → Instant
   firsts_of_contract None names = nothing
   firsts_of_contract (Some c) names =
-      in_guard (firsts_of_block c.body names) (firsts_told c.assume (scope_of c.body names)) (firsts_told c.enforce (scope_of c.body names))
+      in_observer (firsts_of_block c.body names) (firsts_told c.assume (scope_of c.body names)) (firsts_told c.enforce (scope_of c.body names))
 
   abbrev in_parts : Instant → Instant → Instant
-  in_parts body guard (Body ∷ p) = body p
-  in_parts body guard p = guard p
+  in_parts body observer (Body ∷ p) = body p
+  in_parts body observer p = observer p
 
   abbrev pub firsts_of_node : Node → Instant
   firsts_of_node n =

@@ -10,7 +10,7 @@ use Rattle.hp_tree.specs.Programs.{TypeDecl}
 -- a step from something to a part of it
 pub data Step : Type 0 where
   -- from a node to its inputs, its controllable variables, its body, its contract's block, and what that assumes and enforces
-  Inputs Controls Body Guard Assume Enforce : Step
+  Inputs Controls Body Observer Assume Enforce : Step
   -- from a node to the value of an output, and from a block to that of a name that it defines
   Named : List ℕ → Step
   -- the word whether a block or an instance begins anew; the equations of a block
@@ -170,20 +170,20 @@ with_words active next pending i (States ∷ p) = i p
 with_words active next pending i p = Absent
 
 -- a contract's part of a node: its block, and what it assumes and enforces
-abbrev pub in_guard : Instant → Instant → Instant → Instant
-in_guard i j k (Guard ∷ p) = i p
-in_guard i j k (Assume ∷ p) = j p
-in_guard i j k (Enforce ∷ p) = k p
-in_guard i j k p = Absent
+abbrev pub in_observer : Instant → Instant → Instant → Instant
+in_observer i j k (Observer ∷ p) = i p
+in_observer i j k (Assume ∷ p) = j p
+in_observer i j k (Enforce ∷ p) = k p
+in_observer i j k p = Absent
 
 -- A node: the values of its outputs, its inputs, the values of its controllable variables, its body and its contract's part. An instance never begins anew by itself.
 abbrev pub in_node : (List ℕ → Value) → List Value → List Value → Instant → Instant → Instant
-in_node outputs inputs controls body guard (Named x ∷ []) = outputs x
-in_node outputs inputs controls body guard (Fresh ∷ []) = B false
-in_node outputs inputs controls body guard (Inputs ∷ p) = in_row (map alone inputs) p
-in_node outputs inputs controls body guard (Controls ∷ p) = in_row (map alone controls) p
-in_node outputs inputs controls body guard (Body ∷ p) = body p
-in_node outputs inputs controls body guard p = guard p
+in_node outputs inputs controls body observer (Named x ∷ []) = outputs x
+in_node outputs inputs controls body observer (Fresh ∷ []) = B false
+in_node outputs inputs controls body observer (Inputs ∷ p) = in_row (map alone inputs) p
+in_node outputs inputs controls body observer (Controls ∷ p) = in_row (map alone controls) p
+in_node outputs inputs controls body observer (Body ∷ p) = body p
+in_node outputs inputs controls body observer p = observer p
 
 -- ---- clocks
 

@@ -14,7 +14,7 @@ use Rattle.hp_tree.specs.Expressions.{Expr, constant, variable, last_of, one, tw
 use Rattle.hp_tree.specs.Blocks.{Decl, Block, block, Eqns, no_eqn, more_eqns, Eqn, define, switch, reset, automaton, Arms, no_arm, more_arms, States, no_state, more_states}
 use Rattle.hp_tree.specs.Programs.{TypeDecl, Contract, Node}
 use Rattle.hp_tree.specs.Operators.{constant_of, is_cons, is_true, if_of, Reading}
-use Rattle.hp_tree.specs.Instant.{Controls, Body, Guard, Assume, Enforce, Named, Equations, Head, Tail, Right, Test, Arms as ArmsOf, States as StatesOf, Until, Unless, Next, Pending, First, Second, Third, Args, Instance, Instant, Past, Given, at, part, parts, top, since, newest, at_first, nothing, alone, with_one, with_two, with_three, in_row, with_row, with_instance, of_two, in_block, in_right, with_arms, with_body, in_state, with_words, in_guard, in_node, Clock, holds, without}
+use Rattle.hp_tree.specs.Instant.{Controls, Body, Observer, Assume, Enforce, Named, Equations, Head, Tail, Right, Test, Arms as ArmsOf, States as StatesOf, Until, Unless, Next, Pending, First, Second, Third, Args, Instance, Instant, Past, Given, at, part, parts, top, since, newest, at_first, nothing, alone, with_one, with_two, with_three, in_row, with_row, with_instance, of_two, in_block, in_right, with_arms, with_body, in_state, with_words, in_observer, in_node, Clock, holds, without}
 
 -- the values of names
 abbrev pub Names : Type 0
@@ -369,13 +369,13 @@ module _ (types : List TypeDecl) (R : Reading) (N : Nodes) where
   told (Some e) names last g now = expr e [] names last g now
 
   -- a contract: it sees the inputs and the outputs
-  abbrev pub guard : Option Contract → Names → Names → Given → Instant → Instant
-  guard None names last g now = nothing
-  guard (Some c) names last g now =
-      let own_names = read_in c.body names (part Guard now) in
-      let own_last = last_in c.body (since false (at Guard g)).past last in
-      in_guard
-      (scope c.body false names last (since false (at Guard g)) (part Guard now))
+  abbrev pub observer : Option Contract → Names → Names → Given → Instant → Instant
+  observer None names last g now = nothing
+  observer (Some c) names last g now =
+      let own_names = read_in c.body names (part Observer now) in
+      let own_last = last_in c.body (since false (at Observer g)).past last in
+      in_observer
+      (scope c.body false names last (since false (at Observer g)) (part Observer now))
       (told c.assume own_names own_last (at Assume g) (part Assume now))
       (told c.enforce own_names own_last (at Enforce g) (part Enforce now))
 
@@ -396,7 +396,7 @@ module _ (types : List TypeDecl) (R : Reading) (N : Nodes) where
       let last : Names = lasts value n.outputs g.past absent in
       in_node outputs inputs controls
       (scope n.body false (input_of (controls_of n.contract) controls outer) last (since false (at Body g)) (part Body now))
-      (guard n.contract (λ x. if declares n.outputs x then now (Named x ∷ []) else outer x) last g now)
+      (observer n.contract (λ x. if declares n.outputs x then now (Named x ∷ []) else outer x) last g now)
 
 -- the types of a program, in declared order
 abbrev pub types_of : List Item → List TypeDecl

@@ -38,7 +38,7 @@ module _ (all : List Claim) (bs : List Breach) (rest : AreBreachesOf all bs) whe
   variable_breach at x is_last es h Never a = ((has_equation at x is_last es, (h, (a.0, (refl, refl)))), rest)
   variable_breach at x is_last es h Once a = rest
   variable_breach at x true es h Partly a = rest
-  variable_breach at x false es h Partly a = ((has_equation at x false es, (h, ((refl, a.1.1), (refl, refl)))), rest)
+  variable_breach at x false es h Partly a = ((has_equation at x false es, (h, ((refl, (a.1.0, a.1.1)), (refl, refl)))), rest)
   variable_breach at x is_last es h Twice a = ((has_equation at x is_last es, (h, (a.1, (refl, refl)))), rest)
 
   other_breach : (at : Span) (x : List ℕ) (es : Eqns) → Contains all (has_none at x es)

@@ -10,6 +10,7 @@ pub mod RuleLaws
 pub mod UseLaws
 pub mod DefinedLaws
 pub mod DefinitionLaws
+pub mod TwiceLaws
 pub mod FirstLaws
 pub mod Rules
 pub mod Worked

@@ -6,6 +6,7 @@ use Rattle.hp_typing.proofs.ScopeLaws.{left-inside, left-controls, left-node, wi
 use Rattle.hp_typing.proofs.BlockLaws.{found_after-path, found_after-decls, found_after-names, found_after-transitions, found_after-eqns, found_after-arms, found_after-states, in_names-end}
 use Rattle.hp_typing.proofs.ItemLaws.{with_constructors-next, found_after-items}
 use Rattle.hp_typing.proofs.RuleLaws.{program_law}
+use Rattle.hp_typing.proofs.TwiceLaws.{twice_used_law, twice_first_law}
 use Rattle.hp_typing.proofs.FirstLaws.{breaches_law, clear_law, first_law, second_law, accepted_law, accepted_definitions_law}
 use Rattle.hp_typing.proofs.DefinitionLaws.{definitions_law}
 use Rattle.hp_typing.proofs.DefinedLaws.{conses-arm, conses-part, count-told, found_after-constructors, found_after-merge_parts, found_after-merge_args, found_after-merge_transitions, found_among-nil, found_among-variables, found_among-others, found_after-variables, found_after-others, found_after-outputs, both-nowhere, nowhere-both, both-names, both-eqns, blocks-arm, blocks-state, found_after-defined_eqns, found_after-defined_arms, found_after-defined_states, found_after-defined_items}
@@ -60,4 +61,4 @@ pub ruleset found_in_defined = (found_after-nil, found_after-append, found_after
 pub ruleset found_in_defined_items = (found_after-nil, found_after-defined_items, drop-end)
 
 -- and of a program as a whole
-pub ruleset laws = (program_law, definitions_law, breaches_law, clear_law, first_law, second_law, accepted_law, accepted_definitions_law)
+pub ruleset laws = (program_law, definitions_law, breaches_law, clear_law, first_law, second_law, accepted_law, accepted_definitions_law, twice_used_law, twice_first_law)

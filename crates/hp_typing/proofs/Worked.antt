@@ -54,6 +54,10 @@ two_equations = refl
 twice_inside : wrong_of (more_eqns (reset here (block [] (more_eqns assign body)) (variable here x)) no_eqn) (decl y) ≡ twice here y ∷ []
 twice_inside = refl
 
+-- in one block twice and in the other not
+twice_in_one_branch : wrong_of (choice (more_eqns assign body) no_eqn) (decl y) ≡ twice here y ∷ []
+twice_in_one_branch = refl
+
 one_branch : wrong_of (choice body no_eqn) (decl y) ≡ branch here y ∷ []
 one_branch = refl
 

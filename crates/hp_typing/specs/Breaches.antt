@@ -1,5 +1,5 @@
 -- The breaches of the rules, and which is first in the text.
-use Rattle.std.specs.Prelude.{◌≡◌, ℕ, Bool, true, false, nat_eq, List, [], ◌∷◌, ◌++◌, Option, is_some, if◌then◌else◌, fold, count_by, Contains}
+use Rattle.std.specs.Prelude.{◌≡◌, ℕ, Bool, true, false, nat_eq, List, [], ◌∷◌, ◌++◌, Option, is_some, if◌then◌else◌, fold, count_by, Contains, ◌↔◌}
 use Rattle.std.specs.Str.{bytes_eq}
 use Rattle.hp_base.specs.declared.span.Span.{Span}
 use Rattle.hp_first.specs.First.{IsFirst, sooner, merged}
@@ -92,12 +92,13 @@ abbrev pub of_others : (List ℕ → Use) → List Decl → List Breach
 of_others uses [] = []
 of_others uses (d ∷ ds) = of_other d.span d.name (uses d.name) ++ of_others uses ds
 
--- A claim on a variable is false in the way that the breach names.
+-- A claim on a variable is false in the way that the breach names. What a block of a control equation lacks is named of names alone
+-- that are defined at most once.
 abbrev pub IsMisdefined : List ℕ → Bool → Eqns → Breach → Type 0
 IsMisdefined x is_last es (wrong at t u) = ⊥
 IsMisdefined x is_last es (undefined at y) = SomeDefines es x → ⊥
 IsMisdefined x is_last es (twice at y) = DefineAtMostOnce es x → ⊥
-IsMisdefined x is_last es (branch at y) = (is_last ≡ false) × (DefineWhole es x → ⊥)
+IsMisdefined x is_last es (branch at y) = (is_last ≡ false) × (DefineAtMostOnce es x × (DefineWhole es x → ⊥))
 
 -- A claim is false, and the breach says so.
 abbrev pub Breaks : Claim → Breach → Type 0
@@ -110,6 +111,21 @@ Breaks (stands_once at c given) b = (StandsOnce c given → ⊥) × (b ≡ branc
 abbrev pub AreBreachesOf : List Claim → List Breach → Type 0
 AreBreachesOf cs [] = Unit {0}
 AreBreachesOf cs (b ∷ bs) = ((c : Claim) × (Contains cs c × Breaks c b)) × AreBreachesOf cs bs
+
+-- A claim on a variable has the use "twice" exactly where its equations do not define the name at most once.
+abbrev pub IsTwiceUsed : Claim → Type 0
+IsTwiceUsed (wants at t u) = Unit {0}
+IsTwiceUsed (has_equation at x is_last es) = (use_in_eqns es x ≡ Twice) ↔ (DefineAtMostOnce es x → ⊥)
+IsTwiceUsed (has_none at x es) = (use_in_eqns es x ≡ Twice) ↔ (DefineAtMostOnce es x → ⊥)
+IsTwiceUsed (stands_once at c given) = Unit {0}
+
+-- A variable is named as defined twice, and as nothing else, exactly where its equations do not define it at most once; a name that
+-- is to have no equation, exactly where some equation defines it.
+abbrev pub IsTwiceFirst : Claim → Type 0
+IsTwiceFirst (wants at t u) = Unit {0}
+IsTwiceFirst (has_equation at x is_last es) = (breach_in (has_equation at x is_last es) ≡ twice at x ∷ []) ↔ (DefineAtMostOnce es x → ⊥)
+IsTwiceFirst (has_none at x es) = (breach_in (has_none at x es) ≡ twice at x ∷ []) ↔ SomeDefines es x
+IsTwiceFirst (stands_once at c given) = Unit {0}
 
 -- what is found first when some breaches are met too, and when some claims are looked at
 unfoldable pub found_among : Option Breach → List Breach → Option Breach

@@ -1,12 +1,12 @@
 //! The types of a program, and the definitions of its names.
 #![tactic(auto)]
 
-ghost use Rattle.std.specs.Prelude.{◌≡◌, ◌↔◌, [], OnOk, IfOk, IfErr};
+ghost use Rattle.std.specs.Prelude.{◌≡◌, ◌↔◌, [], All, OnOk, IfOk, IfErr};
 ghost use Rattle.hp_typing.specs.Rules.{WellTyped};
 ghost use Rattle.hp_typing.specs.DefinitionRules.{WellDefined};
 ghost use Rattle.hp_typing.specs.Definedness.{definition_claims};
 ghost use Rattle.hp_typing.specs.Claims.{claims};
-ghost use Rattle.hp_typing.specs.Breaches.{breaches, or_else, text_of, error_of, AreBreachesOf, NamesFirst};
+ghost use Rattle.hp_typing.specs.Breaches.{breaches, or_else, text_of, error_of, AreBreachesOf, IsTwiceUsed, IsTwiceFirst, NamesFirst};
 ghost use Rattle.hp_typing.specs.Seen.{shape_seen, cons_seen};
 
 mod blocks;
@@ -47,6 +47,10 @@ pub fn check_types(alloc: Global, p: &Program) -> Result<(), TypeErr>
     ensures complete_definitions { WellDefined p.now ↔ (breaches (definition_claims p.now) ≡ []) }
     ensures sound { AreBreachesOf (claims p.now) (breaches (claims p.now)) }
     ensures sound_definitions { AreBreachesOf (definition_claims p.now) (breaches (definition_claims p.now)) }
+
+    // That a name is defined twice is found wherever it is so, and it comes before all else that is wrong of the name.
+    ensures twice_used { All IsTwiceUsed (definition_claims p.now) }
+    ensures twice_first { All IsTwiceFirst (definition_claims p.now) }
 {
     match check_items(alloc, &p.items)? {
         None => match check_definitions(alloc, &p.items)? {

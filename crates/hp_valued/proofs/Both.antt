@@ -10,7 +10,7 @@ use Rattle.hp_tree.specs.Blocks.{Decl, Block, block, Eqns, no_eqn, more_eqns, Eq
 use Rattle.hp_tree.specs.Programs.{TypeDecl, Contract, Node}
 use Rattle.hp_tree.specs.Operators.{constant_of}
 use Rattle.hp_tree.specs.Values.{IsOf}
-use Rattle.hp_tree.specs.Instant.{Body, Guard, Named, Equations, Head, Tail, Arms as ArmsOf, States as StatesOf}
+use Rattle.hp_tree.specs.Instant.{Body, Observer, Named, Equations, Head, Tail, Arms as ArmsOf, States as StatesOf}
 use Rattle.hp_tree.specs.Meaning.{declares, some_defines, block_defines, controls_of}
 use Rattle.hp_known.specs.Known.{lookup}
 use Rattle.hp_typing.specs.Scopes.{with_variables, inside, inside_node}
@@ -133,9 +133,9 @@ module _ (types : List TypeDecl) (among : List ℕ → Option Node) where
   abbrev pub ContractOk : Scope → Lasts → Assignment → Option Contract → Type 0
   ContractOk s lasts class None = ⊤
   ContractOk s lasts class (Some c) =
-      BlockOk s none_second lasts (λ p. class (Guard ∷ p)) c.body
-      × (ToldOk (inside s c.body) (classes_of c.body none_second (λ p. class (Guard ∷ p))) (lasts_of c.body lasts) c.assume
-      × ToldOk (inside s c.body) (classes_of c.body none_second (λ p. class (Guard ∷ p))) (lasts_of c.body lasts) c.enforce)
+      BlockOk s none_second lasts (λ p. class (Observer ∷ p)) c.body
+      × (ToldOk (inside s c.body) (classes_of c.body none_second (λ p. class (Observer ∷ p))) (lasts_of c.body lasts) c.assume
+      × ToldOk (inside s c.body) (classes_of c.body none_second (λ p. class (Observer ∷ p))) (lasts_of c.body lasts) c.enforce)
 
   abbrev pub NodeOk : Scope → Assignment → Node → Type 0
   NodeOk s class n =

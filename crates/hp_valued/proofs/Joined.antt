@@ -10,7 +10,7 @@ use Rattle.hp_tree.specs.declared.block.Trans.{Trans}
 use Rattle.hp_tree.specs.Expressions.{Expr, constant, variable, last_of, one, two, choose, pre, fby, arrow, when_is, merge, call, Exprs, no_expr, more_exprs, Parts, no_part, more_parts}
 use Rattle.hp_tree.specs.Blocks.{Decl, Block, block, Eqns, no_eqn, more_eqns, Eqn, define, switch, reset, automaton, Arms, no_arm, more_arms, States, no_state, more_states}
 use Rattle.hp_tree.specs.Programs.{TypeDecl, Contract, Node}
-use Rattle.hp_tree.specs.Instant.{Body, Guard, Named, Equations, Head, Tail, Arms as ArmsOf, States as StatesOf}
+use Rattle.hp_tree.specs.Instant.{Body, Observer, Named, Equations, Head, Tail, Arms as ArmsOf, States as StatesOf}
 use Rattle.hp_tree.specs.Meaning.{is_among, declares, defines, some_defines, block_defines}
 use Rattle.hp_typing.specs.Scopes.{with_variables, inside, inside_node}
 use Rattle.hp_typed.specs.Scopes.{Scope}
@@ -286,10 +286,10 @@ module _ (types : List TypeDecl) (among : List ℕ → Option Node) where
         (told_ok c.body s lasts class k c.assume ok.1.0 (met_left assumed enforced h1), told_ok c.body s lasts class k c.enforce ok.1.1 (met_right assumed enforced h1)),
       )
 
-  contract_as : (o : Option Contract) (s : Scope) (lasts : Lasts) (class : Assignment) (n : Node) → n.contract ≡ o → ContractHere s none_second lasts (seen_in_contract (known_outputs n class) (λ q. class (Guard ∷ q)) o) o → ContractOk types among s lasts (seen_in_node class n) o
+  contract_as : (o : Option Contract) (s : Scope) (lasts : Lasts) (class : Assignment) (n : Node) → n.contract ≡ o → ContractHere s none_second lasts (seen_in_contract (known_outputs n class) (λ q. class (Observer ∷ q)) o) o → ContractOk types among s lasts (seen_in_node class n) o
   contract_as None s lasts class n e h = tt
   contract_as (Some c) s lasts class n e h =
-      let same : (λ q. seen_in_contract (known_outputs n class) (λ q. class (Guard ∷ q)) (Some c) q) ≡ (λ q. seen_in_node class n (Guard ∷ q)) = λ i q. seen_in_contract (known_outputs n class) (λ q. class (Guard ∷ q)) (sym e i) q in
+      let same : (λ q. seen_in_contract (known_outputs n class) (λ q. class (Observer ∷ q)) (Some c) q) ≡ (λ q. seen_in_node class n (Observer ∷ q)) = λ i q. seen_in_contract (known_outputs n class) (λ q. class (Observer ∷ q)) (sym e i) q in
       subst (λ z. BlockOk types among s none_second lasts z c.body × (ToldOk types among (inside s c.body) (classes_of c.body none_second z) (lasts_of c.body lasts) c.assume × ToldOk types among (inside s c.body) (classes_of c.body none_second z) (lasts_of c.body lasts) c.enforce)) same h
 
   -- the outputs of a node are First, as all that is read outside of its body is
@@ -315,7 +315,7 @@ module _ (types : List TypeDecl) (among : List ℕ → Option Node) where
   node_ok n s class ok c =
       let K = known_outputs n class in
       let first = all_first n class ok.1.1.1.0 c.definite in
-      let guarded = of_contract K (λ q. class (Guard ∷ q)) n.contract in
+      let observed = of_contract K (λ q. class (Observer ∷ q)) n.contract in
       let own = of_block K (λ q. class (Body ∷ q)) n.body in (
         ok.0,
         (
@@ -326,10 +326,10 @@ module _ (types : List TypeDecl) (among : List ℕ → Option Node) where
               equations_ok n.body n.outputs ok.1.1.1.0,
               (
                 subst (λ z. BlockOk types among (body_scope s n) z (lasts_in n.outputs no_lasts) (seen_in_block K (λ q. class (Body ∷ q)) n.body) n.body) first
-                    (block_ok n.body (body_scope s n) (lasts_in n.outputs no_lasts) (λ q. class (Body ∷ q)) K ok.1.1.1.1.0 c.follow.1 (met_right guarded own c.met) c.definite.1),
+                    (block_ok n.body (body_scope s n) (lasts_in n.outputs no_lasts) (λ q. class (Body ∷ q)) K ok.1.1.1.1.0 c.follow.1 (met_right observed own c.met) c.definite.1),
                 contract_as n.contract (inside_node s n) (lasts_in n.outputs no_lasts) class n refl
-                    (subst (λ z. ContractHere (inside_node s n) z (lasts_in n.outputs no_lasts) (seen_in_contract K (λ q. class (Guard ∷ q)) n.contract) n.contract) first
-                    (contract_ok n.contract (inside_node s n) (lasts_in n.outputs no_lasts) (λ q. class (Guard ∷ q)) K ok.1.1.1.1.1 c.follow.0 (met_left guarded own c.met) c.definite.0)),
+                    (subst (λ z. ContractHere (inside_node s n) z (lasts_in n.outputs no_lasts) (seen_in_contract K (λ q. class (Observer ∷ q)) n.contract) n.contract) first
+                    (contract_ok n.contract (inside_node s n) (lasts_in n.outputs no_lasts) (λ q. class (Observer ∷ q)) K ok.1.1.1.1.1 c.follow.0 (met_left observed own c.met) c.definite.0)),
               ),
             ),
           ),

@@ -4,7 +4,7 @@ use Rattle.hp_base.specs.declared.value.Value.TheVariants.{B}
 use Rattle.hp_tree.specs.Expressions.{Expr}
 use Rattle.hp_tree.specs.Blocks.{Decl, Block, block, Eqns, no_eqn, more_eqns, Eqn, define, switch, reset, automaton, Arms, no_arm, more_arms, States, no_state, more_states}
 use Rattle.hp_tree.specs.Programs.{TypeDecl, Contract, Node}
-use Rattle.hp_tree.specs.Instant.{Body, Guard, Assume, Enforce, Fresh, Equations, Head, Tail, Right, Test, Arms as ArmsOf, States as StatesOf, Until, Unless, Active, Next, Instant, part}
+use Rattle.hp_tree.specs.Instant.{Body, Observer, Assume, Enforce, Fresh, Equations, Head, Tail, Right, Test, Arms as ArmsOf, States as StatesOf, Until, Unless, Active, Next, Instant, part}
 use Rattle.hp_tree.specs.Meaning.{clock_of, controls_of}
 use Rattle.hp_typing.specs.Scopes.{with_variables, inside, inside_node}
 use Rattle.hp_typed.specs.Scopes.{Scope}
@@ -64,10 +64,10 @@ module _ (types : List TypeDecl) (nils : Bool) (callee : List ℕ → Instant �
   abbrev pub ContractAt : Scope → Assignment → Block → Option Expr → Option Expr → Instant → Type 0
   ContractAt s class b assume enforce i =
       (there : Presence) × (IsPresence there
-      × (BlockAt s none_second (λ p. class (Guard ∷ p)) there b (part Guard i)
-      × ((i (Guard ∷ Fresh ∷ []) ≡ B false)
-      × (ToldFits types nils callee (inside s b) (classes_of b none_second (λ p. class (Guard ∷ p))) there assume (part Assume i)
-      × ToldFits types nils callee (inside s b) (classes_of b none_second (λ p. class (Guard ∷ p))) there enforce (part Enforce i)))))
+      × (BlockAt s none_second (λ p. class (Observer ∷ p)) there b (part Observer i)
+      × ((i (Observer ∷ Fresh ∷ []) ≡ B false)
+      × (ToldFits types nils callee (inside s b) (classes_of b none_second (λ p. class (Observer ∷ p))) there assume (part Assume i)
+      × ToldFits types nils callee (inside s b) (classes_of b none_second (λ p. class (Observer ∷ p))) there enforce (part Enforce i)))))
 
   abbrev pub ContractLoose : Scope → Assignment → Option Contract → Instant → Type 0
   ContractLoose s class None i = ⊤

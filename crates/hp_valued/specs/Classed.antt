@@ -3,7 +3,7 @@ use Rattle.std.specs.Prelude.{◌≡◌, ⊤, ℕ, Bool, false, IsTrue, IsFalse,
 use Rattle.hp_base.specs.declared.ty.Const.{Const}
 use Rattle.hp_tree.specs.Blocks.{Decl, Block, block, Eqns, no_eqn, more_eqns, Eqn, define, switch, reset, automaton, Arms, no_arm, more_arms, States, no_state, more_states}
 use Rattle.hp_tree.specs.Programs.{Contract, Node}
-use Rattle.hp_tree.specs.Instant.{Body, Guard, Named, Equations, Head, Tail, Arms as ArmsOf, States as StatesOf}
+use Rattle.hp_tree.specs.Instant.{Body, Observer, Named, Equations, Head, Tail, Arms as ArmsOf, States as StatesOf}
 use Rattle.hp_tree.specs.Meaning.{declares, defines, some_defines}
 use Rattle.hp_init.specs.Classes.{Classes, Assignment, Known, or_first, with_declared, known_in, known_within, known_outputs, NodeFollows}
 use Rattle.hp_init.specs.Wants.{of_node}
@@ -56,7 +56,7 @@ seen_in_contract k class None p = false
 seen_in_contract k class (Some c) p = seen_in_block k class c.body p
 
 abbrev pub seen_in_node : Assignment → Node → Assignment
-seen_in_node class n (Guard ∷ p) = seen_in_contract (known_outputs n class) (λ q. class (Guard ∷ q)) n.contract p
+seen_in_node class n (Observer ∷ p) = seen_in_contract (known_outputs n class) (λ q. class (Observer ∷ q)) n.contract p
 seen_in_node class n (Body ∷ p) = seen_in_block (known_outputs n class) (λ q. class (Body ∷ q)) n.body p
 seen_in_node class n p = false
 
@@ -102,7 +102,7 @@ ContractDefinite k class (Some c) = BlockDefinite k class c.body
 
 abbrev pub NodeDefinite : Assignment → Node → Type 0
 NodeDefinite class n =
-    ContractDefinite (known_outputs n class) (λ p. class (Guard ∷ p)) n.contract × BlockDefinite (known_outputs n class) (λ p. class (Body ∷ p)) n.body
+    ContractDefinite (known_outputs n class) (λ p. class (Observer ∷ p)) n.contract × BlockDefinite (known_outputs n class) (λ p. class (Body ∷ p)) n.body
 
 -- Classes of a node: they follow its definitions, what is wanted First is, and so is each name that has to be.
 pub record HasClasses (class : Assignment) (n : Node) : Type 0 where

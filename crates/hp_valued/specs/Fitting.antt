@@ -10,7 +10,7 @@ use Rattle.hp_tree.specs.Blocks.{Decl, Block, block, Eqns, no_eqn, more_eqns, Eq
 use Rattle.hp_tree.specs.Programs.{TypeDecl, Contract, Node}
 use Rattle.hp_tree.specs.Operators.{is_cons}
 use Rattle.hp_tree.specs.Values.{IsOf, AreOf}
-use Rattle.hp_tree.specs.Instant.{Inputs, Controls, Body, Guard, Assume, Enforce, Named, Fresh, Equations, Head, Tail, Right, Test, Arms as ArmsOf, States as StatesOf, Until, Unless, Active, Next, Pending, First, Second, Third, Args, Instance, Instant, Place, part, top, Clock, holds, without}
+use Rattle.hp_tree.specs.Instant.{Inputs, Controls, Body, Observer, Assume, Enforce, Named, Fresh, Equations, Head, Tail, Right, Test, Arms as ArmsOf, States as StatesOf, Until, Unless, Active, Next, Pending, First, Second, Third, Args, Instance, Instant, Place, part, top, Clock, holds, without}
 use Rattle.hp_tree.specs.Meaning.{Names, declares, some_defines, inside as inside_names, within, input_of, clock_in, clock_of, state_word, state_of, controls_of}
 use Rattle.hp_tree.specs.Reaction.{row_of}
 use Rattle.hp_known.specs.Known.{lookup}
@@ -181,10 +181,10 @@ module _ (types : List TypeDecl) (nils : Bool) (callee : List ℕ → Instant �
   -- A contract's block never begins anew; what it assumes and enforces stands on the clocks of the block.
   abbrev pub ContractAt : Scope → Assignment → Names → Block → Option Expr → Option Expr → Instant → Type 0
   ContractAt s class names b assume enforce i =
-      BlockFits s none_second (λ p. class (Guard ∷ p)) names b (part Guard i)
-      × ((i (Guard ∷ Fresh ∷ []) ≡ B false)
-      × (ToldFits (inside s b) (classes_of b none_second (λ p. class (Guard ∷ p))) (held (names_inside b names (part Guard i))) assume (part Assume i)
-      × ToldFits (inside s b) (classes_of b none_second (λ p. class (Guard ∷ p))) (held (names_inside b names (part Guard i))) enforce (part Enforce i)))
+      BlockFits s none_second (λ p. class (Observer ∷ p)) names b (part Observer i)
+      × ((i (Observer ∷ Fresh ∷ []) ≡ B false)
+      × (ToldFits (inside s b) (classes_of b none_second (λ p. class (Observer ∷ p))) (held (names_inside b names (part Observer i))) assume (part Assume i)
+      × ToldFits (inside s b) (classes_of b none_second (λ p. class (Observer ∷ p))) (held (names_inside b names (part Observer i))) enforce (part Enforce i)))
 
   abbrev pub ContractFits : Scope → Assignment → Names → Option Contract → Instant → Type 0
   ContractFits s class names None i = ⊤

@@ -12,7 +12,7 @@ use Rattle.hp_tree.specs.Expressions.{Expr, constant, variable, last_of, one, tw
 use Rattle.hp_tree.specs.Blocks.{Decl, Block, block, Eqns, no_eqn, more_eqns, Eqn, define, switch, reset, automaton, Arms, no_arm, more_arms, States, no_state, more_states}
 use Rattle.hp_tree.specs.Programs.{TypeDecl, Contract, Node}
 use Rattle.hp_tree.specs.Operators.{is_cons, is_true}
-use Rattle.hp_tree.specs.Instant.{Step, Controls, Body, Guard, Assume, Enforce, Named, Fresh, Active, Equations, Head, Tail, Right, Test, Arms as ArmsOf, States as StatesOf, Until, Unless, First, Second, Third, Args, Instance, Place, Instant, part, top, nothing, in_row, Clock, holds, without}
+use Rattle.hp_tree.specs.Instant.{Step, Controls, Body, Observer, Assume, Enforce, Named, Fresh, Active, Equations, Head, Tail, Right, Test, Arms as ArmsOf, States as StatesOf, Until, Unless, First, Second, Third, Args, Instance, Place, Instant, part, top, nothing, in_row, Clock, holds, without}
 use Rattle.hp_tree.specs.Meaning.{Names, defines, within, inside, clock_of, names_of, state_of, controls_of, Jump, node_among}
 use Rattle.hp_causal.specs.Sources.{below}
 use Rattle.hp_causal.specs.declared.point.PointKind.TheVariants as kind
@@ -20,11 +20,11 @@ use Rattle.hp_causal.specs.Points.{Placed, Whereabouts, calls, calls_in_all, cal
 use Rattle.hp_contract.specs.FreePlaces.{is_call, instance_at, calls_of}
 use Rattle.hp_wires.specs.Wired.{Held, held_at, absent, Callees, lasts_in, values_of, wired, wired_all, wired_parts, shown, shown_all, shown_parts}
 use Rattle.hp_wires.specs.WiredBlocks.{read_of, lasts_of, anew, selected_in, wired_conditions, strong_in, wired_block, wired_equations, wired_equation, wired_arms, wired_states, shown_conditions, shown_block, shown_equations, shown_equation, shown_arms, shown_states}
-use Rattle.hp_wires.specs.WiredNodes.{wired_told, shown_told, wired_guard, shown_guard, body_names, contract_names, wired_node, shown_node}
+use Rattle.hp_wires.specs.WiredNodes.{wired_told, shown_told, wired_observer, shown_observer, body_names, contract_names, wired_node, shown_node}
 use Rattle.hp_causal.specs.Abstract.{given_outputs}
 use Rattle.hp_wires.specs.WiredCallees.{no_callees, alone_names, own_last, wired_by, shown_by, callee_wires}
 use Rattle.hp_wires.specs.Laws.{Tops, Seen, CallsLaw}
-use Rattle.hp_wires.proofs.Nodes.{guard_tops}
+use Rattle.hp_wires.proofs.Nodes.{observer_tops}
 
 -- ---- a property of each call among some points
 
@@ -320,13 +320,13 @@ module _ (types : List TypeDecl) (C : Callees) (tops : (f : List ℕ) (ins : Lis
   told_seen None names last m w i a h = tt
   told_seen (Some e) names last m w i a h = expr_seen e [] names last m w i a h
 
-  contract_seen : (o : Option Contract) (names last : Names) (m : Held) (w : Whereabouts) (i : Instant) → At (below Guard w) (part Guard (shown_guard types C o names last m i)) (part Guard i) → At (below Assume w) (part Assume (shown_guard types C o names last m i)) (part Assume i) → At (below Enforce w) (part Enforce (shown_guard types C o names last m i)) (part Enforce i) → part Guard i ≡ part Guard (wired_guard types C o names last m i) → part Assume i ≡ part Assume (wired_guard types C o names last m i) → part Enforce i ≡ part Enforce (wired_guard types C o names last m i) → Each Q (points_of_contract o w)
+  contract_seen : (o : Option Contract) (names last : Names) (m : Held) (w : Whereabouts) (i : Instant) → At (below Observer w) (part Observer (shown_observer types C o names last m i)) (part Observer i) → At (below Assume w) (part Assume (shown_observer types C o names last m i)) (part Assume i) → At (below Enforce w) (part Enforce (shown_observer types C o names last m i)) (part Enforce i) → part Observer i ≡ part Observer (wired_observer types C o names last m i) → part Assume i ≡ part Assume (wired_observer types C o names last m i) → part Enforce i ≡ part Enforce (wired_observer types C o names last m i) → Each Q (points_of_contract o w)
   contract_seen None names last m w i ag aa ae hg ha he = tt
   contract_seen (Some c) names last m w i ag aa ae hg ha he =
-      let inner = read_of c.body names (part Guard i) in
-      let own = lasts_of c.body (part Guard m.memory) last in
-      both Q (points_of [] c.body (below Guard w)) (calls_told c.assume (below Assume w) ++ calls_told c.enforce (below Enforce w))
-      (block_seen [] c.body false names last (held_at Guard m) (below Guard w) (part Guard i) ag hg)
+      let inner = read_of c.body names (part Observer i) in
+      let own = lasts_of c.body (part Observer m.memory) last in
+      both Q (points_of [] c.body (below Observer w)) (calls_told c.assume (below Assume w) ++ calls_told c.enforce (below Enforce w))
+      (block_seen [] c.body false names last (held_at Observer m) (below Observer w) (part Observer i) ag hg)
       (both Q (calls_told c.assume (below Assume w)) (calls_told c.enforce (below Enforce w))
       (told_seen c.assume inner own (held_at Assume m) (below Assume w) (part Assume i) aa ha)
       (told_seen c.enforce inner own (held_at Enforce m) (below Enforce w) (part Enforce i) ae he))
@@ -345,15 +345,15 @@ module _ (types : List TypeDecl) (C : Callees) (tops : (f : List ℕ) (ins : Lis
       (both R cs (gs ++ bs) (each_control R (controls_of n.contract) (λ p. Controls ∷ p))
       (both R gs bs
       (contract_seen types C tops S now n.contract (contract_names types C n inputs now) last m (λ p. p) now
-      (down types C tops S now Guard (λ p. p) S now root) (down types C tops S now Assume (λ p. p) S now root) (down types C tops S now Enforce (λ p. p) S now root)
-      (ap (part Guard) h) (ap (part Assume) h) (ap (part Enforce) h))
+      (down types C tops S now Observer (λ p. p) S now root) (down types C tops S now Assume (λ p. p) S now root) (down types C tops S now Enforce (λ p. p) S now root)
+      (ap (part Observer) h) (ap (part Assume) h) (ap (part Enforce) h))
       (block_seen types C tops S now (names_of n.outputs) n.body false (body_names types C n inputs m.free) last (held_at Body m) (λ p. Body ∷ p) (part Body now)
       (down types C tops S now Body (λ p. p) S now root) (ap (part Body) h))))
 
 callee_tops : (types : List TypeDecl) (o : Option Node) (ins : List Value) (m : Held) (i : Instant) → i ≡ wired_by types o ins m i → Tops (shown_by types o ins m i) i
 callee_tops types None ins m i h = (refl, (sym (ap (λ w. w (Assume ∷ [])) h), sym (ap (λ w. w (Enforce ∷ [])) h)))
 callee_tops types (Some n) ins m i h =
-    let t = guard_tops types no_callees n.contract (alone_names n ins m.free) (own_last n m) m i nothing (given_outputs n.outputs m.free absent) ins [] h in
+    let t = observer_tops types no_callees n.contract (alone_names n ins m.free) (own_last n m) m i nothing (given_outputs n.outputs m.free absent) ins [] h in
     (refl, (t.0, t.1))
 
 pub calls_seen : CallsLaw

@@ -9,17 +9,17 @@ use Rattle.hp_tree.specs.declared.program.Item.TheVariants.{TypeItem, NodeItem}
 use Rattle.hp_tree.specs.Blocks.{Decl}
 use Rattle.hp_tree.specs.Programs.{TypeDecl, Contract, Node}
 use Rattle.hp_tree.specs.Instant.{Named, Fresh, Instant, Past, Given, nothing, in_node}
-use Rattle.hp_tree.specs.Meaning.{Names, lasts, names_of, guard, no_nodes, node_among}
+use Rattle.hp_tree.specs.Meaning.{Names, lasts, names_of, observer, no_nodes, node_among}
 use Rattle.hp_causal.specs.Abstract.{given_outputs}
 use Rattle.hp_causal.specs.Clocked.{Standing, ContractRight, ClocksRight}
 use Rattle.hp_contract.specs.Memory.{is_last, in_memory, remembers_contract, remembers_callee}
 use Rattle.hp_wires.specs.Wired.{filled_abstraction, absent, Held, held, lasts_in, value}
-use Rattle.hp_wires.specs.WiredNodes.{wired_guard, shown_guard, SoundGuard, FillsGuard, last_outputs}
+use Rattle.hp_wires.specs.WiredNodes.{wired_observer, shown_observer, SoundObserver, FillsObserver, last_outputs}
 use Rattle.hp_wires.specs.WiredCallees.{no_callees, alone_names, alone_in, filled_callees, wired_alone, shown_alone, next_told_of, next_alone, SoundAlone, outputs_by, alone_by, wired_by, shown_by, next_by, SoundBy, FillsBy, callee_wires}
 use Rattle.hp_wires.specs.Laws.{AllClocksRight}
 use Rattle.hp_wires.proofs.Exprs.{CallsMirror, given}
 use Rattle.hp_wires.proofs.Names.{lasts_newest}
-use Rattle.hp_wires.proofs.Nodes.{last_case, guard_met, guard_kept, outputs_last}
+use Rattle.hp_wires.proofs.Nodes.{last_case, observer_met, observer_kept, outputs_last}
 
 pub none_mirror : CallsMirror no_nodes no_callees
 none_mirror =
@@ -46,23 +46,23 @@ module _ (types : List TypeDecl) where
   abbrev last_alone : List Decl → Option Contract → Instant → Past → Names
   last_alone ds o fill G = lasts_in ds (memory_alone ds o fill G) absent
 
-  contract_met : (ds : List Decl) (o : Option Contract) (st : Standing) (names outsI outsW : Names) (fill free : Instant) (G : Past) (W : Instant) (ins : List Value) → ContractRight st o → FillsGuard types no_callees o fill free → SoundGuard types no_callees o names (last_alone ds o fill G) (held_alone ds o fill free G) W → W ≡ in_node outsW ins [] nothing (wired_guard types no_callees o names (last_alone ds o fill G) (held_alone ds o fill free G) W) → shown_guard types no_callees o names (last_alone ds o fill G) (held_alone ds o fill free G) W ≡ guard types filled_abstraction no_nodes o names (lasts (value types) ds G absent) (given G free) (in_node outsI ins [] nothing (shown_guard types no_callees o names (last_alone ds o fill G) (held_alone ds o fill free G) W))
+  contract_met : (ds : List Decl) (o : Option Contract) (st : Standing) (names outsI outsW : Names) (fill free : Instant) (G : Past) (W : Instant) (ins : List Value) → ContractRight st o → FillsObserver types no_callees o fill free → SoundObserver types no_callees o names (last_alone ds o fill G) (held_alone ds o fill free G) W → W ≡ in_node outsW ins [] nothing (wired_observer types no_callees o names (last_alone ds o fill G) (held_alone ds o fill free G) W) → shown_observer types no_callees o names (last_alone ds o fill G) (held_alone ds o fill free G) W ≡ observer types filled_abstraction no_nodes o names (lasts (value types) ds G absent) (given G free) (in_node outsI ins [] nothing (shown_observer types no_callees o names (last_alone ds o fill G) (held_alone ds o fill free G) W))
   contract_met ds None st names outsI outsW fill free G W ins r fi so h = refl
   contract_met ds (Some c) st names outsI outsW fill free G W ins r fi so h =
-      guard_met types no_nodes no_callees none_mirror (Some c) st names (last_alone ds (Some c) fill G) fill free G W nothing nothing nothing (last_outputs types no_callees ds G) outsI outsW ins [] r fi so h
-      ∙ ap (λ l. guard types filled_abstraction no_nodes (Some c) names l (given G free) (in_node outsI ins [] nothing (shown_guard types no_callees (Some c) names (last_alone ds (Some c) fill G) (held_alone ds (Some c) fill free G) W)))
+      observer_met types no_nodes no_callees none_mirror (Some c) st names (last_alone ds (Some c) fill G) fill free G W nothing nothing nothing (last_outputs types no_callees ds G) outsI outsW ins [] r fi so h
+      ∙ ap (λ l. observer types filled_abstraction no_nodes (Some c) names l (given G free) (in_node outsI ins [] nothing (shown_observer types no_callees (Some c) names (last_alone ds (Some c) fill G) (held_alone ds (Some c) fill free G) W)))
       (sym (outputs_last types no_nodes no_callees none_mirror ds nothing (remembers_contract types no_callees.remembers (Some c) fill G) G absent))
 
-  contract_kept : (ds : List Decl) (o : Option Contract) (st : Standing) (names outsW : Names) (fill free : Instant) (G : Past) (W : Instant) (ins : List Value) → ContractRight st o → SoundGuard types no_callees o names (last_alone ds o fill G) (held_alone ds o fill free G) W → W ≡ in_node outsW ins [] nothing (wired_guard types no_callees o names (last_alone ds o fill G) (held_alone ds o fill free G) W) → memory_alone ds o fill (in_node (λ x. W (Named x ∷ [])) ins [] nothing (shown_guard types no_callees o names (last_alone ds o fill G) (held_alone ds o fill free G) W) ∷ G) ≡ next_told_of types ds o names (last_alone ds o fill G) (held_alone ds o fill free G) W
+  contract_kept : (ds : List Decl) (o : Option Contract) (st : Standing) (names outsW : Names) (fill free : Instant) (G : Past) (W : Instant) (ins : List Value) → ContractRight st o → SoundObserver types no_callees o names (last_alone ds o fill G) (held_alone ds o fill free G) W → W ≡ in_node outsW ins [] nothing (wired_observer types no_callees o names (last_alone ds o fill G) (held_alone ds o fill free G) W) → memory_alone ds o fill (in_node (λ x. W (Named x ∷ [])) ins [] nothing (shown_observer types no_callees o names (last_alone ds o fill G) (held_alone ds o fill free G) W) ∷ G) ≡ next_told_of types ds o names (last_alone ds o fill G) (held_alone ds o fill free G) W
   contract_kept ds None st names outsW fill free G W ins r so h = refl
   contract_kept ds (Some c) st names outsW fill free G W ins r so h =
-      let sh = in_node (λ x. W (Named x ∷ [])) ins [] nothing (shown_guard types no_callees (Some c) names (last_alone ds (Some c) fill G) (held_alone ds (Some c) fill free G) W) in
+      let sh = in_node (λ x. W (Named x ∷ [])) ins [] nothing (shown_observer types no_callees (Some c) names (last_alone ds (Some c) fill G) (held_alone ds (Some c) fill free G) W) in
       λ z. in_memory
       (λ x. last_case (is_last ds x) _ (W (Named x ∷ [])) (lasts_newest types no_callees ds sh G absent x) z)
       nothing
-      (guard_kept types no_nodes no_callees none_mirror (Some c) st names (last_alone ds (Some c) fill G) fill free G W nothing nothing nothing (last_outputs types no_callees ds G) (λ x. W (Named x ∷ [])) outsW ins [] r so h z)
+      (observer_kept types no_nodes no_callees none_mirror (Some c) st names (last_alone ds (Some c) fill G) fill free G W nothing nothing nothing (last_outputs types no_callees ds G) (λ x. W (Named x ∷ [])) outsW ins [] r so h z)
 
-  alone_met : (n : Node) (st : Standing) (ins : List Value) (fill free : Instant) (G : Past) (W : Instant) → ContractRight st n.contract → FillsGuard types no_callees n.contract fill free → SoundAlone types n ins (held_alone n.outputs n.contract fill free G) W → W ≡ wired_alone types n ins (held_alone n.outputs n.contract fill free G) W → shown_alone types n ins (held_alone n.outputs n.contract fill free G) W ≡ alone_in types n ins (given G free) (shown_alone types n ins (held_alone n.outputs n.contract fill free G) W)
+  alone_met : (n : Node) (st : Standing) (ins : List Value) (fill free : Instant) (G : Past) (W : Instant) → ContractRight st n.contract → FillsObserver types no_callees n.contract fill free → SoundAlone types n ins (held_alone n.outputs n.contract fill free G) W → W ≡ wired_alone types n ins (held_alone n.outputs n.contract fill free G) W → shown_alone types n ins (held_alone n.outputs n.contract fill free G) W ≡ alone_in types n ins (given G free) (shown_alone types n ins (held_alone n.outputs n.contract fill free G) W)
   alone_met n st ins fill free G W r fi so h =
       λ z. in_node (λ x. ap (λ w. w (Named x ∷ [])) h z) ins [] nothing
       (contract_met n.outputs n.contract st (alone_names n ins free) (λ x. W (Named x ∷ [])) (given_outputs n.outputs free absent) fill free G W ins r fi so h z)

@@ -6,13 +6,13 @@ use Rattle.hp_base.specs.declared.value.Value.TheVariants.{Absent}
 use Rattle.hp_tree.specs.Expressions.{Expr}
 use Rattle.hp_tree.specs.Blocks.{Decl, Block, block}
 use Rattle.hp_tree.specs.Programs.{TypeDecl, Contract, Node}
-use Rattle.hp_tree.specs.Instant.{Body, Guard, Assume, Enforce, Named, Fresh, Instant, Past, Given, part, parts, own, nothing, in_guard, in_node, holds}
-use Rattle.hp_tree.specs.Meaning.{Names, Nodes, declares, some_defines, lasts, inside, clock_in, expr, read_in, last_in, scope, guard, node}
+use Rattle.hp_tree.specs.Instant.{Body, Observer, Assume, Enforce, Named, Fresh, Instant, Past, Given, part, parts, own, nothing, in_observer, in_node, holds}
+use Rattle.hp_tree.specs.Meaning.{Names, Nodes, declares, some_defines, lasts, inside, clock_in, expr, read_in, last_in, scope, observer, node}
 use Rattle.hp_causal.specs.Clocked.{Standing, standing_of, TellsOnBase, ContractRight, own_clock, ClocksRight}
 use Rattle.hp_contract.specs.Memory.{is_last, remembers, remembers_block, remembers_contract, in_memory}
 use Rattle.hp_wires.specs.Wired.{filled_abstraction, absent, Held, held, held_at, lasts_in, Callees, value}
 use Rattle.hp_wires.specs.WiredBlocks.{read_of, lasts_of, wired_block, shown_block}
-use Rattle.hp_wires.specs.WiredNodes.{wired_told, shown_told, next_told, SoundTold, FillsTold, wired_guard, shown_guard, next_guard, SoundGuard, FillsGuard, last_outputs, remembers_in, controls_in, body_names, contract_names, wired_node, shown_node, next_node, SoundNode, FillsNode}
+use Rattle.hp_wires.specs.WiredNodes.{wired_told, shown_told, next_told, SoundTold, FillsTold, wired_observer, shown_observer, next_observer, SoundObserver, FillsObserver, last_outputs, remembers_in, controls_in, body_names, contract_names, wired_node, shown_node, next_node, SoundNode, FillsNode}
 use Rattle.hp_wires.proofs.Exprs.{if_true, where_true, CallsMirror, given, Seen, shown_top, met, kept}
 use Rattle.hp_wires.proofs.Automata.{seen_read}
 use Rattle.hp_wires.proofs.Names.{SeenBase, lasts_same, lasts_newest, lasts_split, twice_if}
@@ -54,31 +54,31 @@ module _ (types : List TypeDecl) (N : Nodes) (C : Callees) (M : CallsMirror N C)
   lasts_at : (b : Block) (fill : Instant) (P : Past) (last : Names) → last_in types filled_abstraction N b P last ≡ lasts_of b (remembers_block types C.remembers b fill P) last
   lasts_at (block ds es) fill P last = lasts_same types C ds es fill P last
 
-  -- a contract's parts in a bigger instant: its memory, wires and what is given are read at the steps Guard, Assume and Enforce
-  abbrev pub guard_held : Option Contract → Names → Instant → Instant → Instant → Past → Held
-  guard_held o outs body fill free G = held fill (in_memory outs body (remembers_contract types C.remembers o fill G)) free
+  -- a contract's parts in a bigger instant: its memory, wires and what is given are read at the steps Observer, Assume and Enforce
+  abbrev pub observer_held : Option Contract → Names → Instant → Instant → Instant → Past → Held
+  observer_held o outs body fill free G = held fill (in_memory outs body (remembers_contract types C.remembers o fill G)) free
 
-  pub record GuardWires (c : Contract) (names last : Names) (m : Held) (W : Instant) : Type 0 where
-    pub block : part Guard W ≡ wired_block types C c.body false names last (held_at Guard m) (part Guard W)
-    pub assume : part Assume W ≡ wired_told types C c.assume (read_of c.body names (part Guard W)) (lasts_of c.body (part Guard m.memory) last) (held_at Assume m) (part Assume W)
-    pub enforce : part Enforce W ≡ wired_told types C c.enforce (read_of c.body names (part Guard W)) (lasts_of c.body (part Guard m.memory) last) (held_at Enforce m) (part Enforce W)
+  pub record ObserverWires (c : Contract) (names last : Names) (m : Held) (W : Instant) : Type 0 where
+    pub block : part Observer W ≡ wired_block types C c.body false names last (held_at Observer m) (part Observer W)
+    pub assume : part Assume W ≡ wired_told types C c.assume (read_of c.body names (part Observer W)) (lasts_of c.body (part Observer m.memory) last) (held_at Assume m) (part Assume W)
+    pub enforce : part Enforce W ≡ wired_told types C c.enforce (read_of c.body names (part Observer W)) (lasts_of c.body (part Observer m.memory) last) (held_at Enforce m) (part Enforce W)
 
   -- where all names are read alike
   alike : (st : Standing) (names : Names) → SeenBase st names names
   alike st names x e = refl
 
-  pub some_guard_met : (c : Contract) (st : Standing) (names last outs : Names) (body fill free : Instant) (G : Past) (W now : Instant) → ContractRight st (Some c) → FillsGuard types C (Some c) fill free → SoundGuard types C (Some c) names last (guard_held (Some c) outs body fill free G) W → GuardWires c names last (guard_held (Some c) outs body fill free G) W → part Guard now ≡ shown_block types C c.body names last (held_at Guard (guard_held (Some c) outs body fill free G)) (part Guard W) → part Assume now ≡ shown_told types C c.assume (read_of c.body names (part Guard W)) (held_at Assume (guard_held (Some c) outs body fill free G)) (part Assume W) → part Enforce now ≡ shown_told types C c.enforce (read_of c.body names (part Guard W)) (held_at Enforce (guard_held (Some c) outs body fill free G)) (part Enforce W) → shown_guard types C (Some c) names last (guard_held (Some c) outs body fill free G) W ≡ guard types filled_abstraction N (Some c) names last (given G free) now
-  some_guard_met c st names last outs body fill free G W now r fi so h ng na ne =
-      let P = own (parts Guard G) in
-      let mG = held_at Guard (guard_held (Some c) outs body fill free G) in
-      let SB = shown_block types C c.body names last mG (part Guard W) in
-      let nW = read_of c.body names (part Guard W) in
+  pub some_observer_met : (c : Contract) (st : Standing) (names last outs : Names) (body fill free : Instant) (G : Past) (W now : Instant) → ContractRight st (Some c) → FillsObserver types C (Some c) fill free → SoundObserver types C (Some c) names last (observer_held (Some c) outs body fill free G) W → ObserverWires c names last (observer_held (Some c) outs body fill free G) W → part Observer now ≡ shown_block types C c.body names last (held_at Observer (observer_held (Some c) outs body fill free G)) (part Observer W) → part Assume now ≡ shown_told types C c.assume (read_of c.body names (part Observer W)) (held_at Assume (observer_held (Some c) outs body fill free G)) (part Assume W) → part Enforce now ≡ shown_told types C c.enforce (read_of c.body names (part Observer W)) (held_at Enforce (observer_held (Some c) outs body fill free G)) (part Enforce W) → shown_observer types C (Some c) names last (observer_held (Some c) outs body fill free G) W ≡ observer types filled_abstraction N (Some c) names last (given G free) now
+  some_observer_met c st names last outs body fill free G W now r fi so h ng na ne =
+      let P = own (parts Observer G) in
+      let mG = held_at Observer (observer_held (Some c) outs body fill free G) in
+      let SB = shown_block types C c.body names last mG (part Observer W) in
+      let nW = read_of c.body names (part Observer W) in
       let lw = lasts_of c.body mG.memory last in
-      let seen = seen_read types N C M c.body st names names last mG (part Guard W) (alike st names) in
-      let lM : last_in types filled_abstraction N c.body P last ≡ lw = lasts_at c.body (part Guard fill) P last in
-      λ z. in_guard
-      ((met_block types N C M c.body false st names names last (part Guard fill) (part Guard free) P (part Guard W) (alike st names) r.0 fi.0 so.0 h.block
-      ∙ ap (λ i. scope types filled_abstraction N c.body false names last (given P (part Guard free)) i) (sym ng)) z)
+      let seen = seen_read types N C M c.body st names names last mG (part Observer W) (alike st names) in
+      let lM : last_in types filled_abstraction N c.body P last ≡ lw = lasts_at c.body (part Observer fill) P last in
+      λ z. in_observer
+      ((met_block types N C M c.body false st names names last (part Observer fill) (part Observer free) P (part Observer W) (alike st names) r.0 fi.0 so.0 h.block
+      ∙ ap (λ i. scope types filled_abstraction N c.body false names last (given P (part Observer free)) i) (sym ng)) z)
       ((told_met c.assume (standing_of c.body st) (read_in types filled_abstraction N c.body names SB) nW lw (part Assume fill) (part Assume free) (parts Assume G) (part Assume W) seen r.1 fi.1 so.1 h.assume
       ∙ (λ y. told c.assume (read_in types filled_abstraction N c.body names (sym ng y)) (sym lM y) (given (parts Assume G) (part Assume free)) (sym na y))) z)
       ((told_met c.enforce (standing_of c.body st) (read_in types filled_abstraction N c.body names SB) nW lw (part Enforce fill) (part Enforce free) (parts Enforce G) (part Enforce W) seen r.2 fi.2 so.2 h.enforce
@@ -86,8 +86,8 @@ module _ (types : List TypeDecl) (N : Nodes) (C : Callees) (M : CallsMirror N C)
 
   -- ---- nodes
 
-  pub outputs_last : (ds : List Decl) (body guard : Instant) (G : Past) (out : Names) → lasts (value types) ds G out ≡ lasts_in ds (in_memory (last_outputs types C ds G) body guard) out
-  outputs_last ds body guard G out = λ z x. (lasts_split types C ds G out absent x ∙ twice_if types C (is_last ds x) (lasts (value types) ds G absent x) (out x) Absent) z
+  pub outputs_last : (ds : List Decl) (body observer : Instant) (G : Past) (out : Names) → lasts (value types) ds G out ≡ lasts_in ds (in_memory (last_outputs types C ds G) body observer) out
+  outputs_last ds body observer G out = λ z x. (lasts_split types C ds G out absent x ∙ twice_if types C (is_last ds x) (lasts (value types) ds G absent x) (out x) Absent) z
 
   body_out : (b : Block) (names last : Names) (m : Held) (W : Instant) (d : Bool) (x : List ℕ) → W ≡ wired_block types C b false names last m W → (IsTrue d → own_clock b x ≡ []) → (if d then W (Named x ∷ []) else Absent) ≡ (if d then shown_block types C b names last m W (Named x ∷ []) else Absent)
   body_out (block ds es) names last m W d x h f =
@@ -95,11 +95,11 @@ module _ (types : List TypeDecl) (N : Nodes) (C : Callees) (M : CallsMirror N C)
       (λ t. ap (λ c. holds types c (inside es names W)) (f t))
       (absent_in (some_defines es x) (W (Named x ∷ [])) _ (ap (λ w. w (Named x ∷ [])) h))
 
-  pub guard_met : (o : Option Contract) (st : Standing) (names last : Names) (fill free : Instant) (G : Past) (W body bodyI bodyW : Instant) (outs outsI outsW : Names) (inputs controls : List Value) → ContractRight st o → FillsGuard types C o fill free → SoundGuard types C o names last (guard_held o outs body fill free G) W → W ≡ in_node outsW inputs controls bodyW (wired_guard types C o names last (guard_held o outs body fill free G) W) → shown_guard types C o names last (guard_held o outs body fill free G) W ≡ guard types filled_abstraction N o names last (given G free) (in_node outsI inputs controls bodyI (shown_guard types C o names last (guard_held o outs body fill free G) W))
-  guard_met None st names last fill free G W body bodyI bodyW outs outsI outsW inputs controls r fi so h = refl
-  guard_met (Some c) st names last fill free G W body bodyI bodyW outs outsI outsW inputs controls r fi so h =
-      some_guard_met c st names last outs body fill free G W (in_node outsI inputs controls bodyI (shown_guard types C (Some c) names last (guard_held (Some c) outs body fill free G) W)) r fi so
-      (record { block = ap (part Guard) h; assume = ap (part Assume) h; enforce = ap (part Enforce) h }) refl refl refl
+  pub observer_met : (o : Option Contract) (st : Standing) (names last : Names) (fill free : Instant) (G : Past) (W body bodyI bodyW : Instant) (outs outsI outsW : Names) (inputs controls : List Value) → ContractRight st o → FillsObserver types C o fill free → SoundObserver types C o names last (observer_held o outs body fill free G) W → W ≡ in_node outsW inputs controls bodyW (wired_observer types C o names last (observer_held o outs body fill free G) W) → shown_observer types C o names last (observer_held o outs body fill free G) W ≡ observer types filled_abstraction N o names last (given G free) (in_node outsI inputs controls bodyI (shown_observer types C o names last (observer_held o outs body fill free G) W))
+  observer_met None st names last fill free G W body bodyI bodyW outs outsI outsW inputs controls r fi so h = refl
+  observer_met (Some c) st names last fill free G W body bodyI bodyW outs outsI outsW inputs controls r fi so h =
+      some_observer_met c st names last outs body fill free G W (in_node outsI inputs controls bodyI (shown_observer types C (Some c) names last (observer_held (Some c) outs body fill free G) W)) r fi so
+      (record { block = ap (part Observer) h; assume = ap (part Assume) h; enforce = ap (part Enforce) h }) refl refl refl
 
   -- what is there of a node's wires meets its meaning
   pub node_met : (n : Node) (inputs : List Value) (fill free : Instant) (G : Past) (W : Instant) → ClocksRight n → FillsNode types C n fill free → SoundNode types C n inputs (held fill (remembers_in types C n fill G) free) W → W ≡ wired_node types C n inputs (held fill (remembers_in types C n fill G) free) W → shown_node types C n inputs (held fill (remembers_in types C n fill G) free) W ≡ node types filled_abstraction N n inputs (given G free) (shown_node types C n inputs (held fill (remembers_in types C n fill G) free) W)
@@ -116,21 +116,21 @@ module _ (types : List TypeDecl) (N : Nodes) (C : Callees) (M : CallsMirror N C)
       inputs (controls_in types C n free)
       ((met_block types N C M n.body false _ names names last (part Body fill) (part Body free) P (part Body W) (alike _ names) r.body fi.body so.body (ap (part Body) h)
       ∙ ap (λ l. scope types filled_abstraction N n.body false names l (given P (part Body free)) (part Body sh)) ls) z)
-      ((guard_met n.contract _ (contract_names types C n inputs W) last fill free G W (remembers_block types C.remembers n.body (part Body fill) P) (part Body sh) _ (last_outputs types C n.outputs G) (λ x. W (Named x ∷ [])) _ inputs (controls_in types C n free) r.contract fi.contract so.contract h
-      ∙ ap (λ l. guard types filled_abstraction N n.contract (contract_names types C n inputs W) l (given G free) sh) ls) z)
+      ((observer_met n.contract _ (contract_names types C n inputs W) last fill free G W (remembers_block types C.remembers n.body (part Body fill) P) (part Body sh) _ (last_outputs types C n.outputs G) (λ x. W (Named x ∷ [])) _ inputs (controls_in types C n free) r.contract fi.contract so.contract h
+      ∙ ap (λ l. observer types filled_abstraction N n.contract (contract_names types C n inputs W) l (given G free) sh) ls) z)
 
-  pub guard_kept : (o : Option Contract) (st : Standing) (names last : Names) (fill free : Instant) (G : Past) (W body bodyI bodyW : Instant) (outs outsI outsW : Names) (inputs controls : List Value) → ContractRight st o → SoundGuard types C o names last (guard_held o outs body fill free G) W → W ≡ in_node outsW inputs controls bodyW (wired_guard types C o names last (guard_held o outs body fill free G) W) → remembers_contract types C.remembers o fill (in_node outsI inputs controls bodyI (shown_guard types C o names last (guard_held o outs body fill free G) W) ∷ G) ≡ next_guard types C o names last (guard_held o outs body fill free G) W
-  guard_kept None st names last fill free G W body bodyI bodyW outs outsI outsW inputs controls r so h = refl
-  guard_kept (Some c) st names last fill free G W body bodyI bodyW outs outsI outsW inputs controls r so h =
-      let P = own (parts Guard G) in
-      let mb = remembers_block types C.remembers c.body (part Guard fill) P in
-      λ z. in_guard
-      ((ap (remembers_block types C.remembers c.body (part Guard fill))
-      (own_fresh false (shown_block types C c.body names last (held (part Guard fill) mb (part Guard free)) (part Guard W)) (parts Guard G)
-      (shown_fresh types N C M c.body names last (held (part Guard fill) mb (part Guard free)) (part Guard W) ∙ ap (λ w. w (Guard ∷ Fresh ∷ [])) h ∙ wired_fresh types N C M c.body false names last (held (part Guard fill) mb (part Guard free)) (part Guard W)))
-      ∙ kept_block types N C M c.body false st names last (part Guard fill) (part Guard free) P (part Guard W) r.0 so.0 (ap (part Guard) h)) z)
-      (told_kept c.assume (read_of c.body names (part Guard W)) _ (part Assume fill) (part Assume free) (parts Assume G) (part Assume W) so.1 (ap (part Assume) h) z)
-      (told_kept c.enforce (read_of c.body names (part Guard W)) _ (part Enforce fill) (part Enforce free) (parts Enforce G) (part Enforce W) so.2 (ap (part Enforce) h) z)
+  pub observer_kept : (o : Option Contract) (st : Standing) (names last : Names) (fill free : Instant) (G : Past) (W body bodyI bodyW : Instant) (outs outsI outsW : Names) (inputs controls : List Value) → ContractRight st o → SoundObserver types C o names last (observer_held o outs body fill free G) W → W ≡ in_node outsW inputs controls bodyW (wired_observer types C o names last (observer_held o outs body fill free G) W) → remembers_contract types C.remembers o fill (in_node outsI inputs controls bodyI (shown_observer types C o names last (observer_held o outs body fill free G) W) ∷ G) ≡ next_observer types C o names last (observer_held o outs body fill free G) W
+  observer_kept None st names last fill free G W body bodyI bodyW outs outsI outsW inputs controls r so h = refl
+  observer_kept (Some c) st names last fill free G W body bodyI bodyW outs outsI outsW inputs controls r so h =
+      let P = own (parts Observer G) in
+      let mb = remembers_block types C.remembers c.body (part Observer fill) P in
+      λ z. in_observer
+      ((ap (remembers_block types C.remembers c.body (part Observer fill))
+      (own_fresh false (shown_block types C c.body names last (held (part Observer fill) mb (part Observer free)) (part Observer W)) (parts Observer G)
+      (shown_fresh types N C M c.body names last (held (part Observer fill) mb (part Observer free)) (part Observer W) ∙ ap (λ w. w (Observer ∷ Fresh ∷ [])) h ∙ wired_fresh types N C M c.body false names last (held (part Observer fill) mb (part Observer free)) (part Observer W)))
+      ∙ kept_block types N C M c.body false st names last (part Observer fill) (part Observer free) P (part Observer W) r.0 so.0 (ap (part Observer) h)) z)
+      (told_kept c.assume (read_of c.body names (part Observer W)) _ (part Assume fill) (part Assume free) (parts Assume G) (part Assume W) so.1 (ap (part Assume) h) z)
+      (told_kept c.enforce (read_of c.body names (part Observer W)) _ (part Enforce fill) (part Enforce free) (parts Enforce G) (part Enforce W) so.2 (ap (part Enforce) h) z)
 
   -- the next memory
   pub node_kept : (n : Node) (inputs : List Value) (fill free : Instant) (G : Past) (W : Instant) → ClocksRight n → SoundNode types C n inputs (held fill (remembers_in types C n fill G) free) W → W ≡ wired_node types C n inputs (held fill (remembers_in types C n fill G) free) W → remembers_in types C n fill (shown_node types C n inputs (held fill (remembers_in types C n fill G) free) W ∷ G) ≡ next_node types C n inputs (held fill (remembers_in types C n fill G) free) W
@@ -147,7 +147,7 @@ module _ (types : List TypeDecl) (N : Nodes) (C : Callees) (M : CallsMirror N C)
       (own_fresh false (shown_block types C n.body names last (held (part Body fill) mb (part Body free)) (part Body W)) (parts Body G)
       (shown_fresh types N C M n.body names last (held (part Body fill) mb (part Body free)) (part Body W) ∙ ap (λ w. w (Body ∷ Fresh ∷ [])) h ∙ wired_fresh types N C M n.body false names last (held (part Body fill) mb (part Body free)) (part Body W)))
       ∙ kept_block types N C M n.body false _ names last (part Body fill) (part Body free) P (part Body W) r.body so.body (ap (part Body) h)) z)
-      (guard_kept n.contract _ (contract_names types C n inputs W) last fill free G W mb (part Body sh) _ (last_outputs types C n.outputs G) (λ x. W (Named x ∷ [])) _ inputs (controls_in types C n free) r.contract so.contract h z)
+      (observer_kept n.contract _ (contract_names types C n inputs W) last fill free G W mb (part Body sh) _ (last_outputs types C n.outputs G) (λ x. W (Named x ∷ [])) _ inputs (controls_in types C n free) r.contract so.contract h z)
 
 -- ---- what is assumed and enforced, on wires and at the instant
 
@@ -156,12 +156,12 @@ module _ (types : List TypeDecl) (C : Callees) where
   told_top None names last m W h = sym (ap (λ w. w []) h)
   told_top (Some e) names last m W h = shown_top types C e [] names m W
 
-  pub guard_tops : (o : Option Contract) (names last : Names) (m : Held) (W body : Instant) (outs : Names) (inputs controls : List Value) → W ≡ in_node outs inputs controls body (wired_guard types C o names last m W) → (shown_guard types C o names last m W (Assume ∷ []) ≡ W (Assume ∷ [])) × (shown_guard types C o names last m W (Enforce ∷ []) ≡ W (Enforce ∷ []))
-  guard_tops None names last m W body outs inputs controls h = (sym (ap (λ w. w (Assume ∷ [])) h), sym (ap (λ w. w (Enforce ∷ [])) h))
-  guard_tops (Some c) names last m W body outs inputs controls h = (
-    told_top c.assume (read_of c.body names (part Guard W)) _ (held_at Assume m) (part Assume W) (ap (part Assume) h),
-    told_top c.enforce (read_of c.body names (part Guard W)) _ (held_at Enforce m) (part Enforce W) (ap (part Enforce) h),
+  pub observer_tops : (o : Option Contract) (names last : Names) (m : Held) (W body : Instant) (outs : Names) (inputs controls : List Value) → W ≡ in_node outs inputs controls body (wired_observer types C o names last m W) → (shown_observer types C o names last m W (Assume ∷ []) ≡ W (Assume ∷ [])) × (shown_observer types C o names last m W (Enforce ∷ []) ≡ W (Enforce ∷ []))
+  observer_tops None names last m W body outs inputs controls h = (sym (ap (λ w. w (Assume ∷ [])) h), sym (ap (λ w. w (Enforce ∷ [])) h))
+  observer_tops (Some c) names last m W body outs inputs controls h = (
+    told_top c.assume (read_of c.body names (part Observer W)) _ (held_at Assume m) (part Assume W) (ap (part Assume) h),
+    told_top c.enforce (read_of c.body names (part Observer W)) _ (held_at Enforce m) (part Enforce W) (ap (part Enforce) h),
   )
 
   pub node_tops : (n : Node) (inputs : List Value) (m : Held) (W : Instant) → W ≡ wired_node types C n inputs m W → (shown_node types C n inputs m W (Assume ∷ []) ≡ W (Assume ∷ [])) × (shown_node types C n inputs m W (Enforce ∷ []) ≡ W (Enforce ∷ []))
-  node_tops n inputs m W h = guard_tops n.contract (contract_names types C n inputs W) (lasts_in n.outputs m.memory absent) m W _ _ inputs (controls_in types C n m.free) h
+  node_tops n inputs m W h = observer_tops n.contract (contract_names types C n inputs W) (lasts_in n.outputs m.memory absent) m W _ _ inputs (controls_in types C n m.free) h

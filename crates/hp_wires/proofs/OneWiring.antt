@@ -9,7 +9,7 @@ use Rattle.hp_tree.specs.declared.program.Item.{Item}
 use Rattle.hp_tree.specs.declared.program.Item.TheVariants.{TypeItem, NodeItem}
 use Rattle.hp_tree.specs.Expressions.{Expr}
 use Rattle.hp_tree.specs.Programs.{TypeDecl, Contract, Node}
-use Rattle.hp_tree.specs.Instant.{Inputs, Controls, Body, Guard, Assume, Enforce, Named, Fresh, Place, Instant, part, nothing}
+use Rattle.hp_tree.specs.Instant.{Inputs, Controls, Body, Observer, Assume, Enforce, Named, Fresh, Place, Instant, part, nothing}
 use Rattle.hp_tree.specs.Meaning.{Names, declares, node_among, controls_of}
 use Rattle.hp_causal.specs.Sources.{Within, NameSources, PlaceSources, only, below}
 use Rattle.hp_causal.specs.WhatIsRead.{names_in_block, control_in, output_in, in_contract, at_told}
@@ -19,7 +19,7 @@ use Rattle.hp_causal.proofs.Fix.{Same, Local, one}
 use Rattle.hp_causal.proofs.NodesAgree.{within_more, ranked_with_contract, ranked_below}
 use Rattle.hp_wires.specs.Wired.{Held, held_at, Callees}
 use Rattle.hp_wires.specs.WiredBlocks.{lasts_of}
-use Rattle.hp_wires.specs.WiredNodes.{wired_told, wired_guard, wired_node}
+use Rattle.hp_wires.specs.WiredNodes.{wired_told, wired_observer, wired_node}
 use Rattle.hp_wires.specs.WiredCallees.{no_callees, wired_alone, wired_by, callee_wires}
 use Rattle.hp_wires.specs.Laws.{OneWiringLaw}
 use Rattle.hp_wires.proofs.Agreeing.{Agree, SameNames, Closed}
@@ -36,29 +36,29 @@ module _ (types : List TypeDecl) (C : Callees) (W : AsWhole C) where
   told_agrees P None names k a b last m i j cl s = λ p h. refl
   told_agrees P (Some e) names k a b last m i j cl s = expr_agrees P types C W e [] names k a b last m i j cl s
 
-  contract_agrees : (P : Place → Type 0) (c : Option Contract) (names : NameSources) (k : PlaceSources) (a b last : Names) (m : Held) (i j : Instant) → Closed P (below Guard k) (below Guard (in_contract c names k)) → Closed P (below Assume k) (below Assume (in_contract c names k)) → Closed P (below Enforce k) (below Enforce (in_contract c names k)) → SameNames P names a b → Agree P (below Guard k) (part Guard i) (part Guard j) → Agree P (in_contract c names k) (wired_guard types C c a last m i) (wired_guard types C c b last m j)
+  contract_agrees : (P : Place → Type 0) (c : Option Contract) (names : NameSources) (k : PlaceSources) (a b last : Names) (m : Held) (i j : Instant) → Closed P (below Observer k) (below Observer (in_contract c names k)) → Closed P (below Assume k) (below Assume (in_contract c names k)) → Closed P (below Enforce k) (below Enforce (in_contract c names k)) → SameNames P names a b → Agree P (below Observer k) (part Observer i) (part Observer j) → Agree P (in_contract c names k) (wired_observer types C c a last m i) (wired_observer types C c b last m j)
   contract_agrees P None names k a b last m i j cg ca ce s t p h = refl
-  contract_agrees P (Some c) names k a b last m i j cg ca ce s t (Guard ∷ p) h = block_agrees P types C W c.body false names (below Guard k) a b last (held_at Guard m) (part Guard i) (part Guard j) cg s t p h
+  contract_agrees P (Some c) names k a b last m i j cg ca ce s t (Observer ∷ p) h = block_agrees P types C W c.body false names (below Observer k) a b last (held_at Observer m) (part Observer i) (part Observer j) cg s t p h
   contract_agrees P (Some c) names k a b last m i j cg ca ce s t (Assume ∷ p) h =
-      told_agrees P c.assume (names_in_block c.body names (below Guard k)) (below Assume k) _ _ (lasts_of c.body (part Guard m.memory) last) (held_at Assume m) (part Assume i) (part Assume j) ca
-      (names_of_same P types C W c.body names (below Guard k) a b (part Guard i) (part Guard j) s t) p h
+      told_agrees P c.assume (names_in_block c.body names (below Observer k)) (below Assume k) _ _ (lasts_of c.body (part Observer m.memory) last) (held_at Assume m) (part Assume i) (part Assume j) ca
+      (names_of_same P types C W c.body names (below Observer k) a b (part Observer i) (part Observer j) s t) p h
   contract_agrees P (Some c) names k a b last m i j cg ca ce s t (Enforce ∷ p) h =
-      told_agrees P c.enforce (names_in_block c.body names (below Guard k)) (below Enforce k) _ _ (lasts_of c.body (part Guard m.memory) last) (held_at Enforce m) (part Enforce i) (part Enforce j) ce
-      (names_of_same P types C W c.body names (below Guard k) a b (part Guard i) (part Guard j) s t) p h
+      told_agrees P c.enforce (names_in_block c.body names (below Observer k)) (below Enforce k) _ _ (lasts_of c.body (part Observer m.memory) last) (held_at Enforce m) (part Enforce i) (part Enforce j) ce
+      (names_of_same P types C W c.body names (below Observer k) a b (part Observer i) (part Observer j) s t) p h
   contract_agrees P (Some c) names k a b last m i j cg ca ce s t p h = refl
 
   module _ (n : Node) (o : Ranked n) (inputs : List Value) (m : Held) where
     abbrev pub Less : Place → Place → Type 0
     Less p q = o.rank q < o.rank p
 
-    outside : (k : ℕ) (i j : Instant) → Same (ranked_with_contract o.rank o.bound) k i j → (p : Place) → suc o.bound + o.rank p ≤ k → Within (Less p) (in_contract n.contract (output_in n (below Body only)) only p) → (outer last : Names) → wired_guard types C n.contract (λ x. if declares n.outputs x then i (Named x ∷ []) else outer x) last m i p ≡ wired_guard types C n.contract (λ x. if declares n.outputs x then j (Named x ∷ []) else outer x) last m j p
+    outside : (k : ℕ) (i j : Instant) → Same (ranked_with_contract o.rank o.bound) k i j → (p : Place) → suc o.bound + o.rank p ≤ k → Within (Less p) (in_contract n.contract (output_in n (below Body only)) only p) → (outer last : Names) → wired_observer types C n.contract (λ x. if declares n.outputs x then i (Named x ∷ []) else outer x) last m i p ≡ wired_observer types C n.contract (λ x. if declares n.outputs x then j (Named x ∷ []) else outer x) last m j p
     outside k i j same p l h outer last =
         contract_agrees (Less p) n.contract (output_in n (below Body only)) only _ _ last m i j
-        (λ q u. within_more (Less (Guard ∷ q)) (Less p) (λ r v. omega arith) (sources n (Guard ∷ q)) (o.falls (Guard ∷ q)))
+        (λ q u. within_more (Less (Observer ∷ q)) (Less p) (λ r v. omega arith) (sources n (Observer ∷ q)) (o.falls (Observer ∷ q)))
         (λ q u. within_more (Less (Assume ∷ q)) (Less p) (λ r v. omega arith) (sources n (Assume ∷ q)) (o.falls (Assume ∷ q)))
         (λ q u. within_more (Less (Enforce ∷ q)) (Less p) (λ r v. omega arith) (sources n (Enforce ∷ q)) (o.falls (Enforce ∷ q)))
         (λ x u. if_same (declares n.outputs x) _ _ (outer x) (same (Named x ∷ []) (omega arith)))
-        (λ q u. same (Guard ∷ q) (omega arith))
+        (λ q u. same (Observer ∷ q) (omega arith))
         p h
 
     pub node_local : Local (wired_node types C n inputs m) (ranked_with_contract o.rank o.bound)
@@ -92,11 +92,11 @@ module _ (types : List TypeDecl) where
     alone_local k i j same (Body ∷ p) l = refl
     alone_local k i j same p l =
         contract_agrees types no_callees (λ f vs h i j. refl) (LessAlone p) n.contract (output_in n (below Body only)) only _ _ _ m i j
-        (λ q u. within_more (LessAlone (Guard ∷ q)) (LessAlone p) (λ r v. omega arith) (sources n (Guard ∷ q)) (o.falls (Guard ∷ q)))
+        (λ q u. within_more (LessAlone (Observer ∷ q)) (LessAlone p) (λ r v. omega arith) (sources n (Observer ∷ q)) (o.falls (Observer ∷ q)))
         (λ q u. within_more (LessAlone (Assume ∷ q)) (LessAlone p) (λ r v. omega arith) (sources n (Assume ∷ q)) (o.falls (Assume ∷ q)))
         (λ q u. within_more (LessAlone (Enforce ∷ q)) (LessAlone p) (λ r v. omega arith) (sources n (Enforce ∷ q)) (o.falls (Enforce ∷ q)))
         (λ x u. refl)
-        (λ q u. same (Guard ∷ q) (omega arith))
+        (λ q u. same (Observer ∷ q) (omega arith))
         p (o.falls p)
 
     alone_one : OneInstant (wired_alone types n ins m)

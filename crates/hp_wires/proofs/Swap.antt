@@ -9,12 +9,12 @@ use Rattle.hp_tree.specs.Expressions.{Expr, constant, variable, last_of, one, tw
 use Rattle.hp_tree.specs.Blocks.{Block, block, Eqns, no_eqn, more_eqns, Eqn, define, switch, reset, automaton, Arms, no_arm, more_arms, States, no_state, more_states}
 use Rattle.hp_tree.specs.Programs.{TypeDecl, Contract, Node}
 use Rattle.hp_tree.specs.Operators.{abstraction, is_cons, is_true, if_of}
-use Rattle.hp_tree.specs.Instant.{Body, Named, Fresh, Equations, Head, Tail, Right, Test, Arms as ArmsOf, States as StatesOf, Guard, Assume, Enforce, Until, Unless, First, with_one, with_two, with_three, with_row, with_instance, of_two, in_block, in_right, with_arms, with_body, in_state, with_words, in_guard, in_node, Second, Third, Args, Instance, Instant, part, top, in_row}
+use Rattle.hp_tree.specs.Instant.{Body, Named, Fresh, Equations, Head, Tail, Right, Test, Arms as ArmsOf, States as StatesOf, Observer, Assume, Enforce, Until, Unless, First, with_one, with_two, with_three, with_row, with_instance, of_two, in_block, in_right, with_arms, with_body, in_state, with_words, in_observer, in_node, Second, Third, Args, Instance, Instant, part, top, in_row}
 use Rattle.hp_tree.specs.Meaning.{Names, defines, some_defines, within, only_output, from_block, inside, declares, Jump, state_word, first_true}
 use Rattle.hp_wires.specs.Wired.{Held, held_at, Callees, blank, lasts_in, picked, wired, wired_all, wired_parts}
 use Rattle.hp_wires.specs.WiredBlocks.{selected_in, read_of, lasts_of, state_value, right_in, arm_value, anew, wired_conditions, strong_in, weak_of, wired_gives, wired_defined, wired_block, wired_equations, wired_equation, wired_arms, wired_states}
 use Rattle.hp_wires.specs.Wired.{absent}
-use Rattle.hp_wires.specs.WiredNodes.{controls_in, body_names, contract_names, wired_told, wired_guard, wired_node}
+use Rattle.hp_wires.specs.WiredNodes.{controls_in, body_names, contract_names, wired_told, wired_observer, wired_node}
 
 abbrev pub Wires : Type 0
 Wires = List ℕ → List Value → Held → Instant → Instant
@@ -166,13 +166,13 @@ module _ (types : List TypeDecl) (C : Callees) (w : Wires) (A : (f : List ℕ) (
   told_swap None names last m now h = refl
   told_swap (Some e) names last m now h = expr_swap e names last m now h
 
-  guard_swap : (o : Option Contract) (names last outs : Names) (ins controls : List Value) (body : Instant) (m : Held) (now : Instant) → now ≡ in_node outs ins controls body (wired_guard types C o names last m now) → wired_guard types D o names last m now ≡ wired_guard types C o names last m now
-  guard_swap None names last outs ins controls body m now h = refl
-  guard_swap (Some c) names last outs ins controls body m now h =
-      let own_names = read_of c.body names (part Guard now) in
-      let own_last = lasts_of c.body (part Guard m.memory) last in
-      λ z. in_guard
-      (block_swap c.body false names last (held_at Guard m) (part Guard now) (ap (part Guard) h) z)
+  observer_swap : (o : Option Contract) (names last outs : Names) (ins controls : List Value) (body : Instant) (m : Held) (now : Instant) → now ≡ in_node outs ins controls body (wired_observer types C o names last m now) → wired_observer types D o names last m now ≡ wired_observer types C o names last m now
+  observer_swap None names last outs ins controls body m now h = refl
+  observer_swap (Some c) names last outs ins controls body m now h =
+      let own_names = read_of c.body names (part Observer now) in
+      let own_last = lasts_of c.body (part Observer m.memory) last in
+      λ z. in_observer
+      (block_swap c.body false names last (held_at Observer m) (part Observer now) (ap (part Observer) h) z)
       (told_swap c.assume own_names own_last (held_at Assume m) (part Assume now) (ap (part Assume) h) z)
       (told_swap c.enforce own_names own_last (held_at Enforce m) (part Enforce now) (ap (part Enforce) h) z)
 
@@ -181,4 +181,4 @@ module _ (types : List TypeDecl) (C : Callees) (w : Wires) (A : (f : List ℕ) (
       let last = lasts_in n.outputs m.memory absent in
       λ z. in_node (λ x. if declares n.outputs x then now (Body ∷ Named x ∷ []) else Absent) inputs (controls_in types C n m.free)
       (block_swap n.body false (body_names types C n inputs m.free) last (held_at Body m) (part Body now) (ap (part Body) h) z)
-      (guard_swap n.contract (contract_names types C n inputs now) last _ inputs (controls_in types C n m.free) _ m now h z)
+      (observer_swap n.contract (contract_names types C n inputs now) last _ inputs (controls_in types C n m.free) _ m now h z)

@@ -9,11 +9,11 @@ use Rattle.hp_tree.specs.declared.program.Item.TheVariants.{TypeItem, NodeItem}
 use Rattle.hp_tree.specs.Blocks.{Decl}
 use Rattle.hp_tree.specs.Programs.{TypeDecl, Contract, Node}
 use Rattle.hp_tree.specs.Instant.{Named, Instant, Given, nothing, in_node}
-use Rattle.hp_tree.specs.Meaning.{Names, Nodes, lasts, input_of, names_of, guard, no_nodes, node_among}
+use Rattle.hp_tree.specs.Meaning.{Names, Nodes, lasts, input_of, names_of, observer, no_nodes, node_among}
 use Rattle.hp_causal.specs.Abstract.{given_outputs}
 use Rattle.hp_contract.specs.Memory.{is_last, in_memory, remembers_callee}
 use Rattle.hp_wires.specs.Wired.{absent, filled_abstraction, Held, Callees, lasts_in, value}
-use Rattle.hp_wires.specs.WiredNodes.{wired_guard, shown_guard, next_guard, SoundGuard, FillsGuard}
+use Rattle.hp_wires.specs.WiredNodes.{wired_observer, shown_observer, next_observer, SoundObserver, FillsObserver}
 
 -- of an instance whose node is not known its outputs alone are there
 abbrev pub outputs_alone : Instant → Instant
@@ -45,7 +45,7 @@ module _ (types : List TypeDecl) where
   abbrev pub alone_in : Node → List Value → Given → Instant → Instant
   alone_in n ins g now =
       in_node (given_outputs n.outputs g.free absent) ins [] nothing
-      (guard types filled_abstraction no_nodes n.contract (alone_names n ins g.free) (lasts (value types) n.outputs g.past absent) g now)
+      (observer types filled_abstraction no_nodes n.contract (alone_names n ins g.free) (lasts (value types) n.outputs g.past absent) g now)
 
   -- the nodes of a program, the last one first, as they are called so
   abbrev pub filled_callees : List Item → Nodes
@@ -62,23 +62,23 @@ module _ (types : List TypeDecl) where
 
   abbrev pub wired_alone : Node → List Value → Held → Instant → Instant
   wired_alone n ins m now =
-      in_node (given_outputs n.outputs m.free absent) ins [] nothing (wired_guard types no_callees n.contract (alone_names n ins m.free) (own_last n m) m now)
+      in_node (given_outputs n.outputs m.free absent) ins [] nothing (wired_observer types no_callees n.contract (alone_names n ins m.free) (own_last n m) m now)
 
   abbrev pub shown_alone : Node → List Value → Held → Instant → Instant
   shown_alone n ins m now =
-      in_node (λ x. now (Named x ∷ [])) ins [] nothing (shown_guard types no_callees n.contract (alone_names n ins m.free) (own_last n m) m now)
+      in_node (λ x. now (Named x ∷ [])) ins [] nothing (shown_observer types no_callees n.contract (alone_names n ins m.free) (own_last n m) m now)
 
   -- A node without a contract holds nothing.
   abbrev pub next_told_of : List Decl → Option Contract → Names → Names → Held → Instant → Instant
   next_told_of outputs None names last m now = nothing
   next_told_of outputs (Some c) names last m now =
-      in_memory (λ x. if is_last outputs x then now (Named x ∷ []) else Absent) nothing (next_guard types no_callees (Some c) names last m now)
+      in_memory (λ x. if is_last outputs x then now (Named x ∷ []) else Absent) nothing (next_observer types no_callees (Some c) names last m now)
 
   abbrev pub next_alone : Node → List Value → Held → Instant → Instant
   next_alone n ins m now = next_told_of n.outputs n.contract (alone_names n ins m.free) (own_last n m) m now
 
   abbrev pub SoundAlone : Node → List Value → Held → Instant → Type 0
-  SoundAlone n ins m now = SoundGuard types no_callees n.contract (alone_names n ins m.free) (own_last n m) m now
+  SoundAlone n ins m now = SoundObserver types no_callees n.contract (alone_names n ins m.free) (own_last n m) m now
 
   -- ---- the nodes of a program by their names
 
@@ -108,7 +108,7 @@ module _ (types : List TypeDecl) where
 
   abbrev pub FillsBy : Option Node → Instant → Instant → Type 0
   FillsBy None start free = ⊤
-  FillsBy (Some n) start free = FillsGuard types no_callees n.contract start free
+  FillsBy (Some n) start free = FillsObserver types no_callees n.contract start free
 
   -- the callees among some items, the last one first
   abbrev pub callee_wires : List Item → Callees

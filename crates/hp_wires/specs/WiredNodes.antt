@@ -7,7 +7,7 @@ use Rattle.hp_tree.specs.Expressions.{Expr}
 use Rattle.hp_tree.specs.Blocks.{Decl}
 use Rattle.hp_tree.specs.Programs.{TypeDecl, Contract, Node}
 use Rattle.hp_tree.specs.Operators.{abstraction}
-use Rattle.hp_tree.specs.Instant.{Controls, Body, Guard, Assume, Enforce, Named, Instant, Past, part, parts, own, nothing, in_guard, in_node}
+use Rattle.hp_tree.specs.Instant.{Controls, Body, Observer, Assume, Enforce, Named, Instant, Past, part, parts, own, nothing, in_observer, in_node}
 use Rattle.hp_tree.specs.Meaning.{Names, declares, lasts, input_of, given_to, no_nodes}
 use Rattle.hp_tree.specs.Meaning.{controls_of}
 use Rattle.hp_contract.specs.Memory.{is_last, remembers_block, remembers_contract, in_memory}
@@ -39,43 +39,43 @@ module _ (types : List TypeDecl) (C : Callees) where
 
   -- ---- a contract
 
-  abbrev pub wired_guard : Option Contract → Names → Names → Held → Instant → Instant
-  wired_guard None names last m now = nothing
-  wired_guard (Some c) names last m now =
-      let own_names = read_of c.body names (part Guard now) in
-      let own_last = lasts_of c.body (part Guard m.memory) last in
-      in_guard
-      (wired_block types C c.body false names last (held_at Guard m) (part Guard now))
+  abbrev pub wired_observer : Option Contract → Names → Names → Held → Instant → Instant
+  wired_observer None names last m now = nothing
+  wired_observer (Some c) names last m now =
+      let own_names = read_of c.body names (part Observer now) in
+      let own_last = lasts_of c.body (part Observer m.memory) last in
+      in_observer
+      (wired_block types C c.body false names last (held_at Observer m) (part Observer now))
       (wired_told c.assume own_names own_last (held_at Assume m) (part Assume now))
       (wired_told c.enforce own_names own_last (held_at Enforce m) (part Enforce now))
 
-  abbrev pub shown_guard : Option Contract → Names → Names → Held → Instant → Instant
-  shown_guard None names last m now = nothing
-  shown_guard (Some c) names last m now =
-      in_guard
-      (shown_block types C c.body names last (held_at Guard m) (part Guard now))
-      (shown_told c.assume (read_of c.body names (part Guard now)) (held_at Assume m) (part Assume now))
-      (shown_told c.enforce (read_of c.body names (part Guard now)) (held_at Enforce m) (part Enforce now))
+  abbrev pub shown_observer : Option Contract → Names → Names → Held → Instant → Instant
+  shown_observer None names last m now = nothing
+  shown_observer (Some c) names last m now =
+      in_observer
+      (shown_block types C c.body names last (held_at Observer m) (part Observer now))
+      (shown_told c.assume (read_of c.body names (part Observer now)) (held_at Assume m) (part Assume now))
+      (shown_told c.enforce (read_of c.body names (part Observer now)) (held_at Enforce m) (part Enforce now))
 
-  abbrev pub next_guard : Option Contract → Names → Names → Held → Instant → Instant
-  next_guard None names last m now = nothing
-  next_guard (Some c) names last m now =
-      in_guard
-      (next_block types C c.body names last (held_at Guard m) (part Guard now))
-      (next_told c.assume (read_of c.body names (part Guard now)) (held_at Assume m) (part Assume now))
-      (next_told c.enforce (read_of c.body names (part Guard now)) (held_at Enforce m) (part Enforce now))
+  abbrev pub next_observer : Option Contract → Names → Names → Held → Instant → Instant
+  next_observer None names last m now = nothing
+  next_observer (Some c) names last m now =
+      in_observer
+      (next_block types C c.body names last (held_at Observer m) (part Observer now))
+      (next_told c.assume (read_of c.body names (part Observer now)) (held_at Assume m) (part Assume now))
+      (next_told c.enforce (read_of c.body names (part Observer now)) (held_at Enforce m) (part Enforce now))
 
-  abbrev pub SoundGuard : Option Contract → Names → Names → Held → Instant → Type 0
-  SoundGuard None names last m now = ⊤
-  SoundGuard (Some c) names last m now =
-      SoundBlock types C c.body names last (held_at Guard m) (part Guard now)
-      × SoundTold c.assume (read_of c.body names (part Guard now)) (held_at Assume m) (part Assume now)
-      × SoundTold c.enforce (read_of c.body names (part Guard now)) (held_at Enforce m) (part Enforce now)
+  abbrev pub SoundObserver : Option Contract → Names → Names → Held → Instant → Type 0
+  SoundObserver None names last m now = ⊤
+  SoundObserver (Some c) names last m now =
+      SoundBlock types C c.body names last (held_at Observer m) (part Observer now)
+      × SoundTold c.assume (read_of c.body names (part Observer now)) (held_at Assume m) (part Assume now)
+      × SoundTold c.enforce (read_of c.body names (part Observer now)) (held_at Enforce m) (part Enforce now)
 
-  abbrev pub FillsGuard : Option Contract → Instant → Instant → Type 0
-  FillsGuard None start free = ⊤
-  FillsGuard (Some c) start free =
-      FillsBlock types C c.body (part Guard start) (part Guard free)
+  abbrev pub FillsObserver : Option Contract → Instant → Instant → Type 0
+  FillsObserver None start free = ⊤
+  FillsObserver (Some c) start free =
+      FillsBlock types C c.body (part Observer start) (part Observer free)
       × FillsTold c.assume (part Assume start) (part Assume free)
       × FillsTold c.enforce (part Enforce start) (part Enforce free)
 
@@ -109,27 +109,27 @@ module _ (types : List TypeDecl) (C : Callees) where
       let last = lasts_in n.outputs m.memory absent in
       in_node (λ x. if declares n.outputs x then now (Body ∷ Named x ∷ []) else Absent) inputs (controls_in n m.free)
       (wired_block types C n.body false (body_names n inputs m.free) last (held_at Body m) (part Body now))
-      (wired_guard n.contract (contract_names n inputs now) last m now)
+      (wired_observer n.contract (contract_names n inputs now) last m now)
 
   abbrev pub shown_node : Node → List Value → Held → Instant → Instant
   shown_node n inputs m now =
       let last = lasts_in n.outputs m.memory absent in
       in_node (λ x. now (Named x ∷ [])) inputs (controls_in n m.free)
       (shown_block types C n.body (body_names n inputs m.free) last (held_at Body m) (part Body now))
-      (shown_guard n.contract (contract_names n inputs now) last m now)
+      (shown_observer n.contract (contract_names n inputs now) last m now)
 
   abbrev pub next_node : Node → List Value → Held → Instant → Instant
   next_node n inputs m now =
       let last = lasts_in n.outputs m.memory absent in
       in_memory (λ x. if is_last n.outputs x then now (Named x ∷ []) else Absent)
       (next_block types C n.body (body_names n inputs m.free) last (held_at Body m) (part Body now))
-      (next_guard n.contract (contract_names n inputs now) last m now)
+      (next_observer n.contract (contract_names n inputs now) last m now)
 
   -- what is asked of wires, and of what is given
   pub record SoundNode (n : Node) (inputs : List Value) (m : Held) (now : Instant) : Type 0 where
     pub body : SoundBlock types C n.body (body_names n inputs m.free) (lasts_in n.outputs m.memory absent) (held_at Body m) (part Body now)
-    pub contract : SoundGuard n.contract (contract_names n inputs now) (lasts_in n.outputs m.memory absent) m now
+    pub contract : SoundObserver n.contract (contract_names n inputs now) (lasts_in n.outputs m.memory absent) m now
 
   pub record FillsNode (n : Node) (start free : Instant) : Type 0 where
     pub body : FillsBlock types C n.body (part Body start) (part Body free)
-    pub contract : FillsGuard n.contract start free
+    pub contract : FillsObserver n.contract start free

@@ -20,7 +20,7 @@ use Rattle.hp_valued.specs.Values.{Classing, AreAccepted, scope_behind, either_o
 use Rattle.hp_valued.proofs.Laws.{not_both}
 use Rattle.hp_valued.proofs.Typed.{some_is}
 use Rattle.hp_wires.specs.Wired.{Held, absent}
-use Rattle.hp_wires.specs.WiredNodes.{wired_guard, SoundGuard}
+use Rattle.hp_wires.specs.WiredNodes.{wired_observer, SoundObserver}
 use Rattle.hp_wires.specs.WiredCallees.{no_callees, alone_names, own_last, wired_alone, next_told_of, next_alone, SoundAlone, outputs_by, wired_by, next_by, SoundBy, callee_wires}
 use Rattle.hp_wires.proofs.Callees.{memory_alone}
 use Rattle.hp_wiretyped.specs.Typed.{IsWire, AreWires, OutputsTyped, ContractTyped}
@@ -69,12 +69,12 @@ module _ (types : List TypeDecl) (among : List ℕ → Option Node) (s : Scope) 
 
   -- ---- the contract, where there is one
 
-  own_wires : (o : Option Contract) (st : Standing) (names : Names) (m : Held) (now : Instant) → ContractRight st o → ContractSound types among (inside_node s n) (known_lasts n.outputs no_lasts) o → NamesAre types (inside_node s n) st names → OwnKept types s n o m.start m.memory → ContractGiven types any_given (inside_node s n) o m.free → ContractTyped types none_typed (inside_node s n) o now → ContractTyped types none_typed (inside_node s n) o (wired_guard types no_callees o names (own_last n m) m now)
+  own_wires : (o : Option Contract) (st : Standing) (names : Names) (m : Held) (now : Instant) → ContractRight st o → ContractSound types among (inside_node s n) (known_lasts n.outputs no_lasts) o → NamesAre types (inside_node s n) st names → OwnKept types s n o m.start m.memory → ContractGiven types any_given (inside_node s n) o m.free → ContractTyped types none_typed (inside_node s n) o now → ContractTyped types none_typed (inside_node s n) o (wired_observer types no_callees o names (own_last n m) m now)
   own_wires None st names m now c k nk h g w = tt
   own_wires (Some o) st names m now c k nk h g w =
       contract_wires types no_callees among none_typed none_kept any_given (none_called types among) (Some o) (inside_node s n) st (known_lasts n.outputs no_lasts) names (own_last n m) m now nk (outputs_last types among (inside_node s n) n.outputs m.memory ok.0.1 h.0) c k h.1 g w
 
-  own_sound : (o : Option Contract) (st : Standing) (names : Names) (m : Held) (W : Instant) → ContractRight st o → ContractSound types among (inside_node s n) (known_lasts n.outputs no_lasts) o → NamesAre types (inside_node s n) st names → OwnKept types s n o m.start m.memory → ContractGiven types any_given (inside_node s n) o m.free → ContractTyped types none_typed (inside_node s n) o W → SoundGuard types no_callees o names (own_last n m) m W
+  own_sound : (o : Option Contract) (st : Standing) (names : Names) (m : Held) (W : Instant) → ContractRight st o → ContractSound types among (inside_node s n) (known_lasts n.outputs no_lasts) o → NamesAre types (inside_node s n) st names → OwnKept types s n o m.start m.memory → ContractGiven types any_given (inside_node s n) o m.free → ContractTyped types none_typed (inside_node s n) o W → SoundObserver types no_callees o names (own_last n m) m W
   own_sound None st names m W c k nk h g w = tt
   own_sound (Some o) st names m W c k nk h g w =
       contract_sound types no_callees among none_typed none_kept any_given (none_called types among) (Some o) (inside_node s n) st (known_lasts n.outputs no_lasts) names (own_last n m) m W nk (outputs_last types among (inside_node s n) n.outputs m.memory ok.0.1 h.0) c k h.1 g w
@@ -98,7 +98,7 @@ module _ (types : List TypeDecl) (among : List ℕ → Option Node) (s : Scope) 
   alone_wires : (ins : List Value) (m : Held) (now : Instant) → AreWires types n.inputs ins → AloneKept types s n m.start m.memory → AloneGiven types s n m.free → AloneTyped types s n now → AloneTyped types s n (wired_alone types n ins m now)
   alone_wires ins m now a k g w = (
     outputs_given n.outputs m.free (wired_alone types n ins m now) (λ x z. z) g.0 (λ x. refl),
-    typed_part types no_callees among none_typed none_kept any_given (none_called types among) n.contract (inside_node s n) (given_outputs n.outputs m.free absent) ins [] nothing (wired_guard types no_callees n.contract (alone_names n ins m.free) (own_last n m) m now)
+    typed_part types no_callees among none_typed none_kept any_given (none_called types among) n.contract (inside_node s n) (given_outputs n.outputs m.free absent) ins [] nothing (wired_observer types no_callees n.contract (alone_names n ins m.free) (own_last n m) m now)
         (own_wires n.contract _ (alone_names n ins m.free) m now r.contract ok.1.1.1.1.1 (alone_reads ins m.free a g.0) k g.1 w.1),
   )
 

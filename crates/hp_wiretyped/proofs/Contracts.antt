@@ -10,7 +10,7 @@ use Rattle.hp_tree.specs.Expressions.{Expr}
 use Rattle.hp_tree.specs.Blocks.{Decl, Block}
 use Rattle.hp_tree.specs.Programs.{TypeDecl, Contract, Node}
 use Rattle.hp_tree.specs.Operators.{abstraction, marked}
-use Rattle.hp_tree.specs.Instant.{Guard, Assume, Enforce, Named, Tail, Instant, Past, part, nothing, in_node}
+use Rattle.hp_tree.specs.Instant.{Observer, Assume, Enforce, Named, Tail, Instant, Past, part, nothing, in_node}
 use Rattle.hp_tree.specs.Meaning.{Names, declares, block_defines, input_of, given_to, no_nodes}
 use Rattle.hp_known.specs.Known.{lookup}
 use Rattle.hp_typing.specs.Scopes.{inside}
@@ -23,7 +23,7 @@ use Rattle.hp_valued.proofs.Laws.{or_either, or_left, or_right}
 use Rattle.hp_valued.proofs.Typed.{some_is}
 use Rattle.hp_wires.specs.Wired.{Held, held_at, Callees, absent, lasts_in}
 use Rattle.hp_wires.specs.WiredBlocks.{read_of, lasts_of}
-use Rattle.hp_wires.specs.WiredNodes.{wired_told, next_told, SoundTold, wired_guard, next_guard, SoundGuard}
+use Rattle.hp_wires.specs.WiredNodes.{wired_told, next_told, SoundTold, wired_observer, next_observer, SoundObserver}
 use Rattle.hp_wiretyped.specs.Typed.{IsWire, AreWires, OutputsTyped, ToldTyped, ContractTyped}
 use Rattle.hp_wiretyped.specs.Kept.{LastsKept, ToldKept, ContractKept, RowGiven, OutputsGiven, ToldGiven, ContractGiven}
 use Rattle.hp_wiretyped.proofs.Exprs.{CalleesTyped, NamesAre, LastsAre, expr_wires}
@@ -56,43 +56,43 @@ module _ (types : List TypeDecl) (C : Callees) (among : List ℕ → Option Node
   told_begins None s lasts start mem ok k = tt
   told_begins (Some e) s lasts start mem ok k = expr_begins types C among typed kept given K s lasts e start mem ok.0 (judged_of s e ty.Bool ok.1) k
 
-  pub contract_wires : (o : Option Contract) (s : Scope) (st : Standing) (lasts : Lasts) (names last : Names) (m : Held) (now : Instant) → NamesAre types s st names → LastsAre types s lasts last → ContractRight st o → ContractSound types among s lasts o → ContractKept types kept s o m.start m.memory → ContractGiven types given s o m.free → ContractTyped types typed s o now → ContractTyped types typed s o (wired_guard types C o names last m now)
+  pub contract_wires : (o : Option Contract) (s : Scope) (st : Standing) (lasts : Lasts) (names last : Names) (m : Held) (now : Instant) → NamesAre types s st names → LastsAre types s lasts last → ContractRight st o → ContractSound types among s lasts o → ContractKept types kept s o m.start m.memory → ContractGiven types given s o m.free → ContractTyped types typed s o now → ContractTyped types typed s o (wired_observer types C o names last m now)
   contract_wires None s st lasts names last m now nk lk r ok k g w = tt
   contract_wires (Some c) s st lasts names last m now nk lk r ok k g w =
       let outer = any_outer types among c.body st s names nk in
-      let nk' = seen_in types among typed c.body st s lasts names (part Guard now) ok.0 outer w.0 in
-      let lk' = lasts_seen types among kept c.body s lasts last (part Guard m.start) (part Guard m.memory) ok.0 lk k.0 in (
-        block_wires types C among typed kept given K c.body false st s lasts names last (held_at Guard m) (part Guard now) outer lk r.0 ok.0 k.0 g.0 w.0,
+      let nk' = seen_in types among typed c.body st s lasts names (part Observer now) ok.0 outer w.0 in
+      let lk' = lasts_seen types among kept c.body s lasts last (part Observer m.start) (part Observer m.memory) ok.0 lk k.0 in (
+        block_wires types C among typed kept given K c.body false st s lasts names last (held_at Observer m) (part Observer now) outer lk r.0 ok.0 k.0 g.0 w.0,
         (
-          told_wires c.assume (inside s c.body) (standing_of c.body st) (known_of c.body lasts) (read_of c.body names (part Guard now)) (lasts_of c.body (part Guard m.memory) last) (held_at Assume m) (part Assume now) nk' lk' r.1 ok.1.0 k.1.0 g.1.0 w.1.0,
-          told_wires c.enforce (inside s c.body) (standing_of c.body st) (known_of c.body lasts) (read_of c.body names (part Guard now)) (lasts_of c.body (part Guard m.memory) last) (held_at Enforce m) (part Enforce now) nk' lk' r.2 ok.1.1 k.1.1 g.1.1 w.1.1,
+          told_wires c.assume (inside s c.body) (standing_of c.body st) (known_of c.body lasts) (read_of c.body names (part Observer now)) (lasts_of c.body (part Observer m.memory) last) (held_at Assume m) (part Assume now) nk' lk' r.1 ok.1.0 k.1.0 g.1.0 w.1.0,
+          told_wires c.enforce (inside s c.body) (standing_of c.body st) (known_of c.body lasts) (read_of c.body names (part Observer now)) (lasts_of c.body (part Observer m.memory) last) (held_at Enforce m) (part Enforce now) nk' lk' r.2 ok.1.1 k.1.1 g.1.1 w.1.1,
         ),
       )
 
-  pub contract_sound : (o : Option Contract) (s : Scope) (st : Standing) (lasts : Lasts) (names last : Names) (m : Held) (W : Instant) → NamesAre types s st names → LastsAre types s lasts last → ContractRight st o → ContractSound types among s lasts o → ContractKept types kept s o m.start m.memory → ContractGiven types given s o m.free → ContractTyped types typed s o W → SoundGuard types C o names last m W
+  pub contract_sound : (o : Option Contract) (s : Scope) (st : Standing) (lasts : Lasts) (names last : Names) (m : Held) (W : Instant) → NamesAre types s st names → LastsAre types s lasts last → ContractRight st o → ContractSound types among s lasts o → ContractKept types kept s o m.start m.memory → ContractGiven types given s o m.free → ContractTyped types typed s o W → SoundObserver types C o names last m W
   contract_sound None s st lasts names last m W nk lk r ok k g w = tt
   contract_sound (Some c) s st lasts names last m W nk lk r ok k g w =
       let outer = any_outer types among c.body st s names nk in
-      let nk' = seen_in types among typed c.body st s lasts names (part Guard W) ok.0 outer w.0 in (
-        block_sound types C among typed kept given K c.body st s lasts names last (held_at Guard m) (part Guard W) outer lk r.0 ok.0 k.0 g.0 w.0,
-        told_sound c.assume (inside s c.body) (standing_of c.body st) (known_of c.body lasts) (read_of c.body names (part Guard W)) (held_at Assume m) (part Assume W) nk' r.1 ok.1.0 k.1.0 g.1.0 w.1.0,
-        told_sound c.enforce (inside s c.body) (standing_of c.body st) (known_of c.body lasts) (read_of c.body names (part Guard W)) (held_at Enforce m) (part Enforce W) nk' r.2 ok.1.1 k.1.1 g.1.1 w.1.1,
+      let nk' = seen_in types among typed c.body st s lasts names (part Observer W) ok.0 outer w.0 in (
+        block_sound types C among typed kept given K c.body st s lasts names last (held_at Observer m) (part Observer W) outer lk r.0 ok.0 k.0 g.0 w.0,
+        told_sound c.assume (inside s c.body) (standing_of c.body st) (known_of c.body lasts) (read_of c.body names (part Observer W)) (held_at Assume m) (part Assume W) nk' r.1 ok.1.0 k.1.0 g.1.0 w.1.0,
+        told_sound c.enforce (inside s c.body) (standing_of c.body st) (known_of c.body lasts) (read_of c.body names (part Observer W)) (held_at Enforce m) (part Enforce W) nk' r.2 ok.1.1 k.1.1 g.1.1 w.1.1,
       )
 
-  pub contract_next : (o : Option Contract) (s : Scope) (lasts : Lasts) (names last : Names) (m : Held) (W : Instant) → ContractSound types among s lasts o → ContractKept types kept s o m.start m.memory → ContractGiven types given s o m.free → ContractTyped types typed s o W → ContractKept types kept s o m.start (next_guard types C o names last m W)
+  pub contract_next : (o : Option Contract) (s : Scope) (lasts : Lasts) (names last : Names) (m : Held) (W : Instant) → ContractSound types among s lasts o → ContractKept types kept s o m.start m.memory → ContractGiven types given s o m.free → ContractTyped types typed s o W → ContractKept types kept s o m.start (next_observer types C o names last m W)
   contract_next None s lasts names last m W ok k g w = tt
   contract_next (Some c) s lasts names last m W ok k g w = (
-    block_next types C among typed kept given K c.body s lasts names last (held_at Guard m) (part Guard W) ok.0 k.0 g.0 w.0,
+    block_next types C among typed kept given K c.body s lasts names last (held_at Observer m) (part Observer W) ok.0 k.0 g.0 w.0,
     (
-      told_next c.assume (inside s c.body) (known_of c.body lasts) (read_of c.body names (part Guard W)) (held_at Assume m) (part Assume W) ok.1.0 k.1.0 g.1.0 w.1.0,
-      told_next c.enforce (inside s c.body) (known_of c.body lasts) (read_of c.body names (part Guard W)) (held_at Enforce m) (part Enforce W) ok.1.1 k.1.1 g.1.1 w.1.1,
+      told_next c.assume (inside s c.body) (known_of c.body lasts) (read_of c.body names (part Observer W)) (held_at Assume m) (part Assume W) ok.1.0 k.1.0 g.1.0 w.1.0,
+      told_next c.enforce (inside s c.body) (known_of c.body lasts) (read_of c.body names (part Observer W)) (held_at Enforce m) (part Enforce W) ok.1.1 k.1.1 g.1.1 w.1.1,
     ),
   )
 
   pub contract_begins : (o : Option Contract) (s : Scope) (lasts : Lasts) (start mem : Instant) → ContractSound types among s lasts o → ContractKept types kept s o start mem → ContractKept types kept s o start (remembers_contract types C.remembers o start [])
   contract_begins None s lasts start mem ok k = tt
   contract_begins (Some c) s lasts start mem ok k = (
-    block_begins types C among typed kept given K c.body s lasts (part Guard start) (part Guard mem) ok.0 k.0,
+    block_begins types C among typed kept given K c.body s lasts (part Observer start) (part Observer mem) ok.0 k.0,
     (
       told_begins c.assume (inside s c.body) (known_of c.body lasts) (part Assume start) (part Assume mem) ok.1.0 k.1.0,
       told_begins c.enforce (inside s c.body) (known_of c.body lasts) (part Enforce start) (part Enforce mem) ok.1.1 k.1.1,

@@ -16,7 +16,7 @@ use Rattle.hp_valued.specs.Judged.{no_lasts, lasts_in as known_lasts, body_scope
 use Rattle.hp_valued.proofs.Laws.{not_both}
 use Rattle.hp_valued.proofs.Scoped.{still_known}
 use Rattle.hp_wires.specs.Wired.{Held, held_at, Callees, absent, lasts_in}
-use Rattle.hp_wires.specs.WiredNodes.{remembers_in, controls_in, body_names, contract_names, wired_guard, wired_node, next_guard, next_node, SoundNode as SoundWires}
+use Rattle.hp_wires.specs.WiredNodes.{remembers_in, controls_in, body_names, contract_names, wired_observer, wired_node, next_observer, next_node, SoundNode as SoundWires}
 use Rattle.hp_wiretyped.specs.Typed.{IsWire, AreWires, OutputsTyped, BlockTyped, NodeTyped}
 use Rattle.hp_wiretyped.specs.Kept.{LastsKept, NodeKept, NodeGiven}
 use Rattle.hp_wiretyped.proofs.Exprs.{CalleesTyped, NamesAre, LastsAre, as_wire}
@@ -97,7 +97,7 @@ module _ (types : List TypeDecl) (C : Callees) (among : List ℕ → Option Node
       (
         block_wires types C among typed kept given K n.body false _ (body_scope s n) (known_lasts n.outputs no_lasts) (body_names types C n inputs m.free) (lasts_in n.outputs m.memory absent) (held_at Body m) (part Body now)
             (body_outer m.free g) (body_last m.memory k.0) r.body ok.1.1.1.1.0 k.1.0 g.1.0 w.1.0,
-        typed_part types C among typed kept given K n.contract (inside_node s n) _ inputs (controls_in types C n m.free) _ (wired_guard types C n.contract (contract_names types C n inputs now) (lasts_in n.outputs m.memory absent) m now)
+        typed_part types C among typed kept given K n.contract (inside_node s n) _ inputs (controls_in types C n m.free) _ (wired_observer types C n.contract (contract_names types C n inputs now) (lasts_in n.outputs m.memory absent) m now)
             (contract_wires types C among typed kept given K n.contract (inside_node s n) _ (known_lasts n.outputs no_lasts) (contract_names types C n inputs now) (lasts_in n.outputs m.memory absent) m now
             (contract_reads now w.0) (outputs_last types among (inside_node s n) n.outputs m.memory ok.0.1 k.0) r.contract ok.1.1.1.1.1 k.1.1 g.1.1 w.1.1),
       ),
@@ -119,7 +119,7 @@ module _ (types : List TypeDecl) (C : Callees) (among : List ℕ → Option Node
       (λ x t h l. subst (λ b. IsWire types t (if b then W (Named x ∷ []) else Absent)) (sym h) (output_typed types among (inside_node s n) n.outputs W x t w.0 ok.0.1 l (last_declared n.outputs x h))),
       (
         block_next types C among typed kept given K n.body (body_scope s n) (known_lasts n.outputs no_lasts) (body_names types C n inputs m.free) (lasts_in n.outputs m.memory absent) (held_at Body m) (part Body W) ok.1.1.1.1.0 k.1.0 g.1.0 w.1.0,
-        kept_part types C among typed kept given K n.contract (inside_node s n) _ _ m.start (next_guard types C n.contract (contract_names types C n inputs W) (lasts_in n.outputs m.memory absent) m W)
+        kept_part types C among typed kept given K n.contract (inside_node s n) _ _ m.start (next_observer types C n.contract (contract_names types C n inputs W) (lasts_in n.outputs m.memory absent) m W)
             (contract_next types C among typed kept given K n.contract (inside_node s n) (known_lasts n.outputs no_lasts) (contract_names types C n inputs W) (lasts_in n.outputs m.memory absent) m W ok.1.1.1.1.1 k.1.1 g.1.1 w.1.1),
       ),
     )

@@ -8,7 +8,7 @@ use Rattle.hp_tree.specs.declared.block.Trans.{Trans}
 use Rattle.hp_tree.specs.Expressions.{Expr, constant, variable, last_of, one, two, choose, pre, fby, arrow, when_is, merge, call, Exprs, no_expr, more_exprs, Parts, no_part, more_parts}
 use Rattle.hp_tree.specs.Blocks.{Decl, Block, block, Eqns, no_eqn, more_eqns, Eqn, define, switch, reset, automaton, Arms, no_arm, more_arms, States, no_state, more_states}
 use Rattle.hp_tree.specs.Programs.{TypeDecl, Contract, Node}
-use Rattle.hp_tree.specs.Instant.{Body, Guard, Assume, Enforce, Equations, Head, Tail, Right, Test, Arms as ArmsOf, States as StatesOf, Until, Unless, First, Second, Third, Args, Instance, Instant, Past, part, parts, top, own, newest, at_first, nothing, with_one, with_two, with_three, with_row, with_instance, in_row, of_two, in_block, in_right, with_arms, with_body, in_state, with_words, in_guard}
+use Rattle.hp_tree.specs.Instant.{Body, Observer, Assume, Enforce, Equations, Head, Tail, Right, Test, Arms as ArmsOf, States as StatesOf, Until, Unless, First, Second, Third, Args, Instance, Instant, Past, part, parts, top, own, newest, at_first, nothing, with_one, with_two, with_three, with_row, with_instance, in_row, of_two, in_block, in_right, with_arms, with_body, in_state, with_words, in_observer}
 use Rattle.hp_tree.specs.Meaning.{lasts, selected, state_word, node_among, types_of}
 use Rattle.hp_known.specs.Known.{lookup}
 use Rattle.hp_typing.specs.Scopes.{with_variables, inside, inside_node}
@@ -131,10 +131,10 @@ module _ (types : List TypeDecl) (among : List ℕ → Option Node) (R : Remembe
   contract_same : (o : Option Contract) (s : Scope) (known : Lasts) (start : Instant) (past : Past) → ContractSound types among s known o → remembers_contract types R o start past ≡ remembers_contract types Q o start past
   contract_same None s known start past ok = refl
   contract_same (Some c) s known start past ok =
-      let i = block_same c.body s known (part Guard start) (own (parts Guard past)) ok.0 in
+      let i = block_same c.body s known (part Observer start) (own (parts Observer past)) ok.0 in
       let j = told_same c.assume (inside s c.body) (known_of c.body known) (part Assume start) (parts Assume past) ok.1.0 in
       let k = told_same c.enforce (inside s c.body) (known_of c.body known) (part Enforce start) (parts Enforce past) ok.1.1 in
-      λ z. in_guard (i z) (j z) (k z)
+      λ z. in_observer (i z) (j z) (k z)
 
   node_same : (n : Node) (s : Scope) (start : Instant) (past : Past) → NodeSound types among s n
       → in_memory (last_outputs types no_callees n.outputs past) (remembers_block types R n.body (part Body start) (own (parts Body past))) (remembers_contract types R n.contract start past)

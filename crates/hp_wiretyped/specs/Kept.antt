@@ -10,7 +10,7 @@ use Rattle.hp_tree.specs.Expressions.{Expr, constant, variable, last_of, one, tw
 use Rattle.hp_tree.specs.Blocks.{Decl, Block, block, Eqns, no_eqn, more_eqns, Eqn, define, switch, reset, automaton, Arms, no_arm, more_arms, States, no_state, more_states}
 use Rattle.hp_tree.specs.Programs.{TypeDecl, Contract, Node}
 use Rattle.hp_tree.specs.Operators.{is_comparison, marked}
-use Rattle.hp_tree.specs.Instant.{Controls, Body, Guard, Assume, Enforce, Named, Fresh, Equations, Head, Tail, Right, Test, Arms as ArmsOf, States as StatesOf, Until, Unless, Next, Pending, First, Second, Third, Args, Instance, Instant, part, top}
+use Rattle.hp_tree.specs.Instant.{Controls, Body, Observer, Assume, Enforce, Named, Fresh, Equations, Head, Tail, Right, Test, Arms as ArmsOf, States as StatesOf, Until, Unless, Next, Pending, First, Second, Third, Args, Instance, Instant, part, top}
 use Rattle.hp_tree.specs.Meaning.{controls_of}
 use Rattle.hp_known.specs.Known.{lookup}
 use Rattle.hp_typing.specs.Scopes.{with_variables, inside, inside_node}
@@ -94,7 +94,7 @@ module _ (types : List TypeDecl) (callee : List ℕ → Instant → Instant → 
   abbrev pub ContractKept : Scope → Option Contract → Instant → Instant → Type 0
   ContractKept s None start mem = ⊤
   ContractKept s (Some c) start mem =
-      BlockKept s c.body (part Guard start) (part Guard mem)
+      BlockKept s c.body (part Observer start) (part Observer mem)
       × (ToldKept (inside s c.body) c.assume (part Assume start) (part Assume mem) × ToldKept (inside s c.body) c.enforce (part Enforce start) (part Enforce mem))
 
   abbrev pub NodeKept : Scope → Node → Instant → Instant → Type 0
@@ -178,7 +178,7 @@ module _ (types : List TypeDecl) (callee : List ℕ → Instant → Type 0) wher
   abbrev pub ContractGiven : Scope → Option Contract → Instant → Type 0
   ContractGiven s None i = ⊤
   ContractGiven s (Some c) i =
-      BlockGiven s c.body (part Guard i) × (ToldGiven (inside s c.body) c.assume (part Assume i) × ToldGiven (inside s c.body) c.enforce (part Enforce i))
+      BlockGiven s c.body (part Observer i) × (ToldGiven (inside s c.body) c.assume (part Assume i) × ToldGiven (inside s c.body) c.enforce (part Enforce i))
 
   abbrev pub NodeGiven : Scope → Node → Instant → Type 0
   NodeGiven s n i =

@@ -9,7 +9,7 @@ use Rattle.hp_tree.specs.declared.block.Trans.{Trans}
 use Rattle.hp_tree.specs.Expressions.{Expr, constant, variable, last_of, one, two, choose, pre, fby, arrow, when_is, merge, call, Exprs, no_expr, more_exprs, Parts, no_part, more_parts}
 use Rattle.hp_tree.specs.Blocks.{Decl, Block, block, Eqns, no_eqn, more_eqns, Eqn, define, switch, reset, automaton, Arms, no_arm, more_arms, States, no_state, more_states}
 use Rattle.hp_tree.specs.Programs.{TypeDecl, Contract, Node}
-use Rattle.hp_tree.specs.Instant.{Body, Guard, Assume, Enforce, Named, Equations, Head, Tail, Right, Test, Arms as ArmsOf, States as StatesOf, Until, Unless, Active, Next, Pending, First, Second, Third, Args, Instance, Instant, part, top}
+use Rattle.hp_tree.specs.Instant.{Body, Observer, Assume, Enforce, Named, Equations, Head, Tail, Right, Test, Arms as ArmsOf, States as StatesOf, Until, Unless, Active, Next, Pending, First, Second, Third, Args, Instance, Instant, part, top}
 use Rattle.hp_tree.specs.Meaning.{some_defines, state_word}
 use Rattle.hp_tree.specs.Values.{IsOf}
 use Rattle.hp_known.specs.Known.{lookup}
@@ -119,7 +119,7 @@ module _ (types : List TypeDecl) (callee : List ℕ → Instant → Type 0) wher
   abbrev pub ContractTyped : Scope → Option Contract → Instant → Type 0
   ContractTyped s None i = ⊤
   ContractTyped s (Some c) i =
-      BlockTyped s c.body (part Guard i) × (ToldTyped (inside s c.body) c.assume (part Assume i) × ToldTyped (inside s c.body) c.enforce (part Enforce i))
+      BlockTyped s c.body (part Observer i) × (ToldTyped (inside s c.body) c.assume (part Assume i) × ToldTyped (inside s c.body) c.enforce (part Enforce i))
 
   -- a node: its outputs, its body and its contract
   abbrev pub NodeTyped : Scope → Node → Instant → Type 0

@@ -1,7 +1,7 @@
 use Rattle.std.proofs.Common.{◌≡◌, Some, IfSome, OnOk, sym, ap, subst, ◌∙◌}
 use Rattle.hp_cause.specs.Around.{of_places, places_from}
 use Rattle.hp_cause.specs.Gathering.{of_defined}
-use Rattle.hp_cause.specs.Names.{listed}
+use Rattle.hp_defining.specs.Names.{listed}
 use Rattle.hp_defining.specs.Layers.{sight}
 use Rattle.hp_cause.specs.Told.{facts_seen, names_seen, with_more}
 use Rattle.hp_cause.proofs.AroundLaws.{all-walked}

@@ -2,7 +2,7 @@ use Rattle.std.proofs.Common.{[], ◌∷◌, ◌++◌, ap, ◌∙◌}
 use Rattle.hp_defining.specs.Layers.{says_seen, sight}
 use Rattle.hp_cause.specs.Told.{names_seen}
 use Rattle.hp_cause.proofs.TableLaws.{sight-declared}
-use Rattle.hp_cause.proofs.gather.guard_scope.Goals as goal
+use Rattle.hp_cause.proofs.gather.observer_scope.Goals as goal
 
 pub returns-clause-seen : goal.returns-clause-seen
 returns-clause-seen c =

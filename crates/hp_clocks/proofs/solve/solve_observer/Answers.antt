@@ -5,7 +5,7 @@ use Rattle.hp_clocks.specs.Units.{contract_units, contract_sight}
 use Rattle.hp_clocks.proofs.BoundLaws.{interface_there}
 use Rattle.hp_clocks.proofs.SightLaws.{no_controls}
 use Rattle.hp_clocks.proofs.SolvesLaws.{solves_as}
-use Rattle.hp_clocks.proofs.solve.solve_guard.Goals as goal
+use Rattle.hp_clocks.proofs.solve.solve_observer.Goals as goal
 
 pub solve_contract-requires-clause-ready : goal.solve_contract-requires-clause-ready
 solve_contract-requires-clause-ready c =

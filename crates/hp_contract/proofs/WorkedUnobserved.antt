@@ -30,8 +30,8 @@ passing = node g (bool i ∷ []) (bool z ∷ []) None (def z (calls (codes "echo
 abbrev wanting : Node
 wanting = echo (promises (Some (v x)) (truth true) [])
 
-abbrev unguarded : List Item
-unguarded = NodeItem wanting ∷ NodeItem passing ∷ []
+abbrev unobserved : List Item
+unobserved = NodeItem wanting ∷ NodeItem passing ∷ []
 
 abbrev the_call : Placed
 the_call = record { point = record { kind = kind.Call; name = codes "echo"; span = here }; place = Body ∷ Equations ∷ Head ∷ Right ∷ [] }
@@ -45,7 +45,7 @@ passing_ranked = ranks_enough passing (1 ∷ 0 ∷ []) (tt, (tt, tt)) (tested pa
 abbrev all_true : Instant
 all_true = as_given (λ p. true)
 
-module _ (now : Instant) (meets : (p : Place) → now p ≡ abstract_meaning unguarded passing.name (B false ∷ []) (record { past = []; free = steered_by all_true (at_controls []) }) now p) where
+module _ (now : Instant) (meets : (p : Place) → now p ≡ abstract_meaning unobserved passing.name (B false ∷ []) (record { past = []; free = steered_by all_true (at_controls []) }) now p) where
   passing_supposes : IsTrue (hypothesis passing now)
   passing_supposes = rw (meets (Assume ∷ []), meets (of_callee (Assume ∷ []))) refl
 
@@ -53,35 +53,35 @@ module _ (now : Instant) (meets : (p : Place) → now p ≡ abstract_meaning ung
   passing_fails = rw (meets (Enforce ∷ []), meets (of_callee (Assume ∷ []))) refl
 
 -- The input false breaks the assumption of the callee at once.
-passing_is_forced : Forced unguarded passing 1 []
+passing_is_forced : Forced unobserved passing 1 []
 passing_is_forced = (
   (B false ∷ []),
   all_true,
   ((false, refl), tt),
-  of_none (λ c. (now : Instant) × IsNext unguarded passing [] (B false ∷ []) all_true c now × IsTrue (hypothesis passing now) × (IsFalse (duty passing now) ⊎ ⊥))
-      (let one = abstract_one unguarded passing.name (B false ∷ []) (record { past = []; free = steered_by all_true (at_controls []) }) (wanting_ranked, (passing_ranked, tt)) in (
+  of_none (λ c. (now : Instant) × IsNext unobserved passing [] (B false ∷ []) all_true c now × IsTrue (hypothesis passing now) × (IsFalse (duty passing now) ⊎ ⊥))
+      (let one = abstract_one unobserved passing.name (B false ∷ []) (record { past = []; free = steered_by all_true (at_controls []) }) (wanting_ranked, (passing_ranked, tt)) in (
         one.now,
-        record { free = all_true; fits = one_call_fits unguarded passing the_call (bool y) one.now (λ p. true) refl refl refl; agrees = λ p early. refl; meets = one.meets },
+        record { free = all_true; fits = one_call_fits unobserved passing the_call (bool y) one.now (λ p. true) refl refl refl; agrees = λ p early. refl; meets = one.meets },
         passing_supposes one.now one.meets,
         inl (passing_fails one.now one.meets),
       )),
 )
 
-passing_is_not_safe : Safe unguarded passing [] → ⊥
+passing_is_not_safe : Safe unobserved passing [] → ⊥
 passing_is_not_safe safe = safe 1 passing_is_forced
 
-wanting_owes : (inputs : List Value) (history : Past) (free now : Instant) → ((p : Place) → now p ≡ abstract_meaning unguarded wanting.name inputs (record { past = history; free = free }) now p) → IsTrue (duty wanting now)
+wanting_owes : (inputs : List Value) (history : Past) (free now : Instant) → ((p : Place) → now p ≡ abstract_meaning unobserved wanting.name inputs (record { past = history; free = free }) now p) → IsTrue (duty wanting now)
 wanting_owes inputs history free now meets = rw (meets (Enforce ∷ [])) refl
 
-wanting_is_safe : Safe unguarded wanting []
+wanting_is_safe : Safe unobserved wanting []
 wanting_is_safe =
-    kept unguarded wanting (λ h. true)
+    kept unobserved wanting (λ h. true)
     (λ history inputs early k fits. ([], tt, λ now next h. (wanting_owes inputs history (steered_by next.free (at_controls [])) now next.meets, refl)))
     [] refl
 
 -- Still the guarantee speaks of this program.
-all_safe : AllSafe unguarded (reverse unguarded)
+all_safe : AllSafe unobserved (reverse unobserved)
 all_safe = (no_contract, ((λ has. wanting_is_safe), tt))
   where
-    no_contract : HasContract passing → Safe unguarded passing []
+    no_contract : HasContract passing → Safe unobserved passing []
     no_contract (contract, e) = absurd (cc)
