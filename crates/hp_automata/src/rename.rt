@@ -8,7 +8,7 @@ ghost use Rattle.hp_automata.specs.Held.{said, renamed_part};
 
 use crate::around::{Layer, said};
 use hp_base::{Const, Name, Span};
-use hp_tree::{Cons, Decl, Expr, ExprKind};
+use hp_tree::{Cons, Decl, Expr, ExprKind, copy_last};
 use std::alloc::{AllocError, Global};
 
 #[cycle(rename)]
@@ -122,15 +122,6 @@ fn rename_clock(
     match clock {
         None => Ok(None),
         Some(path) => Ok(Some(rename_path(alloc, layers, path)?)),
-    }
-}
-
-fn copy_last(alloc: Global, last: &Option<Const>) -> Result<Option<Const>, AllocError>
-    ensures { IfOk result (λ copy. copy ≡ last.now) }
-{
-    match last {
-        None => Ok(None),
-        Some(constant) => Ok(Some(constant.copy(alloc)?)),
     }
 }
 

@@ -1,4 +1,5 @@
 pub mod Arithmetic
+pub mod Bytes
 pub mod Coding
 pub mod Kinds
 pub mod Limits

@@ -1,6 +1,7 @@
-//! What every crate speaks of: names, places in a text, values and their kinds, and limits.
+//! What every crate speaks of: names and their bytes, places in a text, values and their kinds, and limits.
 #![tactic(auto)]
 
+mod byte;
 mod kind;
 mod limit;
 mod name;
@@ -9,9 +10,10 @@ mod span;
 mod ty;
 mod value;
 
+pub use byte::{is_blank_byte, is_capital_letter, is_digit_byte, is_small_letter, is_word_part};
 pub use kind::{Kind, Signature};
 pub use limit::{Limit, What};
-pub use name::{MAX_NAME, Name};
+pub use name::{MAX_NAME, Name, copy_names};
 pub use op::{Op, int_op};
 pub use span::Span;
 pub use ty::{Const, Ty};

@@ -6,8 +6,8 @@ use Rattle.std.specs.List.{list_all}
 use Rattle.std.proofs.lemmas.Bool.Decides.{nat_tests}
 use Rattle.std.proofs.lemmas.Fmt.{decimal_nonempty}
 use Rattle.std.proofs.lemmas.List.{length-append}
-use Rattle.hp_lines.specs.Numbers.{is_digit}
-use Rattle.hp_obc.specs.Form.{is_small, is_name_byte, is_name, is_reserved}
+use Rattle.hp_base.specs.Bytes.{is_digit, is_small}
+use Rattle.hp_obc.specs.Form.{is_name_byte, is_name, is_reserved}
 use Rattle.hp_quant.specs.declared.line.Line.{Line}
 use Rattle.hp_certtext.specs.Certificates.{IsShort, IsRef, AreLines, AreWidths, IsClaim, Claim, win, lose, Certificate, HasForm}
 use Rattle.hp_certtext.specs.Pieces.{Piece, Pieces, is_gap, in_word, begins_word, pieces, joined}

@@ -11,8 +11,9 @@ use Rattle.std.proofs.lemmas.List.Folds.{list_all-append}
 use Rattle.std.proofs.lemmas.List.Sums.{fold-append}
 use Rattle.std.proofs.lemmas.Slice.Eq.{bytes_eq-Decides}
 use Rattle.std.proofs.lemmas.Str.Parse.{IsNumeralModel, IsDigitsTest, FoldsDigits, numerals_by_fold}
-use Rattle.hp_lines.specs.Numbers.{is_digit, with_digit, digits_number, natural_of}
-use Rattle.hp_obc.specs.Form.{is_small, is_name_byte, is_name, is_reserved}
+use Rattle.hp_base.specs.Bytes.{is_digit, is_small}
+use Rattle.hp_lines.specs.Numbers.{with_digit, digits_number, natural_of}
+use Rattle.hp_obc.specs.Form.{is_name_byte, is_name, is_reserved}
 use Rattle.hp_certtext.specs.Pieces.{Piece}
 use Rattle.hp_certtext.specs.Reading.{is_start, this, which, is_plain, within, number_of, name_of}
 use Rattle.hp_certtext.proofs.Phrases.{GoesOn}

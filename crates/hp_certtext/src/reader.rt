@@ -7,7 +7,8 @@ ghost use Rattle.hp_certtext.specs.Reading.{fixed, either, number, name};
 ghost use Rattle.hp_certtext.specs.Ahead.{stop_in};
 
 use crate::piece::first_piece;
-use crate::spelling::{is_name, is_reserved, number_of};
+use crate::spelling::number_of;
+use hp_spelling::{is_reserved_word, spells_name};
 use itoa::Buffer;
 use std::alloc::{AllocError, AllocFailed, Global};
 use std::marker::Model;
@@ -140,11 +141,11 @@ impl<'t> Reader<'t> {
         let Some((piece, behind)) = first_piece(self.rest) else {
             return Err(Stop::Refused);
         };
-        if is_name(piece) {
+        if spells_name(piece) {
             self.rest = behind;
             return Ok(piece);
         }
-        self.rest = stop_at(is_reserved(piece), self.rest, behind);
+        self.rest = stop_at(is_reserved_word(piece), self.rest, behind);
         Err(Stop::Refused)
     }
 

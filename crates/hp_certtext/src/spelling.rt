@@ -1,43 +1,7 @@
 //! What a single word stands for.
 ghost use Rattle.std.specs.Prelude.{◌≡◌, ◌≤◌, length, min, option_map};
-ghost use Rattle.std.specs.List.{list_all};
 ghost use Rattle.hp_lines.specs.Numbers.{natural_of};
-ghost use Rattle.hp_obc.specs.Form.{is_name_byte, is_name, is_reserved};
 ghost use Rattle.hp_certtext.specs.Reading.{is_plain, number_of};
-
-fn is_name_part(byte: u8) -> bool
-    ensures { result ≡ is_name_byte byte }
-{
-    matches!(byte, b'a'..=b'z' | b'A'..=b'Z' | b'0'..=b'9' | b'_' | b'$')
-}
-
-fn are_name_parts(bytes: &[u8]) -> bool
-    ensures { result ≡ list_all is_name_byte bytes.now }
-{
-    bytes.iter().all(|byte| is_name_part(*byte))
-}
-
-/// Whether a word means something else where a name may stand.
-pub(crate) fn is_reserved(word: &[u8]) -> bool
-    ensures { result ≡ is_reserved word.now }
-{
-    word == b"true".as_slice()
-        || word == b"false".as_slice()
-        || word == b"bool".as_slice()
-        || word == b"int".as_slice()
-}
-
-/// Whether a word is the name of a machine.
-pub(crate) fn is_name(word: &[u8]) -> bool
-    ensures { result ≡ is_name word.now }
-{
-    match word {
-        [b'a'..=b'z', others @ ..] => {
-            are_name_parts(others) && word.len() <= 270 && !is_reserved(word)
-        }
-        _ => false,
-    }
-}
 
 /// The number that digits spell, or the greatest `usize` where it is greater.
 fn natural(digits: &[u8]) -> Option<usize>

@@ -8,7 +8,7 @@ ghost use Rattle.hp_exec.specs.Typing.{HoldsTypes, constant_in, first_in, constr
 ghost use Rattle.hp_base.specs.Kinds.{kind_seen};
 
 use crate::names::{add, find};
-use hp_base::{Const, Kind, Name, Ty, Value};
+use hp_base::{Const, Kind, Name, Ty, Value, copy_names};
 use hp_obc::ObcType;
 use indexmap::IndexSet;
 use std::alloc::{AllocError, Global};
@@ -83,7 +83,7 @@ impl<'a> Types<'a> {
                     let declared = &self.declared[n];
                     Ok(Kind::Enum {
                         number: n as u16,
-                        cons: copies(alloc, &declared.cons)?,
+                        cons: copy_names(alloc, &declared.cons)?,
                     })
                 }
                 _ => Ok(Kind::Bool),
@@ -112,16 +112,6 @@ impl<'a> Types<'a> {
             Ty::Enum(name) => value_at(find(&self.names, name), &self.firsts),
         }
     }
-}
-
-fn copies(alloc: Global, names: &[Name]) -> Result<Vec<Name>, AllocError>
-    ensures { IfOk result (λ copies. copies.items ≡ names.now) }
-{
-    let mut copies = Vec::with_capacity(alloc, names.len())?;
-    for name in names {
-        copies.push(name.copy(alloc)?)?;
-    }
-    Ok(copies)
 }
 
 fn value_at(place: Option<usize>, values: &[Value]) -> Value

@@ -10,7 +10,9 @@ ghost use Rattle.hp_expand.specs.NodeTables.{node_in};
 use crate::nodes::Nodes;
 use crate::replace::{Made, add_definitions, inline, push_eqn, replace_args, replace_expr};
 use hp_base::{Name, Span};
-use hp_tree::{Arm, Block, Contract, Eqn, Expr, ExprKind, Node, State, Trans, copy_decls};
+use hp_tree::{
+    Arm, Block, Contract, Eqn, Expr, ExprKind, Node, State, copy_decls, copy_left, copy_transitions,
+};
 use std::alloc::{AllocError, Global};
 
 /// Adds an equation of some names, whose right side is a call. An inlined one gives an equation for each name.
@@ -61,17 +63,6 @@ fn push_definition(
 {
     let names = copy_left(alloc, names)?;
     push_eqn(into, Eqn::Def { span, names, right })
-}
-
-#[tactic(auto, using(crate::proofs::Rules::more))]
-fn copy_left(alloc: Global, names: &[(Name, Span)]) -> Result<Vec<(Name, Span)>, AllocError>
-    ensures { IfOk result (λ copies. copies.items ≡ names.now) }
-{
-    let mut copies = Vec::new(alloc);
-    for (name, span) in names {
-        copies.push((name.copy(alloc)?, *span))?;
-    }
-    Ok(copies)
 }
 
 /// Adds what replaces an equation of some names.
@@ -229,17 +220,6 @@ fn replace_arms(
         others.push(replace_arm(alloc, nodes, arm, next)?)?;
     }
     Ok(others)
-}
-
-#[tactic(auto, using(crate::proofs::Rules::more))]
-fn copy_transitions(alloc: Global, transitions: &[Trans]) -> Result<Vec<Trans>, AllocError>
-    ensures { IfOk result (λ copies. copies.items ≡ transitions.now) }
-{
-    let mut copies = Vec::new(alloc);
-    for transition in transitions {
-        copies.push(transition.copy(alloc)?)?;
-    }
-    Ok(copies)
 }
 
 /// A state. Its transitions hold no call.

@@ -10,7 +10,7 @@ ghost use Rattle.hp_expand.specs.Layers.{said};
 
 use crate::names::Naming;
 use hp_base::{Const, Name, Span};
-use hp_tree::{Arm, Block, Cons, Decl, Eqn, Expr, ExprKind, State, Trans};
+use hp_tree::{Arm, Block, Cons, Decl, Eqn, Expr, ExprKind, State, Trans, copy_last};
 use std::alloc::{AllocError, Global};
 
 #[cycle(rename)]
@@ -124,15 +124,6 @@ fn rename_clock(
     match clock {
         None => Ok(None),
         Some(path) => Ok(Some(rename_path(alloc, naming, path)?)),
-    }
-}
-
-fn copy_last(alloc: Global, last: &Option<Const>) -> Result<Option<Const>, AllocError>
-    ensures { IfOk result (λ copy. copy ≡ last.now) }
-{
-    match last {
-        None => Ok(None),
-        Some(constant) => Ok(Some(constant.copy(alloc)?)),
     }
 }
 

@@ -7,7 +7,8 @@ use Rattle.std.proofs.lemmas.Bool.Decides.{nat_tests}
 use Rattle.std.proofs.lemmas.Fmt.{decimal_by_steps, length-decimal-le}
 use Rattle.std.proofs.lemmas.List.{length-append, length-take}
 use Rattle.std.proofs.lemmas.List.Folds.{list_all-append}
-use Rattle.hp_obc.specs.Form.{is_small, is_name_byte, is_reserved}
+use Rattle.hp_base.specs.Bytes.{is_small}
+use Rattle.hp_obc.specs.Form.{is_name_byte, is_reserved}
 use Rattle.hp_expand.specs.NewNames as expand
 use Rattle.hp_automata.specs.declared.new_names.Word.{Word}
 use Rattle.hp_automata.specs.declared.new_names.Word.TheVariants.{Jump, Next, From, On, Strong, Weak}

@@ -6,7 +6,7 @@ use Rattle.std.specs.Prelude.{◌==◌, Option, None, Some}
 use Rattle.std.specs.List.{list_all}
 use Rattle.hp_base.specs.declared.span.Span.{Span}
 use Rattle.hp_base.specs.declared.ty.Const.{Const}
-use Rattle.hp_lexer.specs.Bytes.{is_small, is_word_byte}
+use Rattle.hp_base.specs.Bytes.{is_small, is_word_byte}
 use Rattle.hp_lexer.specs.Spelling.{IsWord}
 use Rattle.hp_lexer.specs.Written.{Written, IsWritable}
 use Rattle.hp_lexer.specs.declared.token.Keyword.TheVariants as key

@@ -5,7 +5,7 @@ use Rattle.std.proofs.lemmas.List.{append-nil, append_assoc, length-append, take
 use Rattle.std.proofs.lemmas.List.Elements.{All-append, All-push}
 use Rattle.hp_base.specs.Limits.{most}
 use Rattle.hp_base.specs.declared.limit.What.TheVariants.{Name}
-use Rattle.hp_lexer.specs.Bytes.{is_digit}
+use Rattle.hp_base.specs.Bytes.{is_digit}
 use Rattle.hp_lexer.specs.Spelling.{Spells, IsWithin, IsNameKind}
 use Rattle.hp_lexer.specs.Lexing.{span_behind, IsToken, token_behind, token_text, Piece, Reads, AreTokensOf, IsTokenIn, AreInOrder}
 use Rattle.hp_lexer.specs.declared.token.Token.{Token}

@@ -4,7 +4,7 @@ use Rattle.std.specs.Prelude.{find}
 use Rattle.std.specs.List.{list_all}
 use Rattle.std.specs.Str.{bytes_eq}
 use Rattle.std.proofs.lemmas.Slice.Eq.{bytes_eq-Decides}
-use Rattle.hp_lexer.specs.Bytes.{is_small, is_word_byte}
+use Rattle.hp_base.specs.Bytes.{is_small, is_word_byte}
 use Rattle.hp_lexer.specs.Spelling.{keyword_text}
 use Rattle.hp_lexer.specs.Reading.{keyword_of, keywords_with}
 use Rattle.hp_lexer.specs.declared.token.Keyword.{Keyword}

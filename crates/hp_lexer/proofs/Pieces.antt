@@ -7,7 +7,8 @@ use Rattle.std.proofs.lemmas.List.{append-nil, append_assoc, take_rest, take_at,
 use Rattle.std.proofs.lemmas.List.Sums.{count_by-le-length, suffix_len-le-length}
 use Rattle.hp_base.specs.Limits.{most}
 use Rattle.hp_base.specs.declared.limit.What.TheVariants.{Name}
-use Rattle.hp_lexer.specs.Bytes.{is_blank, is_digit, begins_blank, begins_comment}
+use Rattle.hp_base.specs.Bytes.{is_blank, is_digit}
+use Rattle.hp_lexer.specs.Bytes.{begins_blank, begins_comment}
 use Rattle.hp_lexer.specs.Spelling.{Spells, IsNumeral, IsWithin, IsNameKind, value_of}
 use Rattle.hp_lexer.specs.Lexing.{span_behind, Inside, IsComment, IsToken, token_behind, Piece, Reads, IsUnclosed, Stops}
 use Rattle.hp_lexer.specs.Reading.{HasRoom, place_behind, next_place, along, span_at, comment_end, Stands, Leads, Unended, IsNext, Fails, Ends, token_in}

@@ -6,7 +6,8 @@ use Rattle.std.proofs.lemmas.Bool.Decides.{nat_tests}
 use Rattle.std.proofs.lemmas.List.{append-nil, append_assoc}
 use Rattle.hp_base.specs.Limits.{most}
 use Rattle.hp_base.specs.declared.limit.What.TheVariants.{Size}
-use Rattle.hp_lexer.specs.Bytes.{is_digit, is_word_byte, is_blank, begins_comment}
+use Rattle.hp_base.specs.Bytes.{is_digit, is_word_byte, is_blank}
+use Rattle.hp_lexer.specs.Bytes.{begins_comment}
 use Rattle.hp_lexer.specs.Spelling.{Spells, sign_text, keyword_text}
 use Rattle.hp_lexer.specs.Lexing.{IsToken, token_behind, Piece, Reads, AreTokensOf}
 use Rattle.hp_lexer.specs.Written.{Written, IsWritable, written_text, written_tokens}

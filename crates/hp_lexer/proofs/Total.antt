@@ -4,7 +4,8 @@ use Rattle.std.proofs.lemmas.Bool.{cases_lt}
 use Rattle.std.proofs.lemmas.List.{length-append, length-drop}
 use Rattle.hp_base.specs.Limits.{most}
 use Rattle.hp_base.specs.declared.limit.What.TheVariants.{Name, Size}
-use Rattle.hp_lexer.specs.Bytes.{is_blank, begins_blank, begins_comment}
+use Rattle.hp_base.specs.Bytes.{is_blank}
+use Rattle.hp_lexer.specs.Bytes.{begins_blank, begins_comment}
 use Rattle.hp_lexer.specs.Spelling.{IsWithin, IsNameKind, value_of}
 use Rattle.hp_lexer.specs.Lexing.{Reads, AreTokensOf, Stops, Refuses}
 use Rattle.hp_lexer.specs.Reading.{place_behind, next_place, along, comment_end, Stands, StopsIn, token_in}

@@ -6,7 +6,8 @@ use Rattle.std.proofs.lemmas.Bool.{both_ways}
 use Rattle.std.proofs.lemmas.List.{append-nil, append_assoc}
 use Rattle.hp_base.specs.Limits.{most}
 use Rattle.hp_base.specs.declared.limit.What.TheVariants.{Name}
-use Rattle.hp_lexer.specs.Bytes.{is_blank, begins_blank, begins_comment}
+use Rattle.hp_base.specs.Bytes.{is_blank}
+use Rattle.hp_lexer.specs.Bytes.{begins_blank, begins_comment}
 use Rattle.hp_lexer.specs.Spelling.{Spells, IsWithin, IsNameKind}
 use Rattle.hp_lexer.specs.Lexing.{span_behind, IsComment, IsToken, token_behind, Piece, Reads, AreTokensOf, BeginsNothing, IsUnclosed, Stops, Refuses}
 use Rattle.hp_lexer.specs.declared.lexer.LexErr.{LexErr}

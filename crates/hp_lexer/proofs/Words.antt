@@ -7,7 +7,8 @@ use Rattle.std.proofs.lemmas.Bool.Decides.{nat_tests}
 use Rattle.std.proofs.lemmas.List.{take-append-drop}
 use Rattle.std.proofs.lemmas.List.Folds.{length-prefix_len}
 use Rattle.std.proofs.lemmas.List.Sums.{take_while-cons}
-use Rattle.hp_lexer.specs.Bytes.{is_small, is_capital, is_digit, is_word_byte, is_blank, begins_blank}
+use Rattle.hp_base.specs.Bytes.{is_small, is_capital, is_digit, is_word_byte, is_blank}
+use Rattle.hp_lexer.specs.Bytes.{begins_blank}
 use Rattle.hp_lexer.specs.Spelling.{Spells, IsWord, IsNumeral, keyword_text, sign_text}
 use Rattle.hp_lexer.specs.Reading.{keyword_of, word_kind, token_in, sign_in}
 use Rattle.hp_lexer.specs.declared.token.Keyword.{Keyword}

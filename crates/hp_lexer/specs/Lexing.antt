@@ -4,7 +4,8 @@ use Rattle.std.specs.List.{suffix_len}
 use Rattle.hp_base.specs.Limits.{most}
 use Rattle.hp_base.specs.declared.limit.What.TheVariants.{Name, Size}
 use Rattle.hp_base.specs.declared.span.Span.{Span}
-use Rattle.hp_lexer.specs.Bytes.{is_blank, begins_blank, begins_comment, begins_end}
+use Rattle.hp_base.specs.Bytes.{is_blank}
+use Rattle.hp_lexer.specs.Bytes.{begins_blank, begins_comment, begins_end}
 use Rattle.hp_lexer.specs.Spelling.{Spells, IsWithin, IsNameKind, value_of, greatest_number}
 use Rattle.hp_lexer.specs.declared.lexer.LexErr.{LexErr}
 use Rattle.hp_lexer.specs.declared.lexer.LexErr.TheVariants.{Bad, Limit as Passes}

@@ -2,7 +2,8 @@
 use Rattle.std.specs.Prelude.{◌≡◌, ◌<◌, ◌≤◌, ℕ, zero, suc, ◌+◌, ◌^◌, ◌==◌, ◌&&◌, false, if◌then◌else◌, List, [], ◌∷◌, ◌++◌, length, take_while, Option, None, Some, option_map, find}
 use Rattle.hp_base.specs.declared.span.Span.{Span}
 use Rattle.std.specs.Str.{bytes_eq}
-use Rattle.hp_lexer.specs.Bytes.{is_small, is_capital, is_digit, is_word_byte, begins_blank, begins_comment}
+use Rattle.hp_base.specs.Bytes.{is_small, is_capital, is_digit, is_word_byte}
+use Rattle.hp_lexer.specs.Bytes.{begins_blank, begins_comment}
 use Rattle.hp_lexer.specs.Lexing.{line_behind, col_behind, Reads, Stops, IsUnclosed}
 use Rattle.hp_lexer.specs.declared.lexer.LexErr.{LexErr}
 use Rattle.hp_lexer.specs.Spelling.{keyword_text}

@@ -3,7 +3,7 @@ use Rattle.std.specs.Prelude.{◌≡◌, ◌≢◌, ◌≤◌, ℕ, ◌+◌, ◌
 use Rattle.std.specs.List.{list_all}
 use Rattle.hp_base.specs.Limits.{most}
 use Rattle.hp_base.specs.declared.limit.What.TheVariants.{Name}
-use Rattle.hp_lexer.specs.Bytes.{is_small, is_capital, is_digit, is_word_byte}
+use Rattle.hp_base.specs.Bytes.{is_small, is_capital, is_digit, is_word_byte}
 use Rattle.hp_lexer.specs.declared.token.Keyword.{Keyword}
 use Rattle.hp_lexer.specs.declared.token.Keyword.TheVariants.{Assume, Automaton, Bool as BoolWord, Continue, Contract, Do, Else, End, Enforce, Every, False, Fby, If, In, Inlined, Int, Last, Let, Merge, Node, Not, On, Or, Pre, Reset, Returns, State, Switch, Tel, Then, True, «Type» as TypeWord, Unless, Until, Var, When, Whenot, With, Xor}
 use Rattle.hp_lexer.specs.declared.token.Sign.{Sign}

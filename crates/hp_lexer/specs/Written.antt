@@ -1,6 +1,6 @@
 -- Texts that are written token by token.
 use Rattle.std.specs.Prelude.{◌≡◌, ℕ, true, List, [], ◌∷◌, ◌++◌}
-use Rattle.hp_lexer.specs.Bytes.{is_blank}
+use Rattle.hp_base.specs.Bytes.{is_blank}
 use Rattle.hp_lexer.specs.Spelling.{Spells, IsWithin}
 use Rattle.hp_lexer.specs.Lexing.{token_behind}
 use Rattle.hp_lexer.specs.declared.token.Token.{Token}

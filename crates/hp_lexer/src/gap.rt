@@ -1,9 +1,10 @@
 //! Blanks and comments.
 ghost use Rattle.std.specs.Prelude.{◌≡◌, ◌≤◌, false, length, IfSome, IfOk, IfErr, option_map};
-ghost use Rattle.hp_lexer.specs.Bytes.{is_blank, begins_blank, begins_comment};
+ghost use Rattle.hp_lexer.specs.Bytes.{begins_blank, begins_comment};
 ghost use Rattle.hp_lexer.specs.Reading.{HasRoom, mark_of, comment_end, Leads, IsGap, Unended};
 
 use crate::place::{Place, Rest};
+use hp_base::is_blank_byte;
 
 /// What two bytes inside a comment say.
 #[derive(Clone, Copy, Debug)]
@@ -13,12 +14,6 @@ pub(crate) enum Mark {
     /// `*)`
     Closes,
     Plain,
-}
-
-fn is_blank_byte(byte: u8) -> bool
-    ensures { result ≡ is_blank byte }
-{
-    byte == b' ' || byte == b'\t' || byte == b'\r' || byte == b'\n'
 }
 
 fn marked(first: u8, second: u8) -> Mark

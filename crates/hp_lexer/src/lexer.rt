@@ -10,10 +10,8 @@ use crate::numbers::number;
 use crate::place::{Place, Rest};
 use crate::sign::first_sign;
 use crate::token::{Token, TokenKind};
-use crate::word::{
-    digits_length, is_capital_letter, is_digit_byte, is_small_letter, keyword, word_length,
-};
-use hp_base::{Limit, Span, What};
+use crate::word::{digits_length, keyword, word_length};
+use hp_base::{Limit, Span, What, is_capital_letter, is_digit_byte, is_small_letter};
 use std::alloc::{AllocFailed, Global};
 use thiserror::Error;
 

@@ -1,7 +1,7 @@
 //! Numbers.
 ghost use Rattle.std.specs.Prelude.{◌≡◌, ◌<◌, ◌≤◌, true, IfSome, IfNone};
 ghost use Rattle.std.specs.List.{list_all};
-ghost use Rattle.hp_lexer.specs.Bytes.{is_digit};
+ghost use Rattle.hp_base.specs.Bytes.{is_digit};
 ghost use Rattle.hp_lexer.specs.Spelling.{greatest_number, value_of};
 
 /// The greatest number of a source text.

@@ -202,7 +202,7 @@ impl Token {
     ghost use Rattle.std.specs.List.{list_all};
     ghost use Rattle.hp_base.specs.Limits.{most};
     ghost use Rattle.hp_base.specs.declared.limit.What.TheVariants.{Name};
-    ghost use Rattle.hp_lexer.specs.Bytes.{is_digit};
+    ghost use Rattle.hp_base.specs.Bytes.{is_digit};
     ghost use Rattle.hp_lexer.specs.Lexing.{IsTokenIn, token_text};
     ghost use Rattle.hp_lexer.specs.Spelling.{Spells, IsWithin, IsNameKind};
 

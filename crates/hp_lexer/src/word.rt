@@ -3,33 +3,10 @@ ghost use Rattle.std.specs.Prelude.{◌≡◌, length, take_while, find};
 ghost use Rattle.std.specs.Str.{bytes_eq};
 ghost use Rattle.hp_lexer.specs.Spelling.{keyword_text};
 ghost use Rattle.hp_lexer.specs.Reading.{keyword_of, keywords_with};
-ghost use Rattle.hp_lexer.specs.Bytes.{is_small, is_capital, is_digit, is_word_byte};
+ghost use Rattle.hp_base.specs.Bytes.{is_digit, is_word_byte};
 
 use crate::token::Keyword;
-
-pub(crate) fn is_small_letter(byte: u8) -> bool
-    ensures { result ≡ is_small byte }
-{
-    b'a' <= byte && byte <= b'z'
-}
-
-pub(crate) fn is_capital_letter(byte: u8) -> bool
-    ensures { result ≡ is_capital byte }
-{
-    b'A' <= byte && byte <= b'Z'
-}
-
-pub(crate) fn is_digit_byte(byte: u8) -> bool
-    ensures { result ≡ is_digit byte }
-{
-    b'0' <= byte && byte <= b'9'
-}
-
-fn is_word_part(byte: u8) -> bool
-    ensures { result ≡ is_word_byte byte }
-{
-    is_small_letter(byte) || is_capital_letter(byte) || is_digit_byte(byte) || byte == b'_'
-}
+use hp_base::{is_digit_byte, is_word_part};
 
 /// How many bytes in front are letters, digits and `_`.
 pub(crate) fn word_length(text: &[u8]) -> usize

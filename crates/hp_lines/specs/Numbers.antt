@@ -1,9 +1,7 @@
 -- Decimal numbers in the range of 32 bits.
 use Rattle.std.specs.Prelude.{ℕ, ◌+◌, ◌*◌, ◌-◌, Bool, ◌&&◌, not, ◌==◌, nat_le, nat_lt, if◌then◌else◌, List, [], ◌∷◌, length, fold, Option, None, Some, option_and_then, ℤ, pos, negsuc, neg_ℤ}
 use Rattle.std.specs.List.{list_all}
-
-abbrev pub is_digit : ℕ → Bool
-is_digit b = nat_le 48 b && nat_le b 57
+use Rattle.hp_base.specs.Bytes.{is_digit}
 
 -- a digit behind a number
 abbrev pub with_digit : ℕ → ℕ → ℕ

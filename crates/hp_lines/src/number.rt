@@ -1,5 +1,6 @@
 ghost use Rattle.std.specs.Prelude.{◌≡◌, ◌≤◌, min, option_map, pos, neg_ℤ};
-ghost use Rattle.hp_lines.specs.Numbers.{is_digit, natural_of, in_range, number_of};
+ghost use Rattle.hp_base.specs.Bytes.{is_digit};
+ghost use Rattle.hp_lines.specs.Numbers.{natural_of, in_range, number_of};
 
 /// More than a number of 32 bits can be, with either sign.
 const TOO_GREAT: u64 = 2_147_483_649;

@@ -2,8 +2,9 @@
 ghost use Rattle.std.specs.Prelude.{◌≡◌, ◌++◌, ◌∷◌, [], IfOk, OnOk};
 ghost use Rattle.hp_made.specs.Types.{obc_type_of, obc_types_of};
 
+use hp_base::copy_names;
 use hp_obc::ObcType;
-use hp_tree::{Item, TypeDecl, copy_names};
+use hp_tree::{Item, TypeDecl};
 use std::alloc::{AllocError, Global};
 
 fn obc_type(alloc: Global, decl: &TypeDecl) -> Result<ObcType, AllocError>

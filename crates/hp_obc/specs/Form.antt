@@ -2,6 +2,7 @@
 use Rattle.std.specs.Prelude.{◌≡◌, ℕ, suc, ◌≤◌, max, Bool, true, false, ◌&&◌, ◌||◌, not, ◌==◌, nat_le, nat_lt, ℤ, pos, negsuc, List, [], ◌∷◌, ◌++◌, length, map, codes, Option, None, Some, IsSome, IsTrue, option_and_then, if◌then◌else◌}
 use Rattle.std.specs.List.{list_all, All, IsDistinct}
 use Rattle.std.specs.Str.{bytes_eq}
+use Rattle.hp_base.specs.Bytes.{is_small, is_capital, is_word_byte}
 use Rattle.hp_base.specs.Kinds.{KindData, Bools, Ints, Constructors}
 use Rattle.hp_obc.specs.declared.command.Arg.{Arg}
 use Rattle.hp_obc.specs.declared.command.Arg.TheVariants.{Name as NameArg, Const as ConstArg}
@@ -17,16 +18,6 @@ use Rattle.hp_obc.specs.Values.{kind_of}
 use Rattle.hp_obc.specs.Steps.{var_names, inst_names}
 
 -- ---- names
-
-abbrev pub is_small : ℕ → Bool
-is_small b = nat_le 97 b && nat_le b 122
-
-abbrev pub is_capital : ℕ → Bool
-is_capital b = nat_le 65 b && nat_le b 90
-
--- a letter, a digit or `_`
-abbrev pub is_word_byte : ℕ → Bool
-is_word_byte b = is_small b || is_capital b || (nat_le 48 b && nat_le b 57) || b == 95
 
 -- such a byte, or the `$` of a name that a compiler made
 abbrev pub is_name_byte : ℕ → Bool

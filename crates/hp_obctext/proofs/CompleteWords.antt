@@ -12,8 +12,9 @@ use Rattle.hp_obc.specs.declared.command.Arg.{Arg}
 use Rattle.hp_obc.specs.declared.command.Arg.TheVariants as arg
 use Rattle.hp_obc.specs.declared.command.ObcOp.{ObcOp}
 use Rattle.hp_obc.specs.declared.command.ObcOp.TheVariants.{Not, Neg, Mux, And, Or, Xor, Imp, Eq, Ne, Lt, Le, Gt, Ge, Add, Sub, Mul, Div, Rem}
-use Rattle.hp_obc.specs.Form.{is_name, is_constructor, is_name_byte, is_word_byte, is_reserved}
-use Rattle.hp_lines.specs.Numbers.{is_digit, digits_number, natural_of, in_range, number_of}
+use Rattle.hp_base.specs.Bytes.{is_word_byte, is_digit}
+use Rattle.hp_obc.specs.Form.{is_name, is_constructor, is_name_byte, is_reserved}
+use Rattle.hp_lines.specs.Numbers.{digits_number, natural_of, in_range, number_of}
 use Rattle.hp_obctext.specs.Files.{const_word, type_word, arg_word}
 use Rattle.hp_obctext.specs.Shapes.{IsLabel}
 use Rattle.hp_obctext.specs.Spelling.{this, name_of, constructor_of, ty_of, label_of, const_of, arg_of, op_of, else_by}

@@ -6,7 +6,8 @@ use Rattle.hp_base.specs.declared.limit.What.TheVariants as what
 use Rattle.hp_base.specs.declared.span.Span.{Span}
 use Rattle.hp_obctext.specs.Answers.{IsFileOf, BreaksForm}
 use Rattle.hp_obctext.specs.Files.{File, file_words}
-use Rattle.hp_obctext.specs.Lexing.{is_blank, goes_on, nothing, pieces, words}
+use Rattle.hp_base.specs.Bytes.{is_blank}
+use Rattle.hp_obctext.specs.Lexing.{goes_on, nothing, pieces, words}
 use Rattle.hp_obctext.specs.Outcomes.{Words}
 use Rattle.hp_obctext.specs.Places.{IsPlaceOf}
 use Rattle.hp_obctext.specs.Rules.{in_file, BreaksAt}

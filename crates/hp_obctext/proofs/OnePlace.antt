@@ -3,9 +3,8 @@ use Rattle.std.proofs.Common.{◌≡◌, ◌≤◌, ◌⊎◌, ℕ, zero, suc, �
 use Rattle.std.proofs.Common.{inl, inr}
 use Rattle.std.proofs.lemmas.Bool.Decides.{Decides-eqb}
 use Rattle.hp_base.specs.declared.span.Span.{Span}
-use Rattle.hp_obc.specs.Form.{is_small, is_capital}
-use Rattle.hp_lines.specs.Numbers.{is_digit}
-use Rattle.hp_obctext.specs.Lexing.{is_blank, goes_on, nothing, pieces, words, BeginsWord}
+use Rattle.hp_base.specs.Bytes.{is_small, is_capital, is_digit, is_blank}
+use Rattle.hp_obctext.specs.Lexing.{goes_on, nothing, pieces, words, BeginsWord}
 use Rattle.hp_obctext.specs.Places.{IsPlaceOf, span_behind, first_length}
 
 -- ---- no word has a blank in it

@@ -9,7 +9,8 @@ use Rattle.std.proofs.lemmas.List.{length-append}
 use Rattle.std.proofs.lemmas.List.Folds.{list_all-append}
 use Rattle.std.proofs.lemmas.List.Sums.{fold-append}
 use Rattle.hp_obc.specs.Form.{is_short}
-use Rattle.hp_lines.specs.Numbers.{is_digit, with_digit, digits_number, natural_of, in_range, number_of}
+use Rattle.hp_base.specs.Bytes.{is_digit}
+use Rattle.hp_lines.specs.Numbers.{with_digit, digits_number, natural_of, in_range, number_of}
 use Rattle.hp_obctext.proofs.Truths.{both_true}
 
 -- digits that spell a number

@@ -2,9 +2,9 @@
 use Rattle.std.proofs.Common.{◌≡◌, ◌≤◌, ℕ, Bool, true, false, ◌&&◌, ◌||◌, ◌==◌, not, nat_le, if◌then◌else◌, ℤ, List, [], ◌∷◌, ◌++◌, length, map, refl, sym, ap, subst, ◌∙◌, append_assoc, arith}
 use Rattle.std.specs.List.{list_all}
 use Rattle.std.proofs.lemmas.Bool.Decides.{nat_tests}
-use Rattle.hp_obc.specs.Form.{is_small, is_capital, is_word_byte, is_name_byte, is_name, is_constructor, is_reserved, is_short}
-use Rattle.hp_lines.specs.Numbers.{is_digit}
-use Rattle.hp_obctext.specs.Lexing.{is_blank, goes_on, nothing, pieces, words}
+use Rattle.hp_base.specs.Bytes.{is_small, is_capital, is_word_byte, is_digit, is_blank}
+use Rattle.hp_obc.specs.Form.{is_name_byte, is_name, is_constructor, is_reserved, is_short}
+use Rattle.hp_obctext.specs.Lexing.{goes_on, nothing, pieces, words}
 use Rattle.hp_obctext.specs.Shapes.{Each}
 use Rattle.hp_obctext.specs.Spells.{IsSpelling, Spell}
 use Rattle.hp_obctext.specs.Words.{Word, leading, fixed, small, capital, number, spelled, gap, spaced, printed}

@@ -1,7 +1,8 @@
 -- Names are short.
 use Rattle.std.proofs.Common.{◌≡◌, ◌≤◌, ℕ, Bool, true, false, ◌&&◌, not, List, [], ◌∷◌, length, nat_le, refl, arith}
 use Rattle.std.proofs.lemmas.Bool.Decides.{nat_tests}
-use Rattle.hp_obc.specs.Form.{is_name, is_constructor, is_small, is_capital, is_name_byte, is_word_byte, is_reserved}
+use Rattle.hp_base.specs.Bytes.{is_small, is_capital, is_word_byte}
+use Rattle.hp_obc.specs.Form.{is_name, is_constructor, is_name_byte, is_reserved}
 use Rattle.std.specs.List.{list_all}
 
 third : (a b c d : Bool) → (((a && b) && c) && d) ≡ true → c ≡ true

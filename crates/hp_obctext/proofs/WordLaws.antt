@@ -4,7 +4,8 @@ use Rattle.std.specs.Prelude.{take_while}
 use Rattle.std.proofs.lemmas.List.Sums.{take_while-cons}
 use Rattle.std.proofs.lemmas.List.{take_all}
 use Rattle.std.proofs.lemmas.List.Folds.{length-prefix_len}
-use Rattle.hp_obctext.specs.Lexing.{is_blank, goes_on, nothing, pieces, words, BeginsWord}
+use Rattle.hp_base.specs.Bytes.{is_blank}
+use Rattle.hp_obctext.specs.Lexing.{goes_on, nothing, pieces, words, BeginsWord}
 
 -- the longest part in front whose bytes pass, and what stands behind it
 abbrev pub run : (ℕ → Bool) → List ℕ → List ℕ

@@ -1,11 +1,7 @@
 -- The words of a text: the longest parts of it without blanks that hold together.
 use Rattle.std.specs.Prelude.{◌≡◌, ℕ, Bool, false, ◌||◌, ◌==◌, if◌then◌else◌, List, [], ◌∷◌}
-use Rattle.hp_lines.specs.Numbers.{is_digit}
-use Rattle.hp_obc.specs.Form.{is_small, is_capital, is_word_byte, is_name_byte}
-
--- a space, a tab, a carriage return or a newline
-abbrev pub is_blank : ℕ → Bool
-is_blank b = b == 32 || b == 9 || b == 13 || b == 10
+use Rattle.hp_base.specs.Bytes.{is_small, is_capital, is_digit, is_word_byte, is_blank}
+use Rattle.hp_obc.specs.Form.{is_name_byte}
 
 -- What goes on with a word that begins with a byte: letters, digits, `_` and `$` behind a small letter and behind `@`, the same but for `$`
 -- behind a capital letter, and digits behind a digit and behind `-`. Other bytes are words by themselves.

@@ -8,7 +8,7 @@ ghost use Rattle.hp_obctext.specs.StepView.{step_seen, branch_seen};
 
 use crate::steps::{Branch, Step, Steps};
 use crate::text::Text;
-use hp_base::Name;
+use hp_base::copy_names;
 use hp_obc::{Arg, Cmd, Cmds, Machine};
 use std::alloc::{AllocError, Global};
 
@@ -31,16 +31,6 @@ fn arg_copies(alloc: Global, args: &[Arg]) -> Result<Vec<Arg>, AllocError>
     Ok(copies)
 }
 
-fn name_copies(alloc: Global, names: &[Name]) -> Result<Vec<Name>, AllocError>
-    ensures { IfOk result (λ copies. copies.items ≡ names.now) }
-{
-    let mut copies = Vec::with_capacity(alloc, names.len())?;
-    for name in names {
-        copies.push(name.copy(alloc)?)?;
-    }
-    Ok(copies)
-}
-
 #[cycle(converting)]
 fn command(alloc: Global, step: &Step) -> Result<Cmd, AllocError>
     ensures { IfOk result (λ cmd. cmd_seen cmd ≡ command (step_seen step.now)) }
@@ -53,7 +43,7 @@ fn command(alloc: Global, step: &Step) -> Result<Cmd, AllocError>
         },
         Step::Call { inst, outs, args } => Cmd::Call {
             inst: inst.copy(alloc)?,
-            outs: name_copies(alloc, outs)?,
+            outs: copy_names(alloc, outs)?,
             args: arg_copies(alloc, args)?,
         },
         Step::Restart { inst } => Cmd::Restart {

@@ -1,22 +1,11 @@
 //! The words of a text.
 ghost use Rattle.std.specs.Prelude.{◌≡◌, ◌+◌, ◌≤◌, ◌∷◌, [], length, take_while, MatchOption, IfSome};
 ghost use Rattle.hp_obctext.specs.Places.{IsEndOf};
-ghost use Rattle.hp_lines.specs.Numbers.{is_digit};
-ghost use Rattle.hp_obctext.specs.Lexing.{words, is_blank, goes_on, BeginsWord};
+ghost use Rattle.hp_base.specs.Bytes.{is_blank};
+ghost use Rattle.hp_obctext.specs.Lexing.{words, goes_on, BeginsWord};
 
-use hp_spelling::{is_capital_letter, is_name_part, is_small_letter, is_word_part};
-
-fn is_blank_byte(byte: u8) -> bool
-    ensures { result ≡ is_blank byte }
-{
-    byte == b' ' || byte == b'\t' || byte == b'\r' || byte == b'\n'
-}
-
-fn is_digit_byte(byte: u8) -> bool
-    ensures { result ≡ is_digit byte }
-{
-    b'0' <= byte && byte <= b'9'
-}
+use hp_base::{is_blank_byte, is_capital_letter, is_digit_byte, is_small_letter, is_word_part};
+use hp_spelling::is_name_part;
 
 /// Whether a byte goes on with a word that begins with another.
 fn continues(first: u8, byte: u8) -> bool

@@ -1,7 +1,7 @@
 ghost use Rattle.std.specs.Prelude.{◌≡◌, ◌<◌, ◌≤◌, ℕ, length, map, max, suc, IfOk, true, false};
 ghost use Rattle.std.specs.List.{list_all};
 ghost use Rattle.hp_base.specs.declared.span.Span.{Span};
-ghost use Rattle.hp_lexer.specs.Bytes.{is_digit};
+ghost use Rattle.hp_base.specs.Bytes.{is_digit};
 ghost use Rattle.hp_lexer.specs.Spelling.{value_of};
 ghost use Rattle.hp_tree.specs.ExpressionView.{expr_at};
 ghost use Rattle.hp_tree.specs.Expressions.{constant, variable, last_of};

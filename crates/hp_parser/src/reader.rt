@@ -3,7 +3,7 @@ ghost use Rattle.std.specs.List.{list_all};
 ghost use Rattle.hp_parser.specs.Lexemes.{Lexeme, lexemes, is_ahead, kind_ahead};
 ghost use Rattle.hp_base.specs.Limits.{most};
 ghost use Rattle.hp_base.specs.declared.limit.What.TheVariants.{Size};
-ghost use Rattle.hp_lexer.specs.Bytes.{is_digit};
+ghost use Rattle.hp_base.specs.Bytes.{is_digit};
 ghost use Rattle.hp_lexer.specs.Lexing.{AreTokensOf};
 ghost use Rattle.hp_lexer.specs.Spelling.{IsWithin, Spells};
 ghost use Rattle.hp_lexer.specs.declared.token.TokenKind.{TokenKind};

@@ -5,7 +5,7 @@ use Rattle.std.specs.Prelude.{IsTrue, Option, None, Some}
 use Rattle.std.specs.List.{list_all}
 use Rattle.std.specs.Str.{bytes_eq}
 use Rattle.hp_base.specs.declared.ty.Const.{Const}
-use Rattle.hp_lexer.specs.Bytes.{is_small, is_word_byte}
+use Rattle.hp_base.specs.Bytes.{is_small, is_word_byte}
 use Rattle.hp_lexer.specs.Spelling.{IsWord}
 use Rattle.hp_lexer.specs.Written.{Written, IsWritable}
 use Rattle.hp_lexer.specs.declared.token.Keyword.TheVariants as key

@@ -6,7 +6,7 @@ use Rattle.std.proofs.lemmas.Fmt.{decimal_by_steps}
 use Rattle.std.proofs.lemmas.Grind.{fold-append}
 use Rattle.std.proofs.lemmas.Bool.{and_parts, and_from}
 use Rattle.std.proofs.lemmas.Bool.Decides.{nat_tests}
-use Rattle.hp_lexer.specs.Bytes.{is_digit}
+use Rattle.hp_base.specs.Bytes.{is_digit}
 use Rattle.hp_lexer.specs.Spelling.{IsNumeral, value_of, greatest_number}
 use Rattle.hp_lexer.specs.declared.token.Sign.TheVariants.{Minus}
 use Rattle.hp_print.specs.Tokens.{sign, number, integer_tokens}

@@ -1,7 +1,7 @@
 -- Tokens that may be written, and are read again.
 use Rattle.std.proofs.Common.{◌≡◌, ℕ, ◌≤◌, true, List, [], ◌∷◌, ◌++◌, refl, sym, subst}
 use Rattle.std.specs.List.{AllByRecursion}
-use Rattle.hp_lexer.specs.Bytes.{is_blank}
+use Rattle.hp_base.specs.Bytes.{is_blank}
 use Rattle.hp_lexer.specs.Spelling.{Spells, IsWithin, value_of, greatest_number}
 use Rattle.hp_lexer.specs.Written.{Written, IsWritable}
 use Rattle.hp_lexer.specs.declared.token.Keyword.{Keyword}

@@ -9,7 +9,8 @@ use Rattle.std.proofs.lemmas.Fmt.{decimal_is_IsNumeral}
 use Rattle.std.proofs.lemmas.List.{length-append}
 use Rattle.std.proofs.lemmas.List.Folds.{list_all-append}
 use Rattle.std.proofs.lemmas.Str.Parse.{digit_from_value}
-use Rattle.hp_obc.specs.Form.{is_small, is_name_byte, is_reserved, is_name}
+use Rattle.hp_base.specs.Bytes.{is_small}
+use Rattle.hp_obc.specs.Form.{is_name_byte, is_reserved, is_name}
 use Rattle.hp_toobc.specs.Labels.{dollar, stem, made_name}
 use Rattle.hp_followed.proofs.Naming.{same_name}
 

@@ -6,13 +6,13 @@ use Rattle.std.specs.Str.{bytes_eq}
 use Rattle.std.proofs.lemmas.Bool.{and_from, and_parts, or_from}
 use Rattle.std.proofs.lemmas.Bool.Decides.{nat_tests}
 use Rattle.std.proofs.lemmas.Slice.Eq.{bytes_eq-Decides}
-use Rattle.hp_lexer.specs.Bytes as bytes
 use Rattle.hp_lexer.specs.Spelling.{IsWord, keyword_text}
 use Rattle.hp_lexer.specs.Written.{IsWritable}
 use Rattle.hp_lexer.specs.declared.token.Keyword.{Keyword}
 use Rattle.hp_lexer.specs.declared.token.Keyword.TheVariants as key
 use Rattle.hp_print.specs.Tokens.{small, capital}
-use Rattle.hp_obc.specs.Form.{is_small, is_capital, is_word_byte, is_name_byte, is_reserved, is_name, is_constructor}
+use Rattle.hp_base.specs.Bytes.{is_small, is_capital, is_word_byte}
+use Rattle.hp_obc.specs.Form.{is_name_byte, is_reserved, is_name, is_constructor}
 
 -- ---- tests
 
@@ -75,7 +75,7 @@ word_bytes : (x : List ℕ) → list_all is_word_byte x ≡ true → list_all is
 word_bytes [] h = refl
 word_bytes (b ∷ x) h = let p = and_parts (is_word_byte b) (list_all is_word_byte x) h in and_from (is_name_byte b) (list_all is_name_byte x) (word_byte b p.0) (word_bytes x p.1)
 
-small_word : (x : List ℕ) → IsWord bytes.is_small x → ((k : Keyword) → x ≢ keyword_text k) → length x ≤ 255 → IsTrue (is_name x)
+small_word : (x : List ℕ) → IsWord is_small x → ((k : Keyword) → x ≢ keyword_text k) → length x ≤ 255 → IsTrue (is_name x)
 small_word [] h f l = absurd h
 small_word (b ∷ x) h f l = name_from b x (record {
   first = h.0;
@@ -87,7 +87,7 @@ small_word (b ∷ x) h f l = name_from b x (record {
 pub small_named : (x : List ℕ) → IsWritable (small x) → IsTrue (is_name x)
 small_named x w = small_word x w.spelled.0 w.spelled.1 w.limited
 
-capital_word : (x : List ℕ) → IsWord bytes.is_capital x → length x ≤ 255 → IsTrue (is_constructor x)
+capital_word : (x : List ℕ) → IsWord is_capital x → length x ≤ 255 → IsTrue (is_constructor x)
 capital_word [] h l = absurd h
 capital_word (b ∷ x) h l =
     and_from (is_capital b && list_all is_word_byte x) (nat_le (length (b ∷ x)) 255) (and_from (is_capital b) (list_all is_word_byte x) h.0 h.1) (at_most (length (b ∷ x)) 255 l)

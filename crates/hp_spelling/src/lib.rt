@@ -3,6 +3,4 @@
 
 mod spelling;
 
-pub use spelling::{
-    is_capital_letter, is_name_part, is_small_letter, is_word_part, spells_constructor, spells_name,
-};
+pub use spelling::{is_name_part, is_reserved_word, spells_constructor, spells_name};

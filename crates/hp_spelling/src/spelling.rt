@@ -1,38 +1,20 @@
 //! The bytes of names, and words that are names.
 ghost use Rattle.std.specs.Prelude.{◌≡◌};
 ghost use Rattle.std.specs.List.{list_all};
-ghost use Rattle.hp_obc.specs.Form.{is_small, is_capital, is_word_byte, is_name_byte, is_reserved, is_name, is_constructor};
+ghost use Rattle.hp_base.specs.Bytes.{is_word_byte};
+ghost use Rattle.hp_obc.specs.Form.{is_name_byte, is_reserved, is_name, is_constructor};
 
-pub fn is_small_letter(byte: u8) -> bool
-    ensures { result ≡ is_small byte }
-{
-    b'a' <= byte && byte <= b'z'
-}
+use hp_base::{is_capital_letter, is_small_letter, is_word_part};
 
-pub fn is_capital_letter(byte: u8) -> bool
-    ensures { result ≡ is_capital byte }
-{
-    b'A' <= byte && byte <= b'Z'
-}
-
-/// Whether it is a letter, a digit or `_`.
-pub fn is_word_part(byte: u8) -> bool
-    ensures { result ≡ is_word_byte byte }
-{
-    is_small_letter(byte)
-        || is_capital_letter(byte)
-        || (b'0' <= byte && byte <= b'9')
-        || byte == b'_'
-}
-
-/// Whether it is such a byte, or the `$` of a name that the compiler made.
+/// Whether it is a letter, a digit, `_`, or the `$` of a name that the compiler made.
 pub fn is_name_part(byte: u8) -> bool
     ensures { result ≡ is_name_byte byte }
 {
     is_word_part(byte) || byte == b'$'
 }
 
-fn is_reserved_word(word: &[u8]) -> bool
+/// Whether a word means something else where a name may stand.
+pub fn is_reserved_word(word: &[u8]) -> bool
     ensures { result ≡ is_reserved word.now }
 {
     word == b"true".as_slice()

@@ -94,7 +94,7 @@ impl Eqn {
         match self {
             Eqn::Def { span, names, right } => Ok(Eqn::Def {
                 span: *span,
-                names: copy_names(alloc, names)?,
+                names: copy_left(alloc, names)?,
                 right: right.copy(alloc)?,
             }),
             Eqn::Switch { span, cond, arms } => Ok(Eqn::Switch {
@@ -298,7 +298,8 @@ fn copy_states(alloc: Global, states: &[State]) -> Result<Vec<State>, AllocError
     Ok(copies)
 }
 
-fn copy_transitions(alloc: Global, transitions: &[Trans]) -> Result<Vec<Trans>, AllocError>
+/// A copy of each transition, in order.
+pub fn copy_transitions(alloc: Global, transitions: &[Trans]) -> Result<Vec<Trans>, AllocError>
     ensures { IfOk result (λ copies. copies.items ≡ transitions.now) }
 {
     let mut copies = Vec::new(alloc);
@@ -308,7 +309,8 @@ fn copy_transitions(alloc: Global, transitions: &[Trans]) -> Result<Vec<Trans>, 
     Ok(copies)
 }
 
-fn copy_names(alloc: Global, names: &[(Name, Span)]) -> Result<Vec<(Name, Span)>, AllocError>
+/// A copy of the left side of an equation.
+pub fn copy_left(alloc: Global, names: &[(Name, Span)]) -> Result<Vec<(Name, Span)>, AllocError>
     ensures { IfOk result (λ copies. copies.items ≡ names.now) }
 {
     let mut copies = Vec::new(alloc);

@@ -98,7 +98,8 @@ pub fn copy_decls(alloc: Global, decls: &[Decl]) -> Result<Vec<Decl>, AllocError
     Ok(copies)
 }
 
-fn copy_last(alloc: Global, last: &Option<Const>) -> Result<Option<Const>, AllocError>
+/// A copy of the first value of a declaration, if it has one.
+pub fn copy_last(alloc: Global, last: &Option<Const>) -> Result<Option<Const>, AllocError>
     ensures { IfOk result (λ copy. copy ≡ last.now) }
 {
     match last {

@@ -7,8 +7,8 @@ mod decl;
 mod expr;
 mod program;
 
-pub use block::{Arm, Block, Eqn, State, Trans};
-pub use decl::{Cons, Decl, copy_clock, copy_decls, same_decls};
+pub use block::{Arm, Block, Eqn, State, Trans, copy_left, copy_transitions};
+pub use decl::{Cons, Decl, copy_clock, copy_decls, copy_last, same_decls};
 pub use expr::{Expr, ExprKind, Op1, Op2};
 pub use hp_base::{Const, Ty};
-pub use program::{Contract, Item, Node, Program, TypeDecl, copy_names};
+pub use program::{Contract, Item, Node, Program, TypeDecl};

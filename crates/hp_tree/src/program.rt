@@ -3,7 +3,7 @@ ghost use Rattle.std.specs.Prelude.{◌≡◌, ◌↔◌, IsTrue, IfOk};
 use crate::block::Block;
 use crate::decl::{Decl, same_decls};
 use crate::expr::Expr;
-use hp_base::{Name, Span};
+use hp_base::{Name, Span, copy_names};
 use std::alloc::{AllocError, Global};
 use std::marker::Model;
 
@@ -102,17 +102,6 @@ impl TypeDecl {
             && same_names(&self.cons, &other.cons)
             && self.span == other.span
     }
-}
-
-/// A copy of each name, in order.
-pub fn copy_names(alloc: Global, names: &[Name]) -> Result<Vec<Name>, AllocError>
-    ensures { IfOk result (λ copies. copies.items ≡ names.now) }
-{
-    let mut copies = Vec::new(alloc);
-    for name in names {
-        copies.push(name.copy(alloc)?)?;
-    }
-    Ok(copies)
 }
 
 /// A node.

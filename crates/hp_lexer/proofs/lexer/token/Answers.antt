@@ -2,7 +2,7 @@ use Rattle.std.proofs.Common.{◌≡◌, ◌<◌, ◌≤◌, ℕ, ◌+◌, true,
 use Rattle.std.specs.Prelude.{IfSome, IfNone, is_some}
 use Rattle.std.specs.List.{list_all}
 use Rattle.hp_base.specs.declared.limit.What.TheVariants.{Name}
-use Rattle.hp_lexer.specs.Bytes.{is_digit}
+use Rattle.hp_base.specs.Bytes.{is_digit}
 use Rattle.hp_lexer.specs.Spelling.{IsWithin, IsNameKind, value_of}
 use Rattle.hp_lexer.specs.Reading.{IsNext, Fails, span_at}
 use Rattle.hp_lexer.specs.declared.lexer.LexErr.TheVariants.{Bad, Limit as Passes}

@@ -1,6 +1,7 @@
 use Rattle.std.proofs.Common.{◌≡◌, min, take, drop}
 use Rattle.std.specs.List.{list_all}
-use Rattle.hp_lines.specs.Numbers.{is_digit, digits_number}
+use Rattle.hp_base.specs.Bytes.{is_digit}
+use Rattle.hp_lines.specs.Numbers.{digits_number}
 use Rattle.hp_lines.proofs.number.magnitude.Given as goal
 
 abbrev pub invariant-loop-digit : goal.invariant-loop-digit

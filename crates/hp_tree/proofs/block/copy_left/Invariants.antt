@@ -1,5 +1,5 @@
 use Rattle.std.proofs.Common.{◌≡◌, take}
-use Rattle.hp_expand.proofs.blocks.copy_left.Given as goal
+use Rattle.hp_tree.proofs.block.copy_left.Given as goal
 
 abbrev pub invariant-loop-name : goal.invariant-loop-name
 invariant-loop-name l = l.copies.items ≡ take l.name-index l.names
