@@ -10,6 +10,7 @@ use crate::lasts::add_lasts;
 use crate::scope::{Layer, Scope, wire_or_false};
 use crate::shape::is_mark;
 use crate::table::Tables;
+use hp_base::Name;
 use hp_defining::{names_in, names_of};
 use hp_drawing::{Draft, Entry, Place, Value, chain};
 use hp_tree::{Block, Decl, Eqn};
@@ -59,7 +60,7 @@ fn put_name<'a>(
 #[tactic(auto, using(crate::proofs::Rules::rows))]
 fn put_names<'a>(
     scope: &Scope<'a>,
-    names: &[&'a [u8]],
+    names: &[&'a Name],
     layer: &mut Layer<'a>,
     draft: &mut Draft,
 ) -> Result<(), AllocError>
@@ -67,7 +68,7 @@ fn put_names<'a>(
     ensures layer { OnOk result (layer_of layer.new ≡ (scopes.put_names (scope_of scope.now) (map now_of names.now) (layer_of layer.old) (sketch_of draft.old)).0) }
 {
     for i in 0..names.len() {
-        put_name(scope, names[i], layer, draft)?;
+        put_name(scope, names[i].bytes(), layer, draft)?;
     }
     Ok(())
 }
@@ -139,13 +140,13 @@ fn hide_name<'a>(
 #[tactic(auto, using(crate::proofs::Rules::rows))]
 fn hide_names<'a>(
     scope: &Scope<'a>,
-    names: &[&'a [u8]],
+    names: &[&'a Name],
     hidden: &mut Layer<'a>,
 ) -> Result<(), AllocError>
     ensures { OnOk result (layer_of hidden.new ≡ scopes.hide_names (scope_of scope.now) (map now_of names.now) (layer_of hidden.old)) }
 {
     for i in 0..names.len() {
-        hide_name(scope, names[i], hidden)?;
+        hide_name(scope, names[i].bytes(), hidden)?;
     }
     Ok(())
 }

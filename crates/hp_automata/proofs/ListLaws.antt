@@ -3,11 +3,8 @@ use Rattle.std.proofs.Common.{◌≡◌, ℕ, ◌+◌, ◌-◌, ◌<◌, ◌≤�
 use Rattle.std.proofs.lemmas.List.{append_assoc, append-nil, map-append, drop_all, length-append, take-append-le, take_all}
 use Rattle.std.proofs.Math.Seq.{drop-cons}
 use Rattle.std.proofs.Math.Numerals.{add-one}
-use Rattle.hp_base.specs.declared.span.Span.{Span}
-use Rattle.hp_tree.specs.Blocks.{Decl}
 use Rattle.hp_tree.specs.declared.block.Eqn as code_eqn
 use Rattle.hp_tree.specs.BlockView.{eqn_seen}
-use Rattle.hp_tree.specs.Meaning.{names_of as declared_names}
 use Rattle.hp_automata.specs.Lists.{names_seen, with_more, front}
 
 -- an element of a list, and what is behind it
@@ -63,15 +60,3 @@ front-more xs x =
     let long : length (xs ++ x ∷ []) ≡ length xs + 1 = length-append xs (x ∷ []) in
     let less : length (xs ++ x ∷ []) - 1 ≡ length xs = omega (arith, long) in
     ap (λ n. take n (xs ++ x ∷ [])) less ∙ take-append-le (length xs) xs (x ∷ []) (omega arith) ∙ take_all (length xs) xs (omega arith)
-
--- ---- names, one after the other
-
-module _ (before : List (List ℕ)) where
-  pub names-left : (ys : List (List ℕ × Span)) (i : ℕ) (y : List ℕ × Span) → i < length ys → y ≡ get_or ys i y
-      → with_more before (map (λ (z : List ℕ × Span). z.0) (drop i ys)) ≡ with_more (with_more before (y.0 ∷ [])) (map (λ (z : List ℕ × Span). z.0) (drop (i + 1) ys))
-  names-left ys i y h p =
-      ap (λ more. with_more before (map (λ (z : List ℕ × Span). z.0) more)) (drop-next ys i y h p) ∙ more-append before (y.0 ∷ []) (map (λ (z : List ℕ × Span). z.0) (drop (i + 1) ys))
-
-  pub names-declared : (ds : List Decl) (i : ℕ) (d : Decl) → i < length ds → d ≡ get_or ds i d
-      → with_more before (declared_names (drop i ds)) ≡ with_more (with_more before (d.name ∷ [])) (declared_names (drop (i + 1) ds))
-  names-declared ds i d h p = ap (λ more. with_more before (declared_names more)) (drop-next ds i d h p) ∙ more-append before (d.name ∷ []) (declared_names (drop (i + 1) ds))

@@ -1,14 +1,12 @@
--- The names that equations define, one after the other, and which names there are among some.
+-- Which names there are among some.
 use Rattle.std.proofs.Common.{◌≡◌, ℕ, ◌+◌, ◌<◌, get_or, length, drop, map, Bool, true, false, if◌then◌else◌, List, [], ◌∷◌, ◌++◌, Bor, is_some, Some, refl, sym, ap, ◌∙◌}
 use Rattle.std.specs.Str.{bytes_eq}
 use Rattle.std.proofs.lemmas.Slice.Eq.{bytes_eq-Decides}
 use Rattle.hp_known.specs.Known.{lookup, with_entry}
-use Rattle.hp_tree.specs.Blocks.{eqns_of, arms_of, states_of}
-use Rattle.hp_tree.specs.BlockView.{eqn_seen, arm_seen, state_seen}
-use Rattle.hp_tree.specs.declared.block.Eqn as code_eqn
-use Rattle.hp_tree.specs.declared.block.Arm as code_arm
-use Rattle.hp_tree.specs.declared.block.State as code_state
-use Rattle.hp_automata.specs.Names.{is_name, missing, names_in, names_of, names_of_arms, names_of_states, outer_names, with_name, once_behind, once}
+use Rattle.hp_tree.specs.Blocks.{Decl}
+use Rattle.hp_tree.specs.Meaning.{declares}
+use Rattle.hp_defining.specs.Names.{undeclared}
+use Rattle.hp_automata.specs.Names.{is_name, missing, with_name, once_behind, once}
 use Rattle.hp_automata.specs.Lists.{names_seen, paired, with_more}
 use Rattle.hp_automata.proofs.ListLaws.{drop-next, more-append, map-one}
 
@@ -96,23 +94,8 @@ pub missing-next : (before : List (List ℕ)) (own : List ℕ → Bool) (xs : Li
 missing-next before own xs i x h p =
     ap (λ more. with_more before (missing own (names_seen more))) (drop-next xs i x h p) ∙ missing_by before own x.now (names_seen (drop (i + 1) xs)) (own x.now)
 
--- ---- equations, arms and states
+-- ---- those that are not declared
 
-module _ (before : List (List ℕ)) where
-  pub names-eqns : (es : List code_eqn.Eqn) (i : ℕ) (e : code_eqn.Eqn) → i < length es → e ≡ get_or es i e
-      → with_more before (names_in (eqns_of (map eqn_seen (drop i es)))) ≡ with_more (with_more before (names_of (eqn_seen e))) (names_in (eqns_of (map eqn_seen (drop (i + 1) es))))
-  names-eqns es i e h p =
-      ap (λ more. with_more before (names_in (eqns_of (map eqn_seen more)))) (drop-next es i e h p)
-      ∙ more-append before (names_of (eqn_seen e)) (names_in (eqns_of (map eqn_seen (drop (i + 1) es))))
-
-  pub names-arms : (arms : List code_arm.Arm) (i : ℕ) (a : code_arm.Arm) → i < length arms → a ≡ get_or arms i a
-      → with_more before (names_of_arms (arms_of (map arm_seen (drop i arms)))) ≡ with_more (with_more before (outer_names a.body)) (names_of_arms (arms_of (map arm_seen (drop (i + 1) arms))))
-  names-arms arms i a h p =
-      ap (λ more. with_more before (names_of_arms (arms_of (map arm_seen more)))) (drop-next arms i a h p)
-      ∙ more-append before (outer_names a.body) (names_of_arms (arms_of (map arm_seen (drop (i + 1) arms))))
-
-  pub names-states : (qs : List code_state.State) (i : ℕ) (q : code_state.State) → i < length qs → q ≡ get_or qs i q
-      → with_more before (names_of_states (states_of (map state_seen (drop i qs)))) ≡ with_more (with_more before (outer_names q.body)) (names_of_states (states_of (map state_seen (drop (i + 1) qs))))
-  names-states qs i q h p =
-      ap (λ more. with_more before (names_of_states (states_of (map state_seen more)))) (drop-next qs i q h p)
-      ∙ more-append before (outer_names q.body) (names_of_states (states_of (map state_seen (drop (i + 1) qs))))
+pub undeclared_is : (ds : List Decl) (xs : List (List ℕ)) → undeclared ds xs ≡ missing (declares ds) xs
+undeclared_is ds [] = refl
+undeclared_is ds (x ∷ xs) = ap (λ more. if declares ds x then more else x ∷ more) (undeclared_is ds xs)

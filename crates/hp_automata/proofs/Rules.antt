@@ -3,16 +3,16 @@ use Rattle.hp_tree.proofs.Lists.{nodes-at, nodes-at_part}
 use Rattle.hp_tree.proofs.KindSizes.{nodes-expr_at}
 use Rattle.hp_tree.proofs.BlockLists.{lines-at_eqn, lines-at_arm, lines-at_state}
 use Rattle.std.proofs.lemmas.List.{take_all, map_more, append-nil}
-use Rattle.hp_automata.proofs.ListLaws.{drop-end, front-more, more-nil, more-from_nil, more-one, more-append, more-cons, more-is, names-push, names-left, names-declared, seen-pushed}
+use Rattle.hp_automata.proofs.ListLaws.{drop-end, front-more, more-nil, more-from_nil, more-one, more-append, more-cons, more-is, names-push, seen-pushed}
 use Rattle.hp_automata.proofs.LayerLaws.{said-here, said-further, said-all, declaring-next, enumerations-next}
 use Rattle.hp_automata.proofs.RenamingLaws.{exprs-mapped, parts-mapped}
 use Rattle.hp_automata.proofs.PartLaws.{transition-locals-next, choices-next, value-locals-next, joined-next, idle-next, locals-next, kept-next}
 use Rattle.hp_automata.proofs.BlockLaws.{declared-left, block-entered, body-entered, arms-mapped, eqns-end}
 use Rattle.hp_automata.proofs.WordLaws.{new-next, new-here, new-end, signed-old, signed-new}
-use Rattle.hp_automata.proofs.NameLaws.{missing-next, names-eqns, names-arms, names-states, known-paired, paired-more, with-known, with-new, is_name-once, once-next}
+use Rattle.hp_automata.proofs.NameLaws.{missing-next, known-paired, paired-more, with-known, with-new, is_name-once, once-next}
 
--- the names that parts define
-pub ruleset names = (more-nil, more-from_nil, more-one, more-append, names-push, names-left, names-declared, missing-next, names-eqns, names-arms, names-states, drop-end, lines-at_eqn, lines-at_arm, lines-at_state)
+-- names that are none of others
+pub ruleset names = (more-nil, more-from_nil, more-one, more-append, names-push, missing-next, drop-end)
 
 -- and each once
 pub ruleset once = (known-paired, paired-more, with-known, with-new, more-one, names-push, once-next, is_name-once, drop-end)

@@ -24,7 +24,8 @@ use Rattle.hp_tree.specs.Meaning.{number_of}
 use Rattle.hp_automata.specs.declared.new_names.Word.{Word}
 use Rattle.hp_automata.specs.declared.new_names.Word.TheVariants.{Jump, Next, From, On, Strong, Weak}
 use Rattle.hp_automata.specs.NewNames.{word_name, state_word, transition_word, value_name}
-use Rattle.hp_automata.specs.Names.{names_of_arms, names_of_states, outer_names, is_name, once, missing}
+use Rattle.hp_defining.specs.Names.{names_of_arms, names_of_states, outer_names}
+use Rattle.hp_automata.specs.Names.{is_name, once, missing}
 use Rattle.hp_automata.specs.Renaming.{renamed, renamed_decls, renamed_left}
 
 -- ---- what is known

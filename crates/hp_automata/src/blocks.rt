@@ -2,7 +2,8 @@
 ghost use Rattle.std.specs.Prelude.{◌≡◌, ◌+◌, ◌-◌, [], ◌∷◌, length, take, map, IfOk, OnOk};
 ghost use Rattle.hp_tree.specs.Blocks.{eqns_of, arms_of, states_of, automaton};
 ghost use Rattle.hp_tree.specs.BlockView.{eqn_seen, arm_seen, state_seen};
-ghost use Rattle.hp_automata.specs.Names.{names_of_arms, once};
+ghost use Rattle.hp_defining.specs.Names.{names_of_arms};
+ghost use Rattle.hp_automata.specs.Names.{once};
 ghost use Rattle.hp_automata.specs.Lowering.{transition_locals, inner, idle, state_eqns, lowered_block, lowered_eqns, lowered_eqn, lowered_arms, lowered_states, lowered_body};
 ghost use Rattle.hp_automata.specs.declared.new_names.Word.TheVariants.{Weak};
 ghost use Rattle.hp_automata.specs.Renaming.{renamed_decls};

@@ -15,7 +15,8 @@ use Rattle.hp_known.specs.Known.{lookup, with_entry}
 use Rattle.hp_named.specs.Scoped.{EachNode}
 use Rattle.hp_automata.specs.declared.new_names.Word.{Word}
 use Rattle.hp_automata.specs.declared.new_names.Word.TheVariants.{Strong, Weak}
-use Rattle.hp_automata.specs.Names.{names_of_arms, outer_names, is_name, once, missing}
+use Rattle.hp_defining.specs.Names.{names_of_arms, outer_names}
+use Rattle.hp_automata.specs.Names.{is_name, once, missing}
 use Rattle.hp_automata.specs.Renaming.{renamed_decls}
 use Rattle.hp_automata.specs.Lowering as lowering
 use Rattle.hp_automata.specs.Lowering.{Types, Enumerations, declaring, type_of, type_or_bool, Frame, inner, transition_locals, choice, choices, value_local, state_words, state_locals, locals_from, frame_words, frame_locals, idle_value, idle, joined, pending_of, stays, from_eqn, on_word, state_switch, strong_eqns, choosing_eqns, state_eqns, weak_eqns, own_next, frame_eqns, kept, all_kept, frame, lowered_block, lowered_eqns, lowered_eqn, lowered_arms, lowered_states, lowered_body, same_name, lowered_body_of, lowered_contract, lowered_node, lowered_item}

@@ -8,6 +8,7 @@ ghost use Rattle.hp_cause.specs.Gathering.{in_list};
 ghost use Rattle.hp_defining.specs.Names.{listed};
 ghost use Rattle.hp_cause.specs.Told.{names_seen, with_more};
 
+use hp_base::Name;
 use hp_tree::Decl;
 use indexmap::IndexSet;
 use std::alloc::{AllocError, Global};
@@ -83,7 +84,7 @@ impl<'a> Around<'a> {
     }
 
     /// The places of these names among those around, in order, or nothing where two names around are equal.
-    pub fn places(&self, alloc: Global, names: &[&[u8]]) -> Result<Option<Vec<usize>>, AllocError>
+    pub fn places(&self, alloc: Global, names: &[&Name]) -> Result<Option<Vec<usize>>, AllocError>
         ensures { IfOk result (λ found. IfSome found (λ places. places.items ≡ places_from 0 (listed (names_seen names.now)) (names_seen self.now.names.items))) }
     {
         match &self.set {
@@ -113,13 +114,13 @@ fn first_names(set: Option<IndexSet<&[u8]>>, count: usize) -> Option<IndexSet<&[
 fn first_places(
     alloc: Global,
     set: &IndexSet<&[u8]>,
-    names: &[&[u8]],
+    names: &[&Name],
 ) -> Result<Vec<usize>, AllocError>
     ensures { IfOk result (λ places. places.items ≡ first_places (names_seen set.now.keys) (names_seen names.now)) }
 {
     let mut places = Vec::new(alloc);
     for i in 0..names.len() {
-        add_place(set, names[i], &mut places)?;
+        add_place(set, names[i].bytes(), &mut places)?;
     }
     Ok(places)
 }
@@ -138,7 +139,7 @@ fn add_place(set: &IndexSet<&[u8]>, name: &[u8], into: &mut Vec<usize>) -> Resul
 fn places_in(
     alloc: Global,
     set: &IndexSet<&[u8]>,
-    names: &[&[u8]],
+    names: &[&Name],
 ) -> Result<Vec<usize>, AllocError>
     ensures { IfOk result (λ places. places.items ≡ places_from 0 (listed (names_seen names.now)) (names_seen set.now.keys)) }
 {

@@ -8,7 +8,7 @@ ghost use Rattle.hp_cause.specs.Told.{facts_seen, names_seen, with_more};
 
 use crate::around::Around;
 use crate::fact::{Fact, read, stand};
-use hp_base::Span;
+use hp_base::{Name, Span};
 use hp_causal::PointKind;
 use hp_defining::{Layer, sight};
 use std::alloc::{AllocError, Global};
@@ -129,7 +129,7 @@ pub fn add_defined<'a>(
     control: Option<usize>,
     read_by_each: usize,
     span: Span,
-    names: &[&[u8]],
+    names: &[&Name],
     hidden: &Layer,
     facts: &mut Vec<Fact<'a>>,
 ) -> Result<(), AllocError>

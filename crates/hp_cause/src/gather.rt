@@ -132,13 +132,14 @@ fn gather_definition<'a>(
 fn add_links_of(
     outer: &[Layer],
     own: &Layer,
-    names: &[&[u8]],
+    names: &[&Name],
     facts: &mut Vec<Fact>,
 ) -> Result<(), AllocError>
     ensures { OnOk result (facts_seen facts.new.items ≡ with_more (facts_seen facts.old.items) (of_links (sight outer.now) (own_of own.now) (names_seen names.now))) }
 {
     for i in 0..names.len() {
-        read(sight(outer, names[i]), own.number_of(names[i]), facts)?;
+        let name = names[i].bytes();
+        read(sight(outer, name), own.number_of(name), facts)?;
     }
     Ok(())
 }
@@ -170,7 +171,7 @@ fn own_layer<'a>(alloc: Global, block: &'a Block, next: &mut usize) -> Result<La
 }
 
 /// What is known inside of an equation that defines these names: it hides them.
-fn hidden_layer<'a>(alloc: Global, names: &[&'a [u8]]) -> Result<Layer<'a>, AllocError>
+fn hidden_layer<'a>(alloc: Global, names: &[&'a Name]) -> Result<Layer<'a>, AllocError>
     ensures says { IfOk result (λ layer. says layer ≡ says_seen (names_seen names.now) (sight [])) }
     ensures listed { IfOk result (λ layer. is_said layer ≡ listed (names_seen names.now)) }
 {

@@ -3,8 +3,8 @@ use Rattle.std.proofs.Common.{◌≡◌, ℕ, zero, suc, ◌+◌, ◌-◌, ◌<�
 use Rattle.std.proofs.lemmas.List.{length-append}
 use Rattle.std.specs.Prelude.{Result, Ok, Err, IsErrAnd}
 use Rattle.hp_certtext.specs.Outcomes.{Outcome, done, refused, ◌>>=◌, Stops, Gives}
-use Rattle.hp_certtext.specs.declared.reader.Stop.{Stop}
-use Rattle.hp_certtext.specs.declared.reader.Stop.TheVariants.{Refused, Memory}
+use Rattle.hp_lines.specs.declared.stop.Stop.{Stop}
+use Rattle.hp_lines.specs.declared.stop.Stop.TheVariants.{Refused, Memory}
 use Rattle.hp_certtext.specs.Pieces.{Piece, Pieces}
 use Rattle.hp_certtext.specs.Reading.{Reader, stop_at, is_start, this, one, fixed, field, number_of, which, either, until_within, until, times, number, width, line, ref_line}
 use Rattle.hp_certtext.specs.Texts.{space, newline}

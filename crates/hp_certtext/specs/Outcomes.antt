@@ -1,7 +1,7 @@
 -- What reading from the front of some pieces comes to.
 use Rattle.std.specs.Prelude.{◌≡◌, Result, Ok, Err}
-use Rattle.hp_certtext.specs.declared.reader.Stop.{Stop}
-use Rattle.hp_certtext.specs.declared.reader.Stop.TheVariants.{Refused, Memory}
+use Rattle.hp_lines.specs.declared.stop.Stop.{Stop}
+use Rattle.hp_lines.specs.declared.stop.Stop.TheVariants.{Refused, Memory}
 use Rattle.hp_certtext.specs.Pieces.{Pieces}
 
 -- a value with the pieces behind what was read, or the pieces from the refused one on; none, where the text is refused behind its end

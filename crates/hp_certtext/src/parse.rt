@@ -6,9 +6,10 @@ ghost use Rattle.hp_certtext.specs.Reading as reading;
 ghost use Rattle.hp_certtext.specs.Texts.{space, newline};
 
 use crate::cert::{Cert, CertKind};
-use crate::reader::{Reader, Stop};
+use crate::reader::Reader;
 use hp_base::Name;
 use hp_boolx::Counts;
+use hp_lines::Stop;
 use hp_quant::Line;
 
 impl<'t> Reader<'t> {

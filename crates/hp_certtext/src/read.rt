@@ -10,8 +10,9 @@ ghost use Rattle.hp_certtext.specs.Texts.{IsCertText};
 use crate::cert::Cert;
 use crate::error::CertErr;
 use crate::place::place_at;
-use crate::reader::{Reader, Stop};
+use crate::reader::Reader;
 use hp_base::{Limit, What};
+use hp_lines::Stop;
 use std::alloc::Global;
 
 /// The certificate of a text within the limit.

@@ -8,40 +8,11 @@ ghost use Rattle.hp_certtext.specs.Ahead.{stop_in};
 
 use crate::piece::first_piece;
 use crate::spelling::number_of;
+use hp_lines::Stop;
 use hp_spelling::{is_reserved_word, spells_name};
 use itoa::Buffer;
-use std::alloc::{AllocError, AllocFailed, Global};
+use std::alloc::Global;
 use std::marker::Model;
-
-/// Why reading stopped.
-#[derive(Debug, Drop)]
-pub(crate) enum Stop {
-    /// The piece ahead goes on with no certificate, or the text ends too early.
-    Refused,
-    Memory,
-}
-
-impl From<AllocError> for Stop {
-    ghost use Rattle.std.specs.Prelude.{◌≡◌};
-    ghost use Rattle.hp_certtext.specs.declared.reader.Stop.TheVariants.{Memory};
-
-    ghost from_gives = { λ _ e. e ≡ Memory };
-
-    fn from(_: AllocError) -> Stop {
-        Stop::Memory
-    }
-}
-
-impl<T: Drop> From<AllocFailed<T>> for Stop {
-    ghost use Rattle.std.specs.Prelude.{◌≡◌};
-    ghost use Rattle.hp_certtext.specs.declared.reader.Stop.TheVariants.{Memory};
-
-    ghost from_gives = { λ _ e. e ≡ Memory };
-
-    fn from(_failed: AllocFailed<T>) -> Stop {
-        Stop::Memory
-    }
-}
 
 /// The pieces ahead in a text.
 #[derive(Drop)]

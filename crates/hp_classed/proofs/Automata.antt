@@ -10,7 +10,8 @@ use Rattle.hp_valued.specs.Classed.{none_second, OthersFirst}
 use Rattle.hp_automata.specs.declared.new_names.Word.{Word}
 use Rattle.hp_automata.specs.declared.new_names.Word.TheVariants.{Strong}
 use Rattle.hp_automata.specs.NewNames.{value_name}
-use Rattle.hp_automata.specs.Names.{is_name, names_of_states}
+use Rattle.hp_defining.specs.Names.{names_of_states}
+use Rattle.hp_automata.specs.Names.{is_name}
 use Rattle.hp_automata.specs.Lowering.{Types, Enumerations, Frame, frame, inner, transition_locals, value_local, state_locals, locals_from, frame_locals, frame_eqns, lowered_eqn, lowered_states, afresh, state_switch, count_of}
 use Rattle.hp_lowered.specs.OldNames.{IsOld}
 use Rattle.hp_lowered.specs.Removable.{Known as Names, and_defined, EqnOk, most}

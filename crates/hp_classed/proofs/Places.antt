@@ -6,7 +6,8 @@ use Rattle.hp_tree.specs.Blocks.{Decl, Block, block, Eqns, Eqn, eqns_of}
 use Rattle.hp_tree.specs.Instant.{Named}
 use Rattle.hp_tree.specs.Meaning.{declares, defines, some_defines}
 use Rattle.hp_init.specs.Classes.{Classes, Assignment, Known, or_first, known_in, known_within}
-use Rattle.hp_automata.specs.Names.{is_name, missing, outer_names}
+use Rattle.hp_defining.specs.Names.{outer_names}
+use Rattle.hp_automata.specs.Names.{is_name, missing}
 use Rattle.hp_automata.specs.Lowering.{all_kept}
 use Rattle.hp_lowered.specs.OldNames.{IsOld}
 use Rattle.hp_lowered.specs.Removable.{Known as Names, DeclsOk}

@@ -6,7 +6,8 @@ use Rattle.hp_tree.specs.Blocks.{Decl, Block, block, Eqns, no_eqn, more_eqns, Eq
 use Rattle.hp_tree.specs.Instant.{Body, Equations, Head, Tail, Arms as ArmsOf, States as StatesOf}
 use Rattle.hp_tree.specs.Meaning.{declares, defines, some_defines, block_defines, arms_define, states_define}
 use Rattle.hp_init.specs.Classes.{Assignment, Known, or_first, known_in, known_within}
-use Rattle.hp_automata.specs.Names.{is_name, names_of_arms, once}
+use Rattle.hp_defining.specs.Names.{names_of_arms}
+use Rattle.hp_automata.specs.Names.{is_name, once}
 use Rattle.hp_automata.specs.Lowering.{Types, Enumerations, declaring, frame, idle, state_eqns, lowered_block, lowered_eqns, lowered_eqn, lowered_arms, lowered_states, lowered_body, count_of}
 use Rattle.hp_lowered.specs.OldNames.{IsOld}
 use Rattle.hp_lowered.specs.Removable.{Known as Names, and_defined, BlockOk, EqnsOk, EqnOk, ArmsOk, StatesOk, most}

@@ -9,6 +9,7 @@ ghost use Rattle.hp_clocks.specs.Names.{with_more};
 ghost use Rattle.hp_defining.specs.Names.{names_in, controls_in};
 
 use crate::cell::BASE;
+use hp_base::Name;
 use hp_defining::{controls_in, names_in};
 use hp_tree::{Block, Decl, Eqn};
 use indexmap::IndexMap;
@@ -82,14 +83,14 @@ impl<'a> Layer<'a> {
     }
 
     /// The names, with the cells that another layer says, or else the base clock.
-    fn named(alloc: Global, names: &[&'a [u8]], cells: &Layer) -> Result<Layer<'a>, AllocError>
+    fn named(alloc: Global, names: &[&'a Name], cells: &Layer) -> Result<Layer<'a>, AllocError>
         ensures { IfOk result (λ layer. says layer ≡ says_names (map (λ x. x.now) names.now) (says cells.now)) }
     {
         let mut layer = Layer::new(alloc);
         let mut i = names.len();
         while i > 0 {
             i -= 1;
-            let name = names[i];
+            let name = names[i].bytes();
             layer.put(name, cells.cell(name))?;
         }
         Ok(layer)

@@ -27,13 +27,12 @@ fn type_number(place: Option<usize>) -> u16
 }
 
 #[tactic(auto, using(crate::proofs::Rules::type_names))]
-fn add_type_name<'a>(item: &'a Item, into: &mut Vec<&'a [u8]>) -> Result<(), AllocError>
+fn add_type_name<'a>(item: &'a Item, into: &mut Vec<&'a Name>) -> Result<(), AllocError>
     ensures { OnOk result (map (λ x. x.now) into.new.items ≡ map (λ x. x.now) into.old.items ++ type_names (item.now ∷ [])) }
 {
     match item {
         Item::TypeItem(decl) => {
-            let name = decl.name.bytes();
-            into.push(name)?;
+            into.push(&decl.name)?;
             Ok(())
         }
         Item::NodeItem(_) => Ok(()),
@@ -42,7 +41,7 @@ fn add_type_name<'a>(item: &'a Item, into: &mut Vec<&'a [u8]>) -> Result<(), All
 
 /// The names of the types, in order.
 #[tactic(auto, using(crate::proofs::Rules::type_names))]
-fn type_names<'a>(alloc: Global, items: &'a [Item]) -> Result<Vec<&'a [u8]>, AllocError>
+fn type_names<'a>(alloc: Global, items: &'a [Item]) -> Result<Vec<&'a Name>, AllocError>
     ensures { IfOk result (λ names. map (λ x. x.now) names.items ≡ type_names items.now) }
 {
     let mut names = Vec::new(alloc);

@@ -129,13 +129,13 @@ fn add_once<'a>(
 
 /// Each of the names once, in the order in which they come first.
 #[tactic(auto, using(crate::proofs::NameRules::once))]
-fn distinct<'a>(alloc: Global, names: &[&'a [u8]]) -> Result<Vec<&'a [u8]>, AllocError>
+fn distinct<'a>(alloc: Global, names: &[&'a Name]) -> Result<Vec<&'a [u8]>, AllocError>
     ensures { IfOk result (λ found. names_seen found.items ≡ each_once [] (names_seen names.now)) }
 {
     let mut seen: IndexSet<&'a [u8]> = IndexSet::new(alloc);
     let mut found = Vec::new(alloc);
     for i in 0..names.len() {
-        add_once(names[i], &mut seen, &mut found)?;
+        add_once(names[i].bytes(), &mut seen, &mut found)?;
     }
     Ok(found)
 }

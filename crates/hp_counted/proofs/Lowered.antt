@@ -6,7 +6,8 @@ use Rattle.hp_tree.specs.Expressions.{Expr, constant, variable, last_of, one, tw
 use Rattle.hp_tree.specs.Blocks.{Block, block, Eqns, no_eqn, more_eqns, Eqn, define, switch, reset, automaton, Arms, no_arm, more_arms, States, no_state, more_states, eqns_of}
 use Rattle.hp_automata.specs.declared.new_names.Word.{Word}
 use Rattle.hp_automata.specs.declared.new_names.Word.TheVariants.{From, Next, Strong, Weak}
-use Rattle.hp_automata.specs.Names.{names_of_arms, outer_names, is_name, once, missing}
+use Rattle.hp_defining.specs.Names.{names_of_arms, outer_names}
+use Rattle.hp_automata.specs.Names.{is_name, once, missing}
 use Rattle.hp_automata.specs.Renaming.{renamed, renamed_exprs, renamed_parts}
 use Rattle.hp_automata.specs.Lowering.{Types, Enumerations, declaring, Frame, inner, stays, pending_of, number, link, choices, handed, from_eqn, on_word, own_next, jump_eqn, next_eqn, idle_next, idle_value, idle, state_switch, choosing_eqns, strong_eqns, weak_eqns, frame_eqns, joined, value_handed, kept, all_kept, frame, same_name, types_of, lowered_block, lowered_eqns, lowered_eqn, lowered_arms, lowered_states, lowered_body}
 use Rattle.hp_automata.specs.NewNames.{state_word, transition_word, value_name}

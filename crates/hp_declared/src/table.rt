@@ -2,6 +2,7 @@
 ghost use Rattle.std.specs.Prelude.{◌≡◌, map, IfOk, OnOk};
 ghost use Rattle.hp_declared.specs.Tables.{nothing, numbered, put_at, said_in};
 
+use hp_base::Name;
 use indexmap::IndexMap;
 use std::alloc::{AllocError, Global};
 
@@ -39,14 +40,14 @@ impl<'a, T: Copy + Drop> Table<'a, T> {
 }
 
 /// Numbers the names from 0 on; of two equal ones the first counts.
-pub fn numbers_of<'a>(alloc: Global, names: &[&'a [u8]]) -> Result<Table<'a, usize>, AllocError>
+pub fn numbers_of<'a>(alloc: Global, names: &[&'a Name]) -> Result<Table<'a, usize>, AllocError>
     ensures { IfOk result (λ numbers. said_in numbers ≡ numbered 0 (map (λ x. x.now) names.now)) }
 {
     let mut numbers = Table::new(alloc);
     let mut i = names.len();
     while i > 0 {
         i -= 1;
-        numbers.put(names[i], i)?;
+        numbers.put(names[i].bytes(), i)?;
     }
     Ok(numbers)
 }

@@ -4,6 +4,7 @@ ghost use Rattle.hp_tree.specs.Meaning.{names_of as declared_names};
 ghost use Rattle.hp_defining.specs.Layers.{put_at, no_entry, says, says_numbers, says_seen, sight, own_of};
 ghost use Rattle.hp_defining.specs.Seen.{names_seen, with_more};
 
+use hp_base::Name;
 use hp_tree::Decl;
 use indexmap::IndexMap;
 use std::alloc::{AllocError, Global};
@@ -53,7 +54,7 @@ impl<'a> Layer<'a> {
     /// Numbers the names from `first` on; of two equal ones the first counts.
     pub fn numbered(
         alloc: Global,
-        names: &[&'a [u8]],
+        names: &[&'a Name],
         first: usize,
     ) -> Result<Layer<'a>, AllocError>
         requires { first + length names.now < 2 ^ 64 }
@@ -63,7 +64,7 @@ impl<'a> Layer<'a> {
         let mut i = names.len();
         while i > 0 {
             i -= 1;
-            let name = names[i];
+            let name = names[i].bytes();
             layer.put(name, Some(first + i))?;
         }
         Ok(layer)
@@ -81,7 +82,7 @@ impl<'a> Layer<'a> {
     /// The names, as they are seen where these layers are.
     pub fn seen(
         alloc: Global,
-        names: &[&'a [u8]],
+        names: &[&'a Name],
         layers: &[Layer],
     ) -> Result<Layer<'a>, AllocError>
         ensures { IfOk result (λ layer. says layer ≡ says_seen (names_seen names.now) (sight layers.now)) }
@@ -90,7 +91,7 @@ impl<'a> Layer<'a> {
         let mut i = names.len();
         while i > 0 {
             i -= 1;
-            let name = names[i];
+            let name = names[i].bytes();
             layer.put(name, sight(layers, name))?;
         }
         Ok(layer)
@@ -113,18 +114,18 @@ pub fn sight(layers: &[Layer], name: &[u8]) -> Option<usize>
 }
 
 #[tactic(auto, using(crate::proofs::Rules::names))]
-fn add_declared<'a>(decls: &'a [Decl], into: &mut Vec<&'a [u8]>) -> Result<(), AllocError>
+fn add_declared<'a>(decls: &'a [Decl], into: &mut Vec<&'a Name>) -> Result<(), AllocError>
     ensures { OnOk result (names_seen into.new.items ≡ with_more (names_seen into.old.items) (declared_names decls.now)) }
 {
     for decl in decls {
-        into.push(decl.name.bytes())?;
+        into.push(&decl.name)?;
     }
     Ok(())
 }
 
 /// The names of declarations.
 #[tactic(auto, using(crate::proofs::Rules::names))]
-pub fn declared_names<'a>(alloc: Global, decls: &'a [Decl]) -> Result<Vec<&'a [u8]>, AllocError>
+pub fn declared_names<'a>(alloc: Global, decls: &'a [Decl]) -> Result<Vec<&'a Name>, AllocError>
     ensures { IfOk result (λ names. names_seen names.items ≡ declared_names decls.now) }
 {
     let mut names = Vec::new(alloc);

@@ -13,7 +13,7 @@ use std::alloc::{AllocError, Global};
 
 /// The name behind the others.
 #[tactic(auto, using(crate::proofs::Rules::names))]
-fn push<'a>(name: &'a [u8], into: &mut Vec<&'a [u8]>) -> Result<(), AllocError>
+fn push<'a>(name: &'a Name, into: &mut Vec<&'a Name>) -> Result<(), AllocError>
     ensures { OnOk result (names_seen into.new.items ≡ with_more (names_seen into.old.items) (name.now ∷ [])) }
 {
     into.push(name)?;
@@ -22,11 +22,11 @@ fn push<'a>(name: &'a [u8], into: &mut Vec<&'a [u8]>) -> Result<(), AllocError>
 
 /// The names on the left of an equation.
 #[tactic(auto, using(crate::proofs::Rules::names))]
-fn add_left<'a>(names: &'a [(Name, Span)], into: &mut Vec<&'a [u8]>) -> Result<(), AllocError>
+fn add_left<'a>(names: &'a [(Name, Span)], into: &mut Vec<&'a Name>) -> Result<(), AllocError>
     ensures { OnOk result (names_seen into.new.items ≡ with_more (names_seen into.old.items) (map (λ y. y.0) names.now)) }
 {
     for (name, _) in names {
-        push(name.bytes(), into)?;
+        push(name, into)?;
     }
     Ok(())
 }
@@ -55,12 +55,12 @@ fn declared<'a>(alloc: Global, decls: &'a [Decl]) -> Result<IndexSet<&'a [u8]>, 
 #[tactic(auto, using(crate::proofs::Rules::names))]
 fn add_unknown<'a>(
     known: &IndexSet<&'a [u8]>,
-    name: &'a [u8],
-    into: &mut Vec<&'a [u8]>,
+    name: &'a Name,
+    into: &mut Vec<&'a Name>,
 ) -> Result<(), AllocError>
     ensures { OnOk result (names_seen into.new.items ≡ (if holds known.now name.now then names_seen into.old.items else with_more (names_seen into.old.items) (name.now ∷ []))) }
 {
-    if known.contains(name) {
+    if known.contains(name.bytes()) {
         return Ok(());
     }
     push(name, into)
@@ -71,8 +71,8 @@ fn add_unknown<'a>(
 fn add_undeclared<'a>(
     alloc: Global,
     decls: &'a [Decl],
-    names: &[&'a [u8]],
-    into: &mut Vec<&'a [u8]>,
+    names: &[&'a Name],
+    into: &mut Vec<&'a Name>,
 ) -> Result<(), AllocError>
     ensures { OnOk result (names_seen into.new.items ≡ with_more (names_seen into.old.items) (undeclared decls.now (names_seen names.now))) }
 {
@@ -85,7 +85,7 @@ fn add_undeclared<'a>(
 
 #[cycle(names)]
 #[tactic(auto, using(crate::proofs::Rules::names))]
-fn add_names<'a>(alloc: Global, eqns: &'a [Eqn], into: &mut Vec<&'a [u8]>) -> Result<(), AllocError>
+fn add_names<'a>(alloc: Global, eqns: &'a [Eqn], into: &mut Vec<&'a Name>) -> Result<(), AllocError>
     ensures { OnOk result (names_seen into.new.items ≡ with_more (names_seen into.old.items) (names_in (eqns_of (map eqn_seen eqns.now)))) }
 {
     for eqn in eqns {
@@ -96,7 +96,7 @@ fn add_names<'a>(alloc: Global, eqns: &'a [Eqn], into: &mut Vec<&'a [u8]>) -> Re
 
 #[cycle(names)]
 #[tactic(auto, using(crate::proofs::Rules::names))]
-fn add_names_of<'a>(alloc: Global, eqn: &'a Eqn, into: &mut Vec<&'a [u8]>) -> Result<(), AllocError>
+fn add_names_of<'a>(alloc: Global, eqn: &'a Eqn, into: &mut Vec<&'a Name>) -> Result<(), AllocError>
     ensures { OnOk result (names_seen into.new.items ≡ with_more (names_seen into.old.items) (names_of (eqn_seen eqn.now))) }
 {
     match eqn {
@@ -124,7 +124,7 @@ fn add_names_of<'a>(alloc: Global, eqn: &'a Eqn, into: &mut Vec<&'a [u8]>) -> Re
 fn add_names_of_arms<'a>(
     alloc: Global,
     arms: &'a [Arm],
-    into: &mut Vec<&'a [u8]>,
+    into: &mut Vec<&'a Name>,
 ) -> Result<(), AllocError>
     ensures { OnOk result (names_seen into.new.items ≡ with_more (names_seen into.old.items) (names_of_arms (arms_of (map arm_seen arms.now)))) }
 {
@@ -139,7 +139,7 @@ fn add_names_of_arms<'a>(
 fn add_names_of_states<'a>(
     alloc: Global,
     states: &'a [State],
-    into: &mut Vec<&'a [u8]>,
+    into: &mut Vec<&'a Name>,
 ) -> Result<(), AllocError>
     ensures { OnOk result (names_seen into.new.items ≡ with_more (names_seen into.old.items) (names_of_states (states_of (map state_seen states.now)))) }
 {
@@ -154,7 +154,7 @@ fn add_names_of_states<'a>(
 fn add_outer_names<'a>(
     alloc: Global,
     block: &'a Block,
-    into: &mut Vec<&'a [u8]>,
+    into: &mut Vec<&'a Name>,
 ) -> Result<(), AllocError>
     ensures { OnOk result (names_seen into.new.items ≡ with_more (names_seen into.old.items) (outer_names block.now)) }
 {
@@ -169,7 +169,7 @@ fn add_outer_names<'a>(
 fn add_controlled<'a>(
     alloc: Global,
     eqn: &'a Eqn,
-    into: &mut Vec<&'a [u8]>,
+    into: &mut Vec<&'a Name>,
 ) -> Result<(), AllocError>
     ensures { OnOk result (names_seen into.new.items ≡ with_more (names_seen into.old.items) (controlled (eqn_seen eqn.now))) }
 {
@@ -187,7 +187,7 @@ fn add_controlled<'a>(
 fn add_controls<'a>(
     alloc: Global,
     eqns: &'a [Eqn],
-    into: &mut Vec<&'a [u8]>,
+    into: &mut Vec<&'a Name>,
 ) -> Result<(), AllocError>
     ensures { OnOk result (names_seen into.new.items ≡ with_more (names_seen into.old.items) (controls_in (eqns_of (map eqn_seen eqns.now)))) }
 {
@@ -199,7 +199,7 @@ fn add_controls<'a>(
 
 /// The names that equations define.
 #[tactic(auto, using(crate::proofs::Rules::names))]
-pub fn names_in<'a>(alloc: Global, eqns: &'a [Eqn]) -> Result<Vec<&'a [u8]>, AllocError>
+pub fn names_in<'a>(alloc: Global, eqns: &'a [Eqn]) -> Result<Vec<&'a Name>, AllocError>
     ensures { IfOk result (λ names. names_seen names.items ≡ names_in (eqns_of (map eqn_seen eqns.now))) }
 {
     let mut names = Vec::new(alloc);
@@ -209,7 +209,7 @@ pub fn names_in<'a>(alloc: Global, eqns: &'a [Eqn]) -> Result<Vec<&'a [u8]>, All
 
 /// The names that an equation defines.
 #[tactic(auto, using(crate::proofs::Rules::names))]
-pub fn names_of<'a>(alloc: Global, eqn: &'a Eqn) -> Result<Vec<&'a [u8]>, AllocError>
+pub fn names_of<'a>(alloc: Global, eqn: &'a Eqn) -> Result<Vec<&'a Name>, AllocError>
     ensures { IfOk result (λ names. names_seen names.items ≡ names_of (eqn_seen eqn.now)) }
 {
     let mut names = Vec::new(alloc);
@@ -219,7 +219,7 @@ pub fn names_of<'a>(alloc: Global, eqn: &'a Eqn) -> Result<Vec<&'a [u8]>, AllocE
 
 /// The names that the arms of a `switch` define.
 #[tactic(auto, using(crate::proofs::Rules::names))]
-pub fn names_of_arms<'a>(alloc: Global, arms: &'a [Arm]) -> Result<Vec<&'a [u8]>, AllocError>
+pub fn names_of_arms<'a>(alloc: Global, arms: &'a [Arm]) -> Result<Vec<&'a Name>, AllocError>
     ensures { IfOk result (λ names. names_seen names.items ≡ names_of_arms (arms_of (map arm_seen arms.now))) }
 {
     let mut names = Vec::new(alloc);
@@ -229,7 +229,7 @@ pub fn names_of_arms<'a>(alloc: Global, arms: &'a [Arm]) -> Result<Vec<&'a [u8]>
 
 /// The names that the states of an automaton define.
 #[tactic(auto, using(crate::proofs::Rules::names))]
-pub fn names_of_states<'a>(alloc: Global, states: &'a [State]) -> Result<Vec<&'a [u8]>, AllocError>
+pub fn names_of_states<'a>(alloc: Global, states: &'a [State]) -> Result<Vec<&'a Name>, AllocError>
     ensures { IfOk result (λ names. names_seen names.items ≡ names_of_states (states_of (map state_seen states.now))) }
 {
     let mut names = Vec::new(alloc);
@@ -239,7 +239,7 @@ pub fn names_of_states<'a>(alloc: Global, states: &'a [State]) -> Result<Vec<&'a
 
 /// The names that a block defines for the blocks around it.
 #[tactic(auto, using(crate::proofs::Rules::names))]
-pub fn outer_names<'a>(alloc: Global, block: &'a Block) -> Result<Vec<&'a [u8]>, AllocError>
+pub fn outer_names<'a>(alloc: Global, block: &'a Block) -> Result<Vec<&'a Name>, AllocError>
     ensures { IfOk result (λ names. names_seen names.items ≡ outer_names block.now) }
 {
     let mut names = Vec::new(alloc);
@@ -249,7 +249,7 @@ pub fn outer_names<'a>(alloc: Global, block: &'a Block) -> Result<Vec<&'a [u8]>,
 
 /// The names that the control equations among these define.
 #[tactic(auto, using(crate::proofs::Rules::names))]
-pub fn controls_in<'a>(alloc: Global, eqns: &'a [Eqn]) -> Result<Vec<&'a [u8]>, AllocError>
+pub fn controls_in<'a>(alloc: Global, eqns: &'a [Eqn]) -> Result<Vec<&'a Name>, AllocError>
     ensures { IfOk result (λ names. names_seen names.items ≡ controls_in (eqns_of (map eqn_seen eqns.now))) }
 {
     let mut names = Vec::new(alloc);

@@ -1,5 +1,5 @@
 -- Where automata are removed, names are still spelled so, where new names are.
-use Rattle.std.proofs.Common.{ℕ, ◌+◌, Bool, true, false, if◌then◌else◌, List, [], ◌∷◌, ◌++◌, length, map}
+use Rattle.std.proofs.Common.{ℕ, ◌+◌, Bool, true, false, if◌then◌else◌, List, [], ◌∷◌, ◌++◌, length, map, sym, subst}
 use Rattle.std.specs.Prelude.{Option, None, Some, option_map}
 use Rattle.std.specs.List.{AllByRecursion}
 use Rattle.hp_base.specs.declared.span.Span.{Span}
@@ -9,12 +9,14 @@ use Rattle.hp_tree.specs.declared.program.Item.TheVariants.{TypeItem, NodeItem}
 use Rattle.hp_tree.specs.Expressions.{Expr}
 use Rattle.hp_tree.specs.Blocks.{Decl, Block, block, Eqns, no_eqn, more_eqns, Eqn, define, switch, reset, automaton, Arms, no_arm, more_arms, States, no_state, more_states}
 use Rattle.hp_tree.specs.Programs.{Contract, Node}
-use Rattle.hp_tree.specs.Meaning.{names_of as declared_names}
+use Rattle.hp_tree.specs.Meaning.{declares}
 use Rattle.hp_named.specs.Scoped.{EachNode}
 use Rattle.hp_automata.specs.declared.new_names.Word.{Word}
 use Rattle.hp_automata.specs.declared.new_names.Word.TheVariants.{Jump, Next, From, On, Strong, Weak}
 use Rattle.hp_automata.specs.NewNames.{word_name, state_word, transition_word, value_name}
-use Rattle.hp_automata.specs.Names.{is_name, missing, names_in, names_of, names_of_arms, names_of_states, outer_names, with_name, once_behind, once}
+use Rattle.hp_defining.specs.Names.{names_in, names_of, names_of_arms, names_of_states, outer_names}
+use Rattle.hp_automata.proofs.NameLaws.{undeclared_is}
+use Rattle.hp_automata.specs.Names.{is_name, missing, with_name, once_behind, once}
 use Rattle.hp_automata.specs.Renaming.{renamed_decls}
 use Rattle.hp_automata.specs.Lowering as lowering
 use Rattle.hp_automata.specs.Lowering.{Types, Enumerations, declaring, Frame, inner, transition_locals, choices, value_local, state_words, state_locals, locals_from, frame_words, frame_locals, idle_value, idle, joined, pending_of, stays, from_eqn, on_word, state_switch, strong_eqns, choosing_eqns, state_eqns, weak_eqns, own_next, frame_eqns, kept, all_kept, frame, lowered_block, lowered_eqns, lowered_eqn, lowered_arms, lowered_states, lowered_body, same_name, lowered_contract, lowered_node, lowered_item}
@@ -81,7 +83,7 @@ module _ (P : List ℕ → Type 0) where
     states_names (more_states f b until unless s ss) h = both_names (outer_names b) (names_of_states ss) (block_names b h.0) (states_names ss h.1)
 
     block_names : (b : Block) → BlockSpelled P b → AllByRecursion P (outer_names b)
-    block_names (block ds es) h = missing_names (is_name (declared_names ds)) (names_in es) (eqns_names es h.1)
+    block_names (block ds es) h = subst (AllByRecursion P) (sym (undeclared_is ds (names_in es))) (missing_names (declares ds) (names_in es) (eqns_names es h.1))
 
   decls_renamed : (to : List ℕ → List ℕ) (ds : List Decl) → DeclsSpelled P ds → DeclsSpelled P (renamed_decls to ds)
   decls_renamed to [] h = tt

@@ -1,9 +1,10 @@
-//! The lines of a trace: the values that a line spells, and the line of some values.
+//! The lines of a trace: the values that a line spells, and the line of some values. What stops a reader of words.
 #![tactic(auto)]
 
 mod number;
 mod place;
 mod read;
+mod stop;
 mod value;
 mod words;
 mod write;
@@ -11,4 +12,5 @@ mod write;
 pub use number::read_int;
 pub use place::{last_line, newlines};
 pub use read::{LineErr, MAX_LINE, read_line};
+pub use stop::Stop;
 pub use write::{line_room, write_line};

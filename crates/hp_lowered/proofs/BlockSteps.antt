@@ -11,7 +11,8 @@ use Rattle.hp_tree.specs.Blocks.{Decl, Block, block, Eqns, Eqn, eqns_of}
 use Rattle.hp_tree.specs.Programs.{TypeDecl}
 use Rattle.hp_tree.specs.Instant.{Named, Fresh, Equations, Instant, Past, Given, at, part}
 use Rattle.hp_tree.specs.Meaning.{Names, Nodes, defined, scope, inside, lasts, previous, declares, some_defines, block_defines, clock_in}
-use Rattle.hp_automata.specs.Names.{is_name, missing, outer_names}
+use Rattle.hp_defining.specs.Names.{outer_names}
+use Rattle.hp_automata.specs.Names.{is_name, missing}
 use Rattle.hp_automata.specs.Renaming.{renamed_decls}
 use Rattle.hp_automata.specs.Lowering.{Types, Enumerations, declaring, kept, all_kept, lowered_eqns}
 use Rattle.hp_lowered.specs.OldNames.{IsOld}

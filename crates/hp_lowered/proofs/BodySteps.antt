@@ -14,7 +14,8 @@ use Rattle.hp_tree.specs.Meaning.{Names, Nodes, Jump, defined, scope, inside, fr
 use Rattle.hp_automata.specs.declared.new_names.Word.{Word}
 use Rattle.hp_automata.specs.declared.new_names.Word.TheVariants.{Next, Weak}
 use Rattle.hp_automata.specs.NewNames.{state_word, transition_word, value_name}
-use Rattle.hp_automata.specs.Names.{is_name, missing, outer_names}
+use Rattle.hp_defining.specs.Names.{outer_names}
+use Rattle.hp_automata.specs.Names.{is_name, missing}
 use Rattle.hp_automata.specs.Renaming.{renamed_decls}
 use Rattle.hp_automata.specs.Lowering.{Types, Enumerations, declaring, Frame, inner, all_kept, transition_locals, choices, chosen, stays, own_next, weak_eqns, lowered_body}
 use Rattle.hp_lowered.specs.OldNames.{IsOld}

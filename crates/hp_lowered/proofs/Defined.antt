@@ -8,7 +8,8 @@ use Rattle.hp_tree.specs.Blocks.{Decl, Block, block, Eqns, no_eqn, more_eqns, Eq
 use Rattle.hp_tree.specs.Meaning.{is_among, declares, defines, some_defines, block_defines, arms_define}
 use Rattle.hp_automata.specs.declared.new_names.Word.TheVariants.{Jump, Next, From, On, Strong, Weak}
 use Rattle.hp_automata.specs.NewNames.{word_name, state_word, value_name}
-use Rattle.hp_automata.specs.Names.{is_name, missing, names_of_arms, outer_names, once}
+use Rattle.hp_defining.specs.Names.{names_of_arms, outer_names}
+use Rattle.hp_automata.specs.Names.{is_name, missing, once}
 use Rattle.hp_automata.specs.Renaming.{renamed_left, renamed_decls}
 use Rattle.hp_automata.specs.Lowering.{Types, Enumerations, declaring, Frame, frame, inner, all_kept, transition_locals, stays, choices, value_local, state_locals, locals_from, frame_locals, frame_eqns, weak_eqns, lowered_block, lowered_eqns, lowered_eqn, lowered_arms, lowered_states, lowered_body, count_of}
 use Rattle.hp_lowered.specs.OldNames.{IsOld}

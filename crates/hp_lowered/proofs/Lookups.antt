@@ -10,7 +10,8 @@ use Rattle.hp_tree.specs.Meaning.{is_among, declares, defines, some_defines, blo
 use Rattle.hp_automata.specs.declared.new_names.Word.{Word}
 use Rattle.hp_automata.specs.declared.new_names.Word.TheVariants.{Jump, Next, From, On, Strong, Weak}
 use Rattle.hp_automata.specs.NewNames.{word_name, state_word, transition_word, value_name}
-use Rattle.hp_automata.specs.Names.{is_name, missing, names_of_arms, names_of_states, outer_names, once}
+use Rattle.hp_defining.specs.Names.{names_of_arms, names_of_states, outer_names}
+use Rattle.hp_automata.specs.Names.{is_name, missing, once}
 use Rattle.hp_automata.specs.Renaming.{renamed_left, renamed_decls}
 use Rattle.hp_automata.specs.Lowering.{Types, Enumerations, declaring, Frame, frame, inner, kept, all_kept, transition_locals, choices, value_local, state_locals, locals_from, frame_locals, idle, idle_value, joined, frame_eqns, state_switch, strong_eqns, choosing_eqns, state_eqns, weak_eqns, lowered_block, lowered_eqns, lowered_eqn, lowered_arms, lowered_states, lowered_body, count_of, stays, pending_of}
 use Rattle.hp_automata.proofs.NameLaws.{is_name-once}

@@ -10,7 +10,8 @@ use Rattle.hp_tree.specs.Instant.{Named, Body, Equations, Head, Tail, Right, Tes
 use Rattle.hp_tree.specs.Meaning.{defines, some_defines, block_defines, clock_in, clock_of, declares}
 use Rattle.hp_causal.specs.Sources.{Sources, none, only, both, also, NameSources, PlaceSources, below}
 use Rattle.hp_causal.specs.WhatIsRead.{of_clock, of_expr, at_expr, names_in, in_arms, of_definition, of_definitions, in_block, in_equations, in_equation, in_each_arm, has_equation}
-use Rattle.hp_automata.specs.Names.{is_name, missing, outer_names}
+use Rattle.hp_defining.specs.Names.{outer_names}
+use Rattle.hp_automata.specs.Names.{is_name, missing}
 use Rattle.hp_automata.specs.Renaming.{renamed, renamed_left, renamed_decls}
 use Rattle.hp_automata.specs.Lowering.{Types, Enumerations, declaring, kept, all_kept, lowered_block, lowered_eqns, lowered_eqn, lowered_arms}
 use Rattle.hp_lowered.specs.OldNames.{IsOld}

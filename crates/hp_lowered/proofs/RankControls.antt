@@ -7,7 +7,8 @@ use Rattle.hp_tree.specs.Instant.{Named, Body, Head, Tail, Test, Arms as ArmsOf,
 use Rattle.hp_tree.specs.Meaning.{defines, some_defines, block_defines}
 use Rattle.hp_causal.specs.Sources.{Sources, none, only, NameSources}
 use Rattle.hp_causal.specs.WhatIsRead.{of_expr, at_expr, names_within, in_arms, of_definition, of_definitions, in_block, in_equation, in_each_arm, has_equation}
-use Rattle.hp_automata.specs.Names.{is_name, names_of_arms, once}
+use Rattle.hp_defining.specs.Names.{names_of_arms}
+use Rattle.hp_automata.specs.Names.{is_name, once}
 use Rattle.hp_automata.specs.Renaming.{renamed}
 use Rattle.hp_automata.specs.Lowering.{Types, Enumerations, lowered_block, lowered_eqns, lowered_eqn, lowered_arms}
 use Rattle.hp_lowered.specs.OldNames.{IsOld, OldExpr}

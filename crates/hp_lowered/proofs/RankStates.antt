@@ -9,7 +9,8 @@ use Rattle.hp_causal.specs.Sources.{only, NameSources}
 use Rattle.hp_causal.specs.WhatIsRead.{names_in, in_block, of_definitions, has_equation}
 use Rattle.hp_automata.specs.declared.new_names.Word.TheVariants.{Next, Weak}
 use Rattle.hp_automata.specs.NewNames.{letters, state_word, transition_word, value_name}
-use Rattle.hp_automata.specs.Names.{is_name, missing, outer_names}
+use Rattle.hp_defining.specs.Names.{outer_names}
+use Rattle.hp_automata.specs.Names.{is_name, missing}
 use Rattle.hp_automata.specs.Renaming.{renamed_decls}
 use Rattle.hp_automata.specs.Lowering.{Types, Enumerations, declaring, Frame, inner, chosen, choices, stays, own_next, weak_eqns, all_kept, transition_locals, lowered_eqns, lowered_body}
 use Rattle.hp_lowered.specs.OldNames.{IsOld}

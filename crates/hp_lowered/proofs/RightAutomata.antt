@@ -11,7 +11,8 @@ use Rattle.hp_causal.specs.Clocked.{Standing, base_alone, standing_in, Condition
 use Rattle.hp_automata.specs.declared.new_names.Word.{Word}
 use Rattle.hp_automata.specs.declared.new_names.Word.TheVariants.{Jump, Next, From, On, Strong, Weak}
 use Rattle.hp_automata.specs.NewNames.{word_name, state_word, transition_word, value_name}
-use Rattle.hp_automata.specs.Names.{is_name, missing, outer_names}
+use Rattle.hp_defining.specs.Names.{outer_names}
+use Rattle.hp_automata.specs.Names.{is_name, missing}
 use Rattle.hp_automata.specs.Renaming.{renamed_path, renamed_decls}
 use Rattle.hp_automata.specs.Lowering.{Types, Enumerations, declaring, Frame, frame, inner, count_of, number, goes_to, jump_of, pending_of, chosen, choices, stays, handed, value_handed, some_constant, type_of, joined, from_eqn, on_word, afresh, state_switch, idle, own_next, weak_eqns, all_kept, transition_locals, value_local, state_locals, locals_from, frame_locals, frame_eqns, lowered_states, lowered_body, choosing_eqns, strong_eqns, state_eqns}
 use Rattle.hp_lowered.specs.OldNames.{IsOld}

@@ -7,7 +7,8 @@ use Rattle.hp_base.specs.declared.span.Span.{Span}
 use Rattle.hp_tree.specs.Blocks.{Decl, Block, block, Eqns, Eqn, eqns_of}
 use Rattle.hp_tree.specs.Meaning.{declares, defines, some_defines, block_defines, clock_in, written}
 use Rattle.hp_causal.specs.Clocked.{Standing, base_alone, standing_in, DefinesOnBase, BlockRight, AllRight, OneRight}
-use Rattle.hp_automata.specs.Names.{is_name, missing, outer_names}
+use Rattle.hp_defining.specs.Names.{outer_names}
+use Rattle.hp_automata.specs.Names.{is_name, missing}
 use Rattle.hp_automata.specs.Renaming.{renamed_path, renamed_decls}
 use Rattle.hp_automata.specs.Lowering.{Types, Enumerations, declaring, all_kept, lowered_block, lowered_eqns, lowered_eqn}
 use Rattle.hp_lowered.specs.OldNames.{IsOld}

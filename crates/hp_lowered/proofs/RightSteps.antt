@@ -9,7 +9,8 @@ use Rattle.hp_tree.specs.Blocks.{Decl, Block, block, Eqns, no_eqn, more_eqns, Eq
 use Rattle.hp_tree.specs.Programs.{Contract, Node}
 use Rattle.hp_tree.specs.Meaning.{declares, defines, some_defines, block_defines, states_define, controls_of}
 use Rattle.hp_causal.specs.Clocked.{Standing, base_alone, standing_of, IsOn, BlockRight, ArmsRight, ContractRight, TellsOnBase, ClocksRight, on_base, own_clock}
-use Rattle.hp_automata.specs.Names.{is_name, names_of_arms, once}
+use Rattle.hp_defining.specs.Names.{names_of_arms}
+use Rattle.hp_automata.specs.Names.{is_name, once}
 use Rattle.hp_automata.specs.Renaming.{renamed_path, renamed_decls}
 use Rattle.hp_automata.specs.Lowering.{Types, Enumerations, same_name, types_of, enumerations, lowered_arms, lowered_states, lowered_body, lowered_body_of, lowered_contract, lowered_node, lowered_item, state_eqns, idle, state_locals, locals_from}
 use Rattle.hp_lowered.specs.OldNames.{IsOld}

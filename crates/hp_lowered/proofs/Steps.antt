@@ -11,7 +11,8 @@ use Rattle.hp_tree.specs.Programs.{TypeDecl}
 use Rattle.hp_tree.specs.Operators.{is_cons, is_true, is_there}
 use Rattle.hp_tree.specs.Instant.{Body, Named, Fresh, Equations, Head, Tail, Test, Arms as ArmsOf, Instant, Given, at, part, parts, top, own, since, nothing, of_two, with_body, with_arms}
 use Rattle.hp_tree.specs.Meaning.{Names, Nodes, Jump, expr, gives, defined, scope, arm, states, weak, within, from_block, from_arm, from_state, defines, some_defines, block_defines, states_define}
-use Rattle.hp_automata.specs.Names.{is_name, names_of_arms, once}
+use Rattle.hp_defining.specs.Names.{names_of_arms}
+use Rattle.hp_automata.specs.Names.{is_name, once}
 use Rattle.hp_automata.specs.Renaming.{renamed}
 use Rattle.hp_automata.specs.Lowering.{Types, Enumerations, declaring, all_kept, lowered_block, lowered_eqns, lowered_eqn, lowered_arms}
 use Rattle.hp_lowered.specs.OldNames.{IsOld, OldExpr}

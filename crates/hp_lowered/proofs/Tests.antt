@@ -5,7 +5,9 @@ use Rattle.std.specs.Str.{bytes_eq}
 use Rattle.hp_base.specs.declared.span.Span.{Span}
 use Rattle.hp_tree.specs.Blocks.{Decl, Block, block, Eqns, no_eqn, more_eqns, Eqn, define, switch, reset, automaton, Arms, no_arm, more_arms, States, no_state, more_states, eqns_of}
 use Rattle.hp_tree.specs.Meaning.{is_among, declares, defines, some_defines, block_defines, arms_define, states_define, names_of as declared_names}
-use Rattle.hp_automata.specs.Names.{is_name, missing, names_in, names_of, names_of_arms, names_of_states, outer_names}
+use Rattle.hp_defining.specs.Names.{names_in, names_of, names_of_arms, names_of_states, outer_names}
+use Rattle.hp_automata.proofs.NameLaws.{undeclared_is}
+use Rattle.hp_automata.specs.Names.{is_name, missing}
 use Rattle.hp_lowered.proofs.Apart.{same_bytes, bytes_same}
 
 -- ---- truth values
@@ -138,7 +140,7 @@ mutual
 
   pub names_outer : (b : Block) (x : List ℕ) → is_name (outer_names b) x ≡ block_defines b x
   names_outer (block ds es) x =
-      name_missing (is_name (declared_names ds)) (names_in es) x ∙ ap₂ (λ a c. a && not c) (names_defined es x) (name_declared ds x)
+      ap (λ ys. is_name ys x) (undeclared_is ds (names_in es)) ∙ name_missing (declares ds) (names_in es) x ∙ ap (λ a. a && not (declares ds x)) (names_defined es x)
 
 -- ---- lists of equations and of declarations
 

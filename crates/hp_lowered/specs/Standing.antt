@@ -14,7 +14,8 @@ use Rattle.hp_tree.specs.Instant.{Inputs, Controls, Body, Observer, Assume, Enfo
 use Rattle.hp_tree.specs.Meaning.{Jump, state_of, declares}
 use Rattle.hp_automata.specs.declared.new_names.Word.TheVariants as word
 use Rattle.hp_automata.specs.NewNames.{word_name}
-use Rattle.hp_automata.specs.Names.{names_of_states, once}
+use Rattle.hp_defining.specs.Names.{names_of_states}
+use Rattle.hp_automata.specs.Names.{once}
 use Rattle.hp_automata.specs.Lowering.{code, count_of}
 
 -- a relation between an instant of a part and one of what was made of it

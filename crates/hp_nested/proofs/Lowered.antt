@@ -10,7 +10,8 @@ use Rattle.hp_tree.specs.Blocks.{Decl, Block, block, Eqns, no_eqn, more_eqns, Eq
 use Rattle.hp_tree.specs.Meaning.{written, clock_in}
 use Rattle.hp_automata.specs.declared.new_names.Word.{Word}
 use Rattle.hp_automata.specs.declared.new_names.Word.TheVariants.{Strong, Weak}
-use Rattle.hp_automata.specs.Names.{names_of_arms, outer_names, is_name, once, missing}
+use Rattle.hp_defining.specs.Names.{names_of_arms, outer_names}
+use Rattle.hp_automata.specs.Names.{is_name, once, missing}
 use Rattle.hp_automata.specs.Renaming.{renamed_path, renamed_decls}
 use Rattle.hp_automata.specs.Lowering.{Types, Enumerations, declaring, Frame, inner, stays, pending_of, transition_locals, choices, value_local, state_locals, locals_from, frame_locals, idle_value, idle, choosing_eqns, strong_eqns, weak_eqns, frame_eqns, joined, kept, all_kept, frame, same_name, types_of, lowered_block, lowered_eqns, lowered_eqn, lowered_arms, lowered_states, lowered_body}
 use Rattle.hp_made.proofs.ClockLaws.{path-length}

@@ -1,7 +1,7 @@
 -- What reading from the front of some words comes to.
 use Rattle.std.specs.Prelude.{◌≡◌, ℕ, List, Result, Ok, Err}
-use Rattle.hp_obctext.specs.declared.reader.Stop.{Stop}
-use Rattle.hp_obctext.specs.declared.reader.Stop.TheVariants.{Refused, Memory}
+use Rattle.hp_lines.specs.declared.stop.Stop.{Stop}
+use Rattle.hp_lines.specs.declared.stop.Stop.TheVariants.{Refused, Memory}
 
 abbrev pub Words : Type 0
 Words = List (List ℕ)

@@ -5,10 +5,11 @@ ghost use Rattle.hp_obctext.specs.Reading.{one, many, behind, listed, section, v
 ghost use Rattle.hp_obctext.specs.StepView.{step_seen, branch_seen};
 ghost use Rattle.hp_obctext.specs.Texts.{file_seen};
 
-use crate::reader::{Reader, Stop};
+use crate::reader::Reader;
 use crate::steps::{Branch, Step, Steps};
 use crate::text::{File, Text};
 use hp_base::Name;
+use hp_lines::Stop;
 use hp_obc::{Arg, Mem, ObcOp, ObcType, Var};
 
 /// How many arguments an operator has.

@@ -17,9 +17,10 @@ use crate::convert::machines_of;
 use crate::error::ObcErr;
 use crate::found::Found;
 use crate::place::{count_words, place_of};
-use crate::reader::{Reader, Stop};
+use crate::reader::Reader;
 use crate::text::File;
 use hp_base::{Limit, What};
+use hp_lines::Stop;
 use hp_obc::Obc;
 use std::alloc::{AllocError, Global};
 

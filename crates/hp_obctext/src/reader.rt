@@ -9,39 +9,10 @@ use crate::lexing::first_word;
 use crate::place::count_words;
 use crate::spelling::{arg_of, const_of, constructor_of, label_of, name_of, op_of, ty_of};
 use hp_base::{Const, Name, Ty};
+use hp_lines::Stop;
 use hp_obc::{Arg, ObcOp};
-use std::alloc::{AllocError, AllocFailed, Global};
+use std::alloc::Global;
 use std::marker::Model;
-
-/// Why reading stopped.
-#[derive(Debug, Drop)]
-pub(crate) enum Stop {
-    /// The word ahead goes on with no text of machines.
-    Refused,
-    Memory,
-}
-
-impl From<AllocError> for Stop {
-    ghost use Rattle.std.specs.Prelude.{◌≡◌};
-    ghost use Rattle.hp_obctext.specs.declared.reader.Stop.TheVariants.{Memory};
-
-    ghost from_gives = { λ _ e. e ≡ Memory };
-
-    fn from(_: AllocError) -> Stop {
-        Stop::Memory
-    }
-}
-
-impl<T: Drop> From<AllocFailed<T>> for Stop {
-    ghost use Rattle.std.specs.Prelude.{◌≡◌};
-    ghost use Rattle.hp_obctext.specs.declared.reader.Stop.TheVariants.{Memory};
-
-    ghost from_gives = { λ _ e. e ≡ Memory };
-
-    fn from(_failed: AllocFailed<T>) -> Stop {
-        Stop::Memory
-    }
-}
 
 /// The words ahead in a text. Contracts see them as their bytes.
 #[derive(Drop)]
@@ -163,6 +134,18 @@ impl<'t> Reader<'t> {
         Ok(())
     }
 
+    /// Takes the word ahead, which stands for this, if it stands for anything.
+    fn take_as<T: Drop>(&mut self, found: Option<T>) -> Result<T, Stop>
+        ensures read { Gives (λ x. x) result self.new (one (λ w. found) self.old) }
+        ensures shorter { IfOk result (λ x. length self.new < length self.old) }
+    {
+        let Some(value) = found else {
+            return Err(Stop::Refused);
+        };
+        self.take().ok_or(Stop::Refused)?;
+        Ok(value)
+    }
+
     pub fn name(&mut self) -> Result<Name, Stop>
         ensures read { Gives (λ x. x) result self.new (one name_of self.old) }
         ensures shorter { IfOk result (λ x. length self.new < length self.old) }
@@ -170,11 +153,8 @@ impl<'t> Reader<'t> {
         let Some(word) = self.word() else {
             return Err(Stop::Refused);
         };
-        let Some(found) = name_of(self.alloc, word)? else {
-            return Err(Stop::Refused);
-        };
-        self.take().ok_or(Stop::Refused)?;
-        Ok(found)
+        let found = name_of(self.alloc, word)?;
+        self.take_as(found)
     }
 
     pub fn constructor(&mut self) -> Result<Name, Stop>
@@ -184,11 +164,8 @@ impl<'t> Reader<'t> {
         let Some(word) = self.word() else {
             return Err(Stop::Refused);
         };
-        let Some(found) = constructor_of(self.alloc, word)? else {
-            return Err(Stop::Refused);
-        };
-        self.take().ok_or(Stop::Refused)?;
-        Ok(found)
+        let found = constructor_of(self.alloc, word)?;
+        self.take_as(found)
     }
 
     pub fn ty(&mut self) -> Result<Ty, Stop>
@@ -198,11 +175,8 @@ impl<'t> Reader<'t> {
         let Some(word) = self.word() else {
             return Err(Stop::Refused);
         };
-        let Some(found) = ty_of(self.alloc, word)? else {
-            return Err(Stop::Refused);
-        };
-        self.take().ok_or(Stop::Refused)?;
-        Ok(found)
+        let found = ty_of(self.alloc, word)?;
+        self.take_as(found)
     }
 
     /// The value of an arm.
@@ -213,11 +187,8 @@ impl<'t> Reader<'t> {
         let Some(word) = self.word() else {
             return Err(Stop::Refused);
         };
-        let Some(found) = label_of(self.alloc, word)? else {
-            return Err(Stop::Refused);
-        };
-        self.take().ok_or(Stop::Refused)?;
-        Ok(found)
+        let found = label_of(self.alloc, word)?;
+        self.take_as(found)
     }
 
     pub fn constant(&mut self) -> Result<Const, Stop>
@@ -227,11 +198,8 @@ impl<'t> Reader<'t> {
         let Some(word) = self.word() else {
             return Err(Stop::Refused);
         };
-        let Some(found) = const_of(self.alloc, word)? else {
-            return Err(Stop::Refused);
-        };
-        self.take().ok_or(Stop::Refused)?;
-        Ok(found)
+        let found = const_of(self.alloc, word)?;
+        self.take_as(found)
     }
 
     pub fn arg(&mut self) -> Result<Arg, Stop>
@@ -241,11 +209,8 @@ impl<'t> Reader<'t> {
         let Some(word) = self.word() else {
             return Err(Stop::Refused);
         };
-        let Some(found) = arg_of(self.alloc, word)? else {
-            return Err(Stop::Refused);
-        };
-        self.take().ok_or(Stop::Refused)?;
-        Ok(found)
+        let found = arg_of(self.alloc, word)?;
+        self.take_as(found)
     }
 
     pub fn op(&mut self) -> Result<ObcOp, Stop>
@@ -255,11 +220,8 @@ impl<'t> Reader<'t> {
         let Some(word) = self.word() else {
             return Err(Stop::Refused);
         };
-        let Some(found) = op_of(word) else {
-            return Err(Stop::Refused);
-        };
-        self.take().ok_or(Stop::Refused)?;
-        Ok(found)
+        let found = op_of(word);
+        self.take_as(found)
     }
 
     /// How many words are ahead.

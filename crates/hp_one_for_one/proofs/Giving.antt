@@ -13,7 +13,8 @@ use Rattle.hp_tree.specs.Programs.{Contract, Node}
 use Rattle.hp_tree.specs.Instant.{Controls, Body, Observer, Assume, Enforce, Equations, Head, Tail, Right, Test, Arms as ArmsOf, States as StatesOf, First, Second, Third, Args, Instance, Instant, part, top}
 use Rattle.hp_tree.specs.Meaning.{controls_of}
 use Rattle.hp_tree.specs.Reaction.{row_of}
-use Rattle.hp_automata.specs.Names.{names_of_states, once}
+use Rattle.hp_defining.specs.Names.{names_of_states}
+use Rattle.hp_automata.specs.Names.{once}
 use Rattle.hp_lowered.specs.Standing.{Relation, behind, arm_in, body_in, either_is}
 use Rattle.hp_lowered.specs.Giving.{ExprGiven, ExprsGiven, PartsGiven, BlockGiven, EqnsGiven, EqnGiven, ArmsGiven, StatesGiven, BodyGiven, ConditionGiven, ContractGiven, NodeGiven, given_among}
 use Rattle.hp_one_for_one.specs.Always.{AlwaysLaw}

@@ -10,7 +10,8 @@ use Rattle.hp_tree.specs.Programs.{Contract}
 use Rattle.hp_clocking.specs.Clocking.{EachBlock, EachOfAll, EachOfOne, EachOfArms, EachOfStates, EachInContract, IsWritten, AreWritten, ControlsWritten}
 use Rattle.hp_automata.specs.declared.new_names.Word.{Word}
 use Rattle.hp_automata.specs.declared.new_names.Word.TheVariants.{Strong, Weak}
-use Rattle.hp_automata.specs.Names.{names_of_arms, outer_names, is_name, once, missing}
+use Rattle.hp_defining.specs.Names.{names_of_arms, outer_names}
+use Rattle.hp_automata.specs.Names.{is_name, once, missing}
 use Rattle.hp_automata.specs.Renaming.{renamed_path, renamed_decls}
 use Rattle.hp_automata.specs.Lowering.{Types, Enumerations, Frame, declaring, inner, frame, frame_words, transition_locals, state_words, state_locals, value_local, locals_from, frame_locals, choices, strong_eqns, choosing_eqns, state_eqns, weak_eqns, own_next, stays, pending_of, joined, frame_eqns, kept, all_kept, idle_value, idle, from_eqn, on_word, state_switch, lowered_block, lowered_eqns, lowered_eqn, lowered_arms, lowered_states, lowered_body, lowered_contract, types_of, same_name}
 use Rattle.hp_ordered.specs.Written.{WrittenLaw}

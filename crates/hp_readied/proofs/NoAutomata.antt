@@ -7,7 +7,8 @@ use Rattle.hp_tree.specs.Expressions.{Expr}
 use Rattle.hp_tree.specs.Blocks.{Block, block, Eqns, no_eqn, more_eqns, Eqn, define, switch, reset, automaton, Arms, no_arm, more_arms, States, no_state, more_states, eqns_of}
 use Rattle.hp_automata.specs.declared.new_names.Word.{Word}
 use Rattle.hp_automata.specs.declared.new_names.Word.TheVariants.{Strong, Weak}
-use Rattle.hp_automata.specs.Names.{is_name, missing, names_of_arms, outer_names, once}
+use Rattle.hp_defining.specs.Names.{names_of_arms, outer_names}
+use Rattle.hp_automata.specs.Names.{is_name, missing, once}
 use Rattle.hp_automata.specs.Lowering.{Types, Enumerations, declaring, Frame, frame, inner, kept, all_kept, choices, joined, idle_value, idle, from_eqn, on_word, state_switch, strong_eqns, choosing_eqns, state_eqns, own_next, weak_eqns, stays, pending_of, frame_eqns, lowered_block, lowered_eqns, lowered_eqn, lowered_arms, lowered_states, lowered_body, same_name, types_of}
 use Rattle.hp_flattened.specs.Timely.{Lowered, AllLowered, OneLowered, ArmsLowered}
 use Rattle.hp_readied.specs.Laws.{LoweredLaw}

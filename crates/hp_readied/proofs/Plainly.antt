@@ -11,7 +11,8 @@ use Rattle.hp_named.proofs.Sets.{once_append, false_if}
 use Rattle.hp_automata.specs.declared.new_names.Word.{Word}
 use Rattle.hp_automata.specs.declared.new_names.Word.TheVariants.{Jump, Next, From, On, Strong, Weak}
 use Rattle.hp_automata.specs.NewNames.{word_name, state_word, transition_word, value_name}
-use Rattle.hp_automata.specs.Names.{is_name, missing, names_of_arms, names_of_states, outer_names, once}
+use Rattle.hp_defining.specs.Names.{names_of_arms, names_of_states, outer_names}
+use Rattle.hp_automata.specs.Names.{is_name, missing, once}
 use Rattle.hp_automata.specs.Renaming.{renamed_decls, renamed_left}
 use Rattle.hp_automata.specs.Lowering.{Types, Enumerations, declaring, Frame, frame, inner, kept, all_kept, transition_locals, choice, choices, locals_from, frame_locals, joined, idle_next, idle_value, idle, from_eqn, on_word, state_switch, strong_eqns, choosing_eqns, state_eqns, own_next, weak_eqns, stays, pending_of, jump_eqn, next_eqn, frame_eqns, lowered_block, lowered_eqns, lowered_eqn, lowered_arms, lowered_states, lowered_body, count_of, types_of}
 use Rattle.hp_lowered.specs.OldNames.{IsOld}

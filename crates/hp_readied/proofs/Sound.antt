@@ -10,7 +10,8 @@ use Rattle.hp_named.specs.Scopes.{Scope}
 use Rattle.hp_named.specs.Scoped.{Names, BlockScoped, EqnsScoped, EqnScoped, ArmsScoped, StatesScoped}
 use Rattle.hp_named.proofs.Declared.{eqn_owned}
 use Rattle.hp_valued.specs.Judged.{Lasts, lasts_in, Covers, HaveOwnTypes, BlockSound, EqnsSound, EqnSound, ArmsSound, StatesSound}
-use Rattle.hp_automata.specs.Names.{is_name, names_of_arms, once}
+use Rattle.hp_defining.specs.Names.{names_of_arms}
+use Rattle.hp_automata.specs.Names.{is_name, once}
 use Rattle.hp_automata.specs.Lowering.{Types, Enumerations, frame, state_locals, locals_from, frame_locals, idle, state_eqns, lowered_block, lowered_eqns, lowered_eqn, lowered_arms, lowered_states, lowered_body, count_of}
 use Rattle.hp_lowered.specs.OldNames.{IsOld}
 use Rattle.hp_lowered.specs.Removable.{Known, and_defined, BlockOk, EqnsOk, EqnOk, ArmsOk, StatesOk, most}

@@ -22,7 +22,8 @@ use Rattle.hp_accepted.proofs.Views.{own_types, lasts_kept}
 use Rattle.hp_automata.specs.declared.new_names.Word.{Word}
 use Rattle.hp_automata.specs.declared.new_names.Word.TheVariants.{Next, Weak}
 use Rattle.hp_automata.specs.NewNames.{word_name, state_word, value_name}
-use Rattle.hp_automata.specs.Names.{is_name, missing, names_of_states, outer_names}
+use Rattle.hp_defining.specs.Names.{names_of_states, outer_names}
+use Rattle.hp_automata.specs.Names.{is_name, missing}
 use Rattle.hp_automata.specs.Renaming.{renamed_decls}
 use Rattle.hp_automata.specs.Lowering.{Types, Enumerations, declaring, type_or_bool, type_of, Frame, frame, inner, all_kept, transition_locals, frame_locals, frame_eqns, weak_eqns, lowered_eqns, lowered_eqn, lowered_states, lowered_body, count_of}
 use Rattle.hp_lowered.specs.OldNames.{IsOld}

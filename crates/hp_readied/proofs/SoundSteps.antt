@@ -17,7 +17,8 @@ use Rattle.hp_named.proofs.Sets.{or_left, or_right}
 use Rattle.hp_named.proofs.Declared.{eqn_owned}
 use Rattle.hp_valued.specs.Judged.{Lasts, lasts_in, of_arms, HaveOwnTypes, DeclsSound, TestsSound, BlockSound, EqnsSound}
 use Rattle.hp_accepted.proofs.Views.{own_types, lasts_kept}
-use Rattle.hp_automata.specs.Names.{is_name, missing, outer_names}
+use Rattle.hp_defining.specs.Names.{outer_names}
+use Rattle.hp_automata.specs.Names.{is_name, missing}
 use Rattle.hp_automata.specs.Renaming.{renamed_decls}
 use Rattle.hp_automata.specs.Lowering.{Types, Enumerations, declaring, kept, all_kept, lowered_block, lowered_eqns, lowered_arms}
 use Rattle.hp_lowered.specs.OldNames.{IsOld}

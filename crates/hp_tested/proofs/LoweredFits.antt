@@ -20,7 +20,8 @@ use Rattle.hp_valued.specs.Judged.{Lasts, of_parts, BlockSound, EqnsSound, EqnSo
 use Rattle.hp_automata.specs.declared.new_names.Word.{Word}
 use Rattle.hp_automata.specs.declared.new_names.Word.TheVariants.{Strong, Weak, From, Next, On}
 use Rattle.hp_automata.specs.NewNames.{state_word, transition_word, value_name}
-use Rattle.hp_automata.specs.Names.{is_name, names_of_arms, once, missing, outer_names}
+use Rattle.hp_defining.specs.Names.{names_of_arms, outer_names}
+use Rattle.hp_automata.specs.Names.{is_name, once, missing}
 use Rattle.hp_automata.specs.Renaming.{renamed, renamed_exprs, renamed_parts, renamed_path, renamed_decls}
 use Rattle.hp_automata.specs.Lowering.{Types, Enumerations, Frame, frame, inner, declaring, link, number, chosen, choices, choosing_eqns, strong_eqns, pending_of, kept, all_kept, transition_locals, value_local, state_locals, locals_from, frame_locals, idle, idle_value, joined, frame_eqns, weak_eqns, stays, state_switch, state_eqns, lowered_block, lowered_eqns, lowered_eqn, lowered_arms, lowered_states, lowered_body, count_of}
 use Rattle.hp_lowered.specs.Removable.{Known, and_defined, BlockOk, EqnsOk, EqnOk, ArmsOk, StatesOk}

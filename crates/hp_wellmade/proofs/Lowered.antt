@@ -16,7 +16,8 @@ use Rattle.hp_named.specs.Scoped.{EachNode}
 use Rattle.hp_automata.specs.declared.new_names.Word.{Word}
 use Rattle.hp_automata.specs.declared.new_names.Word.TheVariants.{Strong, Weak, Next, From}
 use Rattle.hp_automata.specs.NewNames.{state_word, transition_word, value_name}
-use Rattle.hp_automata.specs.Names.{names_of_arms, outer_names, is_name, once, missing}
+use Rattle.hp_defining.specs.Names.{names_of_arms, outer_names}
+use Rattle.hp_automata.specs.Names.{is_name, once, missing}
 use Rattle.hp_automata.specs.Renaming.{renamed, renamed_exprs, renamed_parts, renamed_decls}
 use Rattle.hp_automata.specs.Lowering as lowering
 use Rattle.hp_automata.specs.Lowering.{Types, Enumerations, declaring, type_of, Frame, inner, number, code, goes_to, link, some_constant, transition_locals, chosen, choice, choices, value_local, state_words, state_locals, locals_from, frame_words, frame_locals, handed, value_handed, idle_next, idle_value, idle, joined, jump_of, pending_of, stays, from_eqn, on_word, afresh, state_switch, strong_eqns, choosing_eqns, state_eqns, weak_eqns, own_next, frame_eqns, kept, all_kept, count_of, frame, lowered_block, lowered_eqns, lowered_eqn, lowered_arms, lowered_states, lowered_body, same_name, lowered_node, lowered_item}

@@ -1,5 +1,8 @@
-use Rattle.std.proofs.Common.{◌+◌, ℕ, List, [], Bor, get_or, drop, sym, ap, ◌∙◌}
+use Rattle.std.proofs.Common.{◌≡◌, ◌+◌, ℕ, List, [], Bor, get_or, drop, sym, ap, ◌∙◌}
 use Rattle.std.proofs.lemmas.List.{get_or_default}
+use Rattle.std.specs.Prelude.{position}
+use Rattle.std.specs.Str.{bytes_eq}
+use Rattle.hp_cause.specs.Gathering.{in_list}
 use Rattle.hp_cause.specs.Around.{first_places}
 use Rattle.hp_cause.specs.Told.{names_seen, with_more}
 use Rattle.hp_cause.proofs.AroundLaws.{next-first}
@@ -12,6 +15,7 @@ loop-i-preserved c =
     let around = names_seen c.args.set.now.keys in
     let name : Bor (List ℕ) = get_or names i (record { ref_ptr = (0, 0); now = [] }) in
     let before = c.loop-i.places.items in
-    ap (λ made. with_more made (first_places around (names_seen (drop (i + 1) names)))) c.in_ok-add_place.ensures
+    let name_is : c.bytes.result.now ≡ name.now = cc in
+    ap (λ made. with_more made (first_places around (names_seen (drop (i + 1) names)))) (c.in_ok-add_place.ensures ∙ ap (λ x. with_more before (in_list (position (bytes_eq x) around))) name_is)
     ∙ sym (next-first around before names i name c.loop-i-test.true (get_or_default names i (record { ref_ptr = (0, 0); now = [] }) name c.loop-i-test.true))
     ∙ c.loop-i.invariant

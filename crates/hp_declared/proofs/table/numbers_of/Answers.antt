@@ -1,6 +1,6 @@
-use Rattle.std.proofs.Common.{◌<◌, ◌-◌, ℕ, List, [], Bor, get_or, length, ap, ◌∙◌, arith}
+use Rattle.std.proofs.Common.{◌≡◌, ◌<◌, ◌-◌, ℕ, List, [], Bor, get_or, length, ap, ◌∙◌, arith}
 use Rattle.std.proofs.lemmas.List.{get_or_default}
-use Rattle.hp_declared.specs.Tables.{put_at}
+use Rattle.hp_declared.specs.Tables.{put_at, said_in}
 use Rattle.hp_declared.proofs.TableLaws.{numbers-end, numbers-next}
 use Rattle.hp_declared.proofs.table.numbers_of.Goals as goal
 
@@ -15,9 +15,11 @@ loop-i-preserved c =
     let i = c.loop-i.i - 1 in
     let name : Bor (List ℕ) = get_or names i (record { ref_ptr = (0, 0); now = [] }) in
     let inside : i < length names = omega arith in
+    let name_is : c.bytes.result.now ≡ name.now = cc in
     record {
       within = omega arith;
       numbers = c.in_ok-put.ensures
+          ∙ ap (λ x. put_at (said_in c.loop-i.numbers) x i) name_is
           ∙ ap (λ f. put_at f name.now i) c.loop-i.invariant.numbers
           ∙ numbers-next names i c.loop-i.i name (omega arith) inside (get_or_default names i (record { ref_ptr = (0, 0); now = [] }) name inside);
     }

@@ -12,8 +12,7 @@ loop-decl-preserved c =
     let decl = c.decl-item.result in
     let before = names_seen c.loop-decl.into.items in
     let rest = names_of (drop (i + 1) decls) in
-    let name_is : c.bytes.result.now ≡ decl.name = cc in
     ap (λ items. with_more (names_seen items) rest) c.in_ok-push.ensures.items
-    ∙ ap (λ made. with_more made rest) (names-push c.loop-decl.into.items c.bytes.result ∙ ap (λ name. with_more before (name ∷ [])) name_is)
+    ∙ ap (λ made. with_more made rest) (names-push c.loop-decl.into.items c.ref.result)
     ∙ sym (next-declared before decls i decl c.loop-decl-test.true c.decl-item.is)
     ∙ c.loop-decl.invariant

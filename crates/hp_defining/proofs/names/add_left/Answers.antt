@@ -1,4 +1,4 @@
-use Rattle.std.proofs.Common.{◌≡◌, ◌+◌, ℕ, List, [], ◌∷◌, map, drop, sym, ap, ◌∙◌}
+use Rattle.std.proofs.Common.{◌+◌, ℕ, List, map, drop, sym, ap, ◌∙◌}
 use Rattle.hp_base.specs.declared.span.Span.{Span}
 use Rattle.hp_defining.specs.Seen.{names_seen, with_more}
 use Rattle.hp_defining.proofs.NameLaws.{names-left}
@@ -11,7 +11,6 @@ loop-name-preserved c =
     let item = c.loop-name-item.result in
     let before = names_seen c.loop-name.into.items in
     let rest = map (λ (y : List ℕ × Span). y.0) (drop (i + 1) names) in
-    let name_is : c.bytes.result.now ≡ item.0 = cc in
-    ap (λ made. with_more made rest) (c.in_ok-push.ensures ∙ ap (λ name. with_more before (name ∷ [])) name_is)
+    ap (λ made. with_more made rest) c.in_ok-push.ensures
     ∙ sym (names-left before names i item c.loop-name-test.true c.loop-name-item.is)
     ∙ c.loop-name.invariant

@@ -1,6 +1,6 @@
-use Rattle.std.proofs.Common.{◌+◌, ◌<◌, ◌-◌, ℕ, List, [], Bor, get_or, length, Some, ap, ◌∙◌, arith}
+use Rattle.std.proofs.Common.{◌≡◌, ◌+◌, ◌<◌, ◌-◌, ℕ, List, [], Bor, get_or, length, Some, ap, ◌∙◌, arith}
 use Rattle.std.proofs.lemmas.List.{get_or_default}
-use Rattle.hp_defining.specs.Layers.{put_at}
+use Rattle.hp_defining.specs.Layers.{put_at, says}
 use Rattle.hp_defining.proofs.LayerLaws.{numbers-end, numbers-next}
 use Rattle.hp_defining.proofs.layer.Layer.numbered.Goals as goal
 
@@ -16,9 +16,11 @@ loop-i-preserved c =
     let name : Bor (List ℕ) = get_or names i (record { ref_ptr = (0, 0); now = [] }) in
     let number = Some (c.args.first + i) in
     let inside : i < length names = omega arith in
+    let name_is : c.bytes.result.now ≡ name.now = cc in
     record {
       within = omega arith;
       numbers = c.in_ok-put.ensures
+          ∙ ap (λ x. put_at (says c.loop-i.layer) x number) name_is
           ∙ ap (λ f. put_at f name.now number) c.loop-i.invariant.numbers
           ∙ numbers-next c.args.first names i c.loop-i.i name (omega arith) inside (get_or_default names i (record { ref_ptr = (0, 0); now = [] }) name inside);
     }
