@@ -22,7 +22,6 @@ use Rattle.hp_made.specs.Making.{Known, outputs_of}
 use Rattle.hp_made.specs.Standing.{Knows}
 use Rattle.hp_made.specs.Blocks.{DeclaredOnce, IsPlain, ArePlain, OnePlain, ArmsPlain}
 use Rattle.hp_made.specs.Laws.{body_name}
-use Rattle.hp_made.proofs.MadeLaw.{stands-kept}
 use Rattle.hp_answered.specs.Answering.{filled_nodes, AreApart, IsCalled}
 use Rattle.hp_answered.specs.Laws.{IsMade}
 use Rattle.hp_answered.proofs.NodeAnswerLaws.{block_so, none_later}
@@ -32,6 +31,7 @@ use Rattle.hp_choosing_runs.specs.Chosen.{chosen_nodes}
 use Rattle.hp_choosing_runs.proofs.Chosen.{outputs_alike}
 use Rattle.hp_choosing_flat.specs.Answering.{chosen_filled}
 use Rattle.hp_choosing_flat.proofs.Behave.{outputs_behind}
+use Rattle.hp_choosing_flat.proofs.BodyNames.{NamesStand, names-stand}
 
 -- A node of a program without automata, and clocked equations that stand for its flat names, with its controllable variables behind its inputs.
 pub record StandsFlat (choices : Choices) (program : List Item) (fills : List ℕ → Place → Value) (later earlier : List Item) (n : Node) (means : ℕ → FlatName) (flat : FlatNode) : Type 0 where
@@ -64,16 +64,16 @@ mutual
   lowered_arms no_arm h = tt
   lowered_arms (more_arms c b s arms) h = (lowered_block b h.0, lowered_arms arms h.1)
 
--- Where the remembered names of a node are of K, so are those that variables stand for.
+-- Where the remembered names of a node are of K, so are those that variables stand for. The variables of the names of the body stand for these.
 pub stands_flat : (K : FlatName → Type 0) (choices : Choices) (program : List Item) (fills : List ℕ → Place → Value) (k : Known) → AreApart (reverse program) → Knows (types_of program) (filled_nodes program).outputs k
     → (later earlier : List Item) (n : Node) (flat : FlatNode) → IsMade program fills later earlier k n flat → NodeKeeps K (types_of program) (fills n.name) n
-    → (means : ℕ → FlatName) × StandsFlat choices program fills later earlier n means flat × ((x : ℕ) → IsKept K (means x))
+    → (means : ℕ → FlatName) × StandsFlat choices program fills later earlier n means flat × ((x : ℕ) → IsKept K (means x)) × NamesStand k n n.body means
 stands_flat K choices program fills k apart knows later earlier n flat is keeps =
     let types = types_of program in
     let whole = filled_nodes program in
     let chosen = chosen_filled choices program in
     let before = chosen_nodes choices types filled earlier in
-    let kept = stands-kept K types whole.outputs k (fills n.name) n flat knows is.ready keeps is.inputs is.outputs is.equations in
+    let kept = names-stand K types whole.outputs k (fills n.name) n flat knows is.ready keeps is.inputs is.outputs is.equations in
     let s = kept.0 in
     let split : reverse program ≡ (later ++ NodeItem n ∷ []) ++ earlier = is.stands ∙ sym (append_assoc later (NodeItem n ∷ []) earlier) in
     let alike : (f : List ℕ) → whole.outputs f ≡ chosen.outputs f = λ f. sym (outputs_alike choices types filled (reverse program) f) in
@@ -98,4 +98,5 @@ stands_flat K choices program fills k apart knows later earlier n flat is keeps 
         outputs = s.outputs_are;
       },
       kept.1,
+      kept.2,
     )

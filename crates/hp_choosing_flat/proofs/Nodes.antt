@@ -1,4 +1,4 @@
--- A reaction of a node with chosen values is one of its clocked equations, with the same answers.
+-- A reaction of a node with chosen values is one of its clocked equations, with the same answers and the same values of names.
 use Rattle.std.proofs.Common.{◌≡◌, ℕ, List, [], ◌∷◌, ◌++◌, length, map, reverse, refl, sym, ap, ap₂, subst, ◌∙◌}
 use Rattle.std.specs.Prelude.{Bool, true, false, ◌||◌, if◌then◌else◌, IsTrue, IsFalse, Option, None, Some}
 use Rattle.std.specs.List.{AllByRecursion}
@@ -33,6 +33,7 @@ use Rattle.hp_flattened.specs.Behaves.{OutputsAre, IsFine}
 use Rattle.hp_flattened.specs.Numbered.{GivesValues, IsTolds, does_of, numbered}
 use Rattle.hp_flattened.proofs.FlatteningLaw.{flattens}
 use Rattle.hp_flattened.proofs.NumberLaws.{numbers}
+use Rattle.hp_made.specs.Making.{Known}
 use Rattle.hp_made.specs.Blocks.{DeclaredOnce}
 use Rattle.hp_made.specs.Keeping.{IsKept}
 use Rattle.hp_made.specs.Laws.{body_name}
@@ -55,16 +56,18 @@ use Rattle.hp_timely.proofs.NodeRows.{name_rows}
 use Rattle.hp_timely.proofs.Rows.{OptFits}
 use Rattle.hp_timely.proofs.KeptLaws.{keeps}
 use Rattle.hp_timely.proofs.BeginLaws.{begins}
-use Rattle.hp_choosing.specs.Choices.{Choice, Choices, with_chosen}
+use Rattle.hp_choosing.specs.Choices.{Choice, Choices, ReactionUnder, with_chosen}
 use Rattle.hp_choosing.specs.Meaning.{GivesAnswer}
 use Rattle.hp_choosing_runs.specs.Chosen.{inputs_at, chosen_given, chosen_nodes, chosen_meaning}
 use Rattle.hp_choosing_runs.specs.Laws.{ChoosesValues}
 use Rattle.hp_choosing_flat.specs.Answering.{chosen_filled, AnsweringUnder, ControlsDiffer}
 use Rattle.hp_choosing_flat.specs.Laws.{EquationsAnswerLaw}
+use Rattle.hp_choosing_flat.specs.Names.{values_of, values_at, ReadsNames, NamesLaw}
 use Rattle.hp_choosing_flat.proofs.Behave.{outputs_answered, outputs_here, instant_here, behave}
 use Rattle.hp_choosing_flat.proofs.Values.{steered_fits, callees}
 use Rattle.hp_choosing_flat.proofs.Among.{Accepted, accepted_at, tested_at, ranked_at, each_at, given_at, among_behind, has_among}
 use Rattle.hp_choosing_flat.proofs.Along.{meets_along, timely_along, with_all, along_so, told_of}
+use Rattle.hp_choosing_flat.proofs.BodyNames.{NamesStand}
 use Rattle.hp_choosing_flat.proofs.Flat.{StandsFlat, stands_flat}
 use Rattle.hp_choosing_flat.proofs.Rows.{same_row, row_read, are_long, steered_each, all_filled, values_given}
 
@@ -146,6 +149,19 @@ module _ (choice : Choice) (n : Node) (fill : Instant) (said : List Value → Gi
           subst (λ earlier. GivesValues row_names (vs ++ choice vs earlier) i) (held inputs past r.0 long.1) values,
           h.2,
         )
+
+-- ---- names
+
+-- A variable that stands for a name of the body has its values.
+named_values : (means : ℕ → FlatName) (n : Node) (v : ℕ) (x : List ℕ) → means v ≡ body_name x → (said : List Value → Given → Instant → Instant) (inputs : List (List Value)) (frees : List Instant) (past : Past) → Reacts said inputs frees past
+    → values_at v (map (numbered means) (lifts n inputs frees past)) ≡ values_of x past
+named_values means n v x e said [] [] [] r = refl
+named_values means n v x e said [] [] (now ∷ past) r = absurd r
+named_values means n v x e said [] (free ∷ frees) past r = absurd r
+named_values means n v x e said (vs ∷ inputs) [] past r = absurd r
+named_values means n v x e said (vs ∷ inputs) (free ∷ frees) [] r = absurd r
+named_values means n v x e said (vs ∷ inputs) (free ∷ frees) (now ∷ past) r =
+    ap₂ (λ (w : Value) (ws : List Value). w ∷ ws) (ap (lifted (lifts n inputs frees past) (inputs_of n vs free) free now) e) (named_values means n v x e said inputs frees past r.0)
 
 -- ---- the law
 
@@ -303,6 +319,24 @@ module _ (choices : Choices) (program : List Item) (class : Classing) (fills : L
       ∙ body_outputs n.outputs n.outputs now (λ x. reaction.1 (Named x ∷ []) ∙ ap (λ (j : Instant). j (Named x ∷ [])) (instant_is args (record { past = past; free = fill }) now)) (λ e h. h)
       ∙ sym (map_twice i means flat.outputs ∙ ap (λ (xs : List FlatName). map i xs) is.outputs ∙ map_body i now (λ p. refl) (names_of n.outputs))
 
+  -- so it is of the choice of the flat node
+  read_reaction : flat.name ≡ n.name → (inputs : List (List Value)) (past : Past) → Each (AreOf types n.inputs) inputs → Reacts Said inputs (steered_each choice n fill inputs past) past
+      → ReactionUnder choices answers flat inputs (map (numbered means) (lifted_each inputs past))
+  read_reaction name_is inputs past of_types reaction =
+      subst (λ (x : List ℕ). Reaction answers flat (with_chosen (choices x) inputs) (map (numbered means) (lifted_each inputs past))) (sym name_is) (numbered_reaction inputs past of_types reaction)
+
+  reads : (k : Known) → NamesStand k n n.body means → flat.name ≡ n.name → (inputs : List (List Value)) (past : Past) → Each (AreOf types n.inputs) inputs → ReactionOf (chosen_meaning choices filled program n.name) inputs (given_each fill inputs) past
+      → ReadsNames choices answers k n flat inputs past
+  reads k stand name_is inputs past of_types reaction =
+      let reaction_here = reacts inputs past reaction in
+      record {
+        instants = map (numbered means) (lifted_each inputs past);
+        reaction = read_reaction name_is inputs past of_types reaction_here;
+        names = λ x h.
+            let its = stand x h in
+            record { variable = its.0; is_its = its.1; values = named_values means n its.0 x its.2 Said inputs (steered_each choice n fill inputs past) past reaction_here };
+      }
+
   answered_on : flat.name ≡ n.name → (args : List Value) (before : List (List Value)) (past : Past) → Each (AreOf types n.inputs) (args ∷ before)
       → ReactionOf (chosen_meaning choices filled program n.name) (args ∷ before) (given_each fill (args ∷ before)) past → GivesAnswer choices answers flat args before
   answered_on name_is args before [] of_types reaction = absurd reaction
@@ -311,9 +345,7 @@ module _ (choices : Choices) (program : List Item) (class : Classing) (fills : L
       record {
         now = numbered means (lifted (lifted_each before past) (inputs_of n args free) free now);
         past = map (numbered means) (lifted_each before past);
-        reaction =
-            subst (λ (x : List ℕ). Reaction answers flat (with_chosen (choices x) (args ∷ before)) (map (numbered means) (lifted_each (args ∷ before) (now ∷ past)))) (sym name_is)
-            (numbered_reaction (args ∷ before) (now ∷ past) of_types (reacts (args ∷ before) (now ∷ past) reaction));
+        reaction = read_reaction name_is (args ∷ before) (now ∷ past) of_types (reacts (args ∷ before) (now ∷ past) reaction);
         answer = ap (λ (x : List ℕ). answers x args before) name_is ∙ outputs_given args before now past free reaction;
       }
 
@@ -329,3 +361,10 @@ equations_answer choices program class fills k ok ranked apart fit distinct are_
     let fill = fills n.name in
     let m = stands_flat (λ a. IsRemembered types fill n a) choices program fills k apart knows later earlier n flat is (keeps types fill n is.ready.plain is.ready.outputs) in
     gives choices program class fills answers ok ranked apart fit distinct are_tested values answer_is later earlier n m.0 flat m.1 m.2 (begins k fill n is.ready) differ name_is
+
+pub names_read : NamesLaw
+names_read choices program class fills k ok ranked apart fit distinct are_tested knows values answers answer_is later earlier n flat is name_is differ inputs past of_types reaction =
+    let types = types_of program in
+    let fill = fills n.name in
+    let m = stands_flat (λ a. IsRemembered types fill n a) choices program fills k apart knows later earlier n flat is (keeps types fill n is.ready.plain is.ready.outputs) in
+    reads choices program class fills answers ok ranked apart fit distinct are_tested values answer_is later earlier n m.0 flat m.1 m.2 (begins k fill n is.ready) differ k m.3 name_is inputs past of_types reaction

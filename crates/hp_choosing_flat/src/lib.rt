@@ -4,6 +4,7 @@
 #![tactic(auto)]
 
 ghost use Rattle.hp_choosing_flat.specs.Laws.{BehaveLaw, EquationsAnswerLaw, SomeAnswersLaw};
+ghost use Rattle.hp_choosing_flat.specs.Names.{NamesLaw};
 
 /// In the filled form of a ranked program each node answers on all inputs with the chosen values, and behaves so wherever it is called.
 pub fn chosen_nodes_answer()
@@ -14,4 +15,9 @@ pub fn chosen_nodes_answer()
 /// The clocked equations that are made of a node answer under the same choice as the node does, where the values that it chooses are of the types.
 pub fn equations_answer_under_each_choice()
     ensures { EquationsAnswerLaw }
+{}
+
+/// They have a reaction under the choice in which the variable of each name of the node's body has the values that the name has in the node.
+pub fn equations_keep_names_under_each_choice()
+    ensures { NamesLaw }
 {}

@@ -1,4 +1,4 @@
--- What nodes in turn answer with the chosen values is of the kinds that they give, and so is what their one meaning answers.
+-- What nodes in turn answer with the chosen values is of the kinds that they give, and so is what their one meaning answers; and their reactions are one.
 use Rattle.std.proofs.Common.{◌≡◌, ℕ, Bool, true, false, ◌||◌, if◌then◌else◌, List, [], ◌∷◌, refl, sym, ap, subst, ◌∙◌}
 use Rattle.std.specs.List.{AllByRecursion}
 use Rattle.std.specs.Str.{bytes_eq}
@@ -10,15 +10,18 @@ use Rattle.hp_obc.specs.Machines.{ObcType}
 use Rattle.hp_obc.specs.Steps.{Names}
 use Rattle.hp_flat.specs.Equations.{Clock, Right, operator, register, called, FlatEqn}
 use Rattle.hp_flat.specs.Nodes.{FlatNode}
+use Rattle.hp_flows.specs.Fitting.{Fits}
 use Rattle.hp_flows.specs.Instants.{Instant, atoms, since}
 use Rattle.hp_flows.specs.Kinding.{Callees, IsWellMade, IsPossible, AnswersOfKinds, OutputsOfKindsLaw}
 use Rattle.hp_flows.specs.Reactions.{Answers, right_gives, Holds, Reaction, outputs_at}
 use Rattle.hp_followed.specs.Programs.{CallsAmong, CallsOnly}
 use Rattle.hp_closed.proofs.ClosedLaws.{each_both}
 use Rattle.hp_on_clocks.specs.Meaning.{AnswersAlike}
-use Rattle.hp_choosing.specs.Choices.{Choices, ChoicesOfKinds, IsSteered, OneReactionLaw, with_chosen}
-use Rattle.hp_choosing.specs.Meaning.{AreInTurn, GivesAnswers}
+use Rattle.hp_choosing.specs.Choices.{Choices, ReactionUnder, ChoicesOfKinds, IsSteered, OneReactionLaw, with_chosen}
+use Rattle.hp_choosing.specs.Meaning.{AreInTurn, GivesAnswers, HasOneMeaningUnder}
 use Rattle.hp_choosing_streams.specs.Alike.{AlikeLaw}
+use Rattle.hp_choosing_streams.specs.Names.{IsOnlyReaction}
+use Rattle.hp_choosing_streams.proofs.Taken.{reaction_alike}
 
 -- ---- names
 
@@ -120,6 +123,36 @@ module _ (one_law : OneReactionLaw) (outputs_law : OutputsOfKindsLaw) (types : L
     others_alike names [] stay alike = tt
     others_alike names (n ∷ ns) stay alike = (λ args earlier h g. mixed_is all n.name (stay n.name (onto_own names n ns)) args earlier ∙ alike.0 args earlier h g, others_alike (n.name ∷ names) ns stay alike.1)
 
+  -- ---- and their reactions are those of the one meaning
+
+  -- the instants of a reaction over inputs of the kinds are the one reaction over other answers
+  abbrev OnlyReactions : FlatNode → Type 0
+  OnlyReactions n = (inputs : List (List Value)) → AllByRecursion (AreOfKinds (callees.takes n.name)) inputs → (instants : List Instant) → ReactionUnder choices others n inputs instants → IsOnlyReaction choices base n inputs instants
+
+  module _ (all : List (List ℕ)) (all_are : AnswersOfKinds (mixed all) callees) where
+    one_only : (names : List (List ℕ)) (n : FlatNode) → ((f : List ℕ) → has_name names f ≡ true → has_name all f ≡ true) → IsWellMade types callees n → IsSteered types callees controls n → CallsOnly names n.eqns
+        → ((f : List ℕ) → has_name names f ≡ true → AnswersAlike base (mixed all) callees.takes f) → OnlyReactions n
+    one_only names n stay well steered calls alike inputs kinds instants r =
+        let rows = with_chosen (choices n.name) inputs in
+        let as_mixed : Reaction (mixed all) n rows instants = reaction_same others (mixed all) names (λ f h. mixed_is all f (stay f h)) n calls rows instants r in
+        let m = one_law types callees controls choices (mixed all) n well steered fit all_are inputs kinds in
+        let b = one_law types callees controls choices base n well steered fit typed inputs kinds in
+        let fits : AllByRecursion (Fits callees.takes n) instants = subst (AllByRecursion (Fits callees.takes n)) (sym (m.only instants as_mixed)) m.fit in
+        let as_base = reaction_alike base (mixed all) callees.takes names alike n calls rows instants fits as_mixed in
+        record { reaction = as_base; only = λ xs h. b.only xs h ∙ sym (b.only instants as_base) }
+
+    all_only : (names : List (List ℕ)) (ns : List FlatNode) → ((f : List ℕ) → has_name (onto names ns) f ≡ true → has_name all f ≡ true) → AreInTurn types callees controls names ns
+        → ((f : List ℕ) → has_name names f ≡ true → AnswersAlike base (mixed all) callees.takes f) → AllByRecursion (λ (n : FlatNode). AnswersAlike base (mixed all) callees.takes n.name) ns → AllByRecursion OnlyReactions ns
+    all_only names [] stay p alike here = tt
+    all_only names (n ∷ ns) stay p alike here = (
+      one_only names n (λ f h. stay f (onto_has (n.name ∷ names) ns f (or_right (bytes_eq n.name f) (has_name names f) h))) p.0 p.1 p.3 alike,
+      all_only (n.name ∷ names) ns stay p.4 (λ f h. by f here.0 (bytes_eq n.name f) refl h) here.1,
+    )
+      where
+        by : (f : List ℕ) → AnswersAlike base (mixed all) callees.takes n.name → (d : Bool) → bytes_eq n.name f ≡ d → (d || has_name names f) ≡ true → AnswersAlike base (mixed all) callees.takes f
+        by f own true e h = subst (λ z. AnswersAlike base (mixed all) callees.takes z) ((bytes_eq-Decides n.name f).0 e) own
+        by f own false e h = alike f h
+
 pub alike_law : OneReactionLaw → OutputsOfKindsLaw → AlikeLaw
 alike_law one_law outputs_law types callees controls choices ns p fit one others gives =
     let all = onto [] ns in
@@ -128,3 +161,16 @@ alike_law one_law outputs_law types callees controls choices ns p fit one others
     others_alike one_law outputs_law types callees controls choices fit base others one.typed all [] ns (λ f h. h)
     (one.only (λ f args earlier. if has_name all f then others f args earlier else base f args earlier) typed
     (mixed_gives one_law outputs_law types callees controls choices fit base others one.typed all [] ns (λ f h. h) p gives))
+
+-- Nodes in turn that answer have the reactions of the one meaning.
+pub only_law : OneReactionLaw → OutputsOfKindsLaw → (types : List ObcType) (callees : Callees) (controls : Names (List KindData)) (choices : Choices) (ns : List FlatNode) → AreInTurn types callees controls [] ns → ChoicesOfKinds choices callees controls
+    → (one : HasOneMeaningUnder choices callees ns) (others : Answers) → AllByRecursion (GivesAnswers choices others callees.takes) ns
+    → AllByRecursion (λ (n : FlatNode). (inputs : List (List Value)) → AllByRecursion (AreOfKinds (callees.takes n.name)) inputs → (instants : List Instant) → ReactionUnder choices others n inputs instants → IsOnlyReaction choices one.answers n inputs instants) ns
+only_law one_law outputs_law types callees controls choices ns p fit one others gives =
+    let all = onto [] ns in
+    let base = one.answers in
+    let typed = all_typed one_law outputs_law types callees controls choices fit base others one.typed [] ns (λ f args earlier h g. one.typed f args earlier h g) p gives in
+    let alike =
+    one.only (λ f args earlier. if has_name all f then others f args earlier else base f args earlier) typed
+    (mixed_gives one_law outputs_law types callees controls choices fit base others one.typed all [] ns (λ f h. h) p gives) in
+    all_only one_law outputs_law types callees controls choices fit base others one.typed all typed [] ns (λ f h. h) p (λ f h. absurd (cc)) alike

@@ -1,4 +1,6 @@
+mod Taken
 mod Alike
 mod Signatures
 mod TypeKinds
 mod Streams
+mod Names

@@ -6,6 +6,7 @@ use Rattle.std.specs.Str.{bytes_eq}
 use Rattle.std.proofs.lemmas.List.{map-append}
 use Rattle.hp_base.specs.Kinds.{KindData, AreOfKinds}
 use Rattle.hp_base.specs.declared.value.Value.{Value}
+use Rattle.hp_obc.specs.Form.{TypesForm}
 use Rattle.hp_obc.specs.Machines.{ObcType}
 use Rattle.hp_obc.specs.Steps.{Names}
 use Rattle.hp_tree.specs.declared.program.Item.{Item}
@@ -19,14 +20,16 @@ use Rattle.hp_tree.specs.Meaning.{types_of, names_of, controls_of, nodes, node_a
 use Rattle.hp_tree.specs.Reaction.{Each, outputs_at}
 use Rattle.hp_causal.specs.Causality.{IsRanked}
 use Rattle.hp_causal.specs.OneReaction.{ReactionOf}
-use Rattle.hp_causal.specs.RanksOfPoints.{AllRanksLaw}
+use Rattle.hp_causal.specs.RanksOfPoints.{AllFall, AllRanksLaw}
 use Rattle.hp_named.specs.Scoped.{EachNode}
+use Rattle.hp_accepted.specs.Laws.{IsReady}
 use Rattle.hp_accepted.proofs.Assembled.{types_replaced, types_clocked}
 use Rattle.hp_expand.specs.Numbering.{no_node, replaced}
 use Rattle.hp_valued.specs.Values.{Classing, AreAccepted, GivenFits}
 use Rattle.hp_automata.specs.Lowering as lowering
 use Rattle.hp_automata.specs.Lowering.{Enumerations, enumerations, lowered_item, lowered_node, lowered_program}
 use Rattle.hp_lowered.specs.Laws.{RanksLaw}
+use Rattle.hp_lowered.specs.Removable.{IsRemovable}
 use Rattle.hp_lowerable.proofs.Runs.{lowered_there}
 use Rattle.hp_lowerable.proofs.Texts.{clocked_of, each_reverse}
 use Rattle.hp_filled.specs.Firsts.{DeclsHaveFirsts, NodeHasFirsts}
@@ -44,12 +47,13 @@ use Rattle.hp_followed.specs.Programs.{all_answers}
 use Rattle.hp_fitting.specs.Fitting.{CallsLaw, TargetsLaw}
 use Rattle.hp_made.specs.Making.{Known, flat_type, outputs_of}
 use Rattle.hp_made.specs.Standing.{Knows}
-use Rattle.hp_made.specs.Types.{obc_types}
+use Rattle.hp_made.specs.Types.{obc_types, obc_types_of}
 use Rattle.hp_complete.specs.Declaring.{known_of}
 use Rattle.hp_complete.specs.Made.{IsMadeOf, AreMadeOf}
 use Rattle.hp_complete.proofs.KnownLaws.{nodes-known}
 use Rattle.hp_answered.specs.Answering.{filled_nodes, given_each, AreApart}
 use Rattle.hp_answered.specs.Laws.{IsMade}
+use Rattle.hp_spelled.specs.Integers.{NodeShort}
 use Rattle.hp_begun.specs.Laws.{Begins}
 use Rattle.hp_begun.proofs.BegunLaws.{begun}
 use Rattle.hp_begun.proofs.LoweredFirsts.{lowered_firsts}
@@ -70,11 +74,11 @@ use Rattle.hp_on_clocks.proofs.Programs.{few_of, some_of, number_of, types_low, 
 use Rattle.hp_on_clocks.proofs.Texts.{when_accepted}
 use Rattle.hp_on_clocks.proofs.WellMade.{ready_knows}
 use Rattle.hp_choosing.specs.Choices.{Choices, OneReactionLaw}
-use Rattle.hp_choosing.specs.Meaning.{AreInTurn, GivesAnswer, GivesAnswers}
-use Rattle.hp_choosing.specs.Programs.{steered_by, controls_in, TextLaw as MeaningTextLaw}
+use Rattle.hp_choosing.specs.Meaning.{AreInTurn, GivesAnswer, GivesAnswers, HasOneMeaningUnder}
+use Rattle.hp_choosing.specs.Programs.{steered_by, controls_in, AreChoices, TextLaw as MeaningTextLaw}
 use Rattle.hp_choosing_runs.specs.Chosen.{chosen_nodes, chosen_meaning}
 use Rattle.hp_choosing_runs.specs.Laws.{ChoosesValues}
-use Rattle.hp_choosing_filled.specs.Ready.{ReadyLaw}
+use Rattle.hp_choosing_filled.specs.Ready.{FilledForOne, ReadyLaw}
 use Rattle.hp_choosing_flat.specs.Answering.{AnsweringUnder, ControlsDiffer}
 use Rattle.hp_choosing_flat.specs.Laws.{SomeAnswersLaw, EquationsAnswerLaw}
 use Rattle.hp_choosing_flat.proofs.Behave.{outputs_answered}
@@ -155,6 +159,28 @@ pub record Prepared (choices : Choices) (program : List Item) : Type 0 where
   pub fills : List ℕ → Place → Value
   pub begins : Begins program fills
 
+-- the clocked equations that are made of one of its nodes
+pub one_made : (choices : Choices) (program : List Item) (p : Prepared choices program) (later earlier : List Item) (n : Node) → reverse program ≡ later ++ NodeItem n ∷ earlier → IsWhole n → (f : FlatNode) → IsMadeOf (known_of program) n f
+    → IsMade program p.fills later earlier (known_of program) n f
+one_made choices program p later earlier n stands whole f made =
+    let begins = p.begins in
+    record {
+      stands = stands;
+      calls = begins.called later earlier n stands (calls_before (types_of program) (reverse program) p.sound later earlier n stands);
+      ready = record {
+        inputs = whole.inputs;
+        controls = whole.controls;
+        outputs = whole.outputs;
+        plain = whole.plain;
+        defined = whole.defined;
+        nothing_else = whole.nothing_else;
+        first_values = begins.ready later earlier n stands;
+      };
+      inputs = made.inputs;
+      outputs = made.outputs;
+      equations = made.eqns;
+    }
+
 module _ (equations : EquationsAnswerLaw) (choices : Choices) (program : List Item) (p : Prepared choices program) (answers : Answers) (answering : AnsweringUnder choices program p.fills answers) (takes : Names (List KindData))
     (same : (f : List ℕ) (n : Node) → node_among (reverse program) f ≡ Some n → DeclsHaveFirsts (types_of program) n.inputs → takes f ≡ timely.kinds_of_decls (types_of program) n.inputs) where
   abbrev items : List Item
@@ -166,31 +192,11 @@ module _ (equations : EquationsAnswerLaw) (choices : Choices) (program : List It
   abbrev k_here : Known
   k_here = known_of program
 
-  one_made : (later earlier : List Item) (n : Node) → items ≡ later ++ NodeItem n ∷ earlier → IsWhole n → (f : FlatNode) → IsMadeOf k_here n f → IsMade program p.fills later earlier k_here n f
-  one_made later earlier n stands whole f made =
-      let begins = p.begins in
-      record {
-        stands = stands;
-        calls = begins.called later earlier n stands (calls_before types_here items p.sound later earlier n stands);
-        ready = record {
-          inputs = whole.inputs;
-          controls = whole.controls;
-          outputs = whole.outputs;
-          plain = whole.plain;
-          defined = whole.defined;
-          nothing_else = whole.nothing_else;
-          first_values = begins.ready later earlier n stands;
-        };
-        inputs = made.inputs;
-        outputs = made.outputs;
-        equations = made.eqns;
-      }
-
   one_gives : (later earlier : List Item) (n : Node) → items ≡ later ++ NodeItem n ∷ earlier → IsWhole n → ControlsDiffer n → NodeHasFirsts types_here n → (f : FlatNode) → IsMadeOf k_here n f → GivesAnswers choices answers takes f
   one_gives later earlier n stands whole differ firsts f made =
       let begins = p.begins in
       let gives =
-      equations choices program p.class p.fills k_here p.accepted p.ranked p.apart begins.fit p.distinct p.tested p.knows p.chooses answers answering later earlier n f (one_made later earlier n stands whole f made) made.name differ in
+      equations choices program p.class p.fills k_here p.accepted p.ranked p.apart begins.fit p.distinct p.tested p.knows p.chooses answers answering later earlier n f (one_made choices program p later earlier n stands whole f made) made.name differ in
       let own : node_among items n.name ≡ Some n = subst (λ xs. node_among xs n.name ≡ Some n) (sym stands) (own_found later earlier n (subst AreApart stands p.apart)) in
       let its : takes_among types_here items n.name ≡ timely.kinds_of_decls types_here n.inputs = ap (λ o. elim o [ None ↦ [] | Some m ↦ timely.kinds_of_decls types_here m.inputs ]) own in
       let path : takes_among types_here items f.name ≡ takes f.name = ap (takes_among types_here items) made.name ∙ its ∙ sym (same n.name n own firsts.inputs) ∙ ap takes (sym made.name) in
@@ -222,7 +228,7 @@ given_all : (P : Instant → Type 0) (fill : Instant) (inputs : List (List Value
 given_all P fill [] h = tt
 given_all P fill (vs ∷ inputs) h = (h, given_all P fill inputs h)
 
-all_of : (types : List TypeDecl) (ds : List Decl) (inputs : List (List Value)) → ConstructorsDiffer types → AllByRecursion (AreOfKinds (timely.kinds_of_decls types ds)) inputs → Each (AreOf types ds) inputs
+pub all_of : (types : List TypeDecl) (ds : List Decl) (inputs : List (List Value)) → ConstructorsDiffer types → AllByRecursion (AreOfKinds (timely.kinds_of_decls types ds)) inputs → Each (AreOf types ds) inputs
 all_of types ds [] d h = tt
 all_of types ds (vs ∷ inputs) d h = (are_of types ds vs d h.0, all_of types ds inputs d h.1)
 
@@ -242,8 +248,21 @@ pub record ReadyLaws : Type 0 where
   pub some_answers : SomeAnswersLaw
   pub equations : EquationsAnswerLaw
 
-pub stream_law : ReadyLaws → StreamLaw
-stream_law laws program after ranks r ok fall form short choices values fit fs made one f n inputs e kinds_fit =
+-- What is known of a ready program in which values are chosen, and of the one meaning of its clocked equations: what its nodes answer in the filled form is what these mean.
+pub record Joined (choices : Choices) (after : List Item) (fs : List FlatNode) (one : HasOneMeaningUnder choices (callees_of after) fs) : Type 0 where
+  pub same : types_of (lowered_program after) ≡ types_of after
+  pub prepared : Prepared choices (lowered_program after)
+  pub answers : Answers
+  pub answering : AnsweringUnder choices (lowered_program after) prepared.fills answers
+  pub taken : (g : List ℕ) (m : Node) → node_among (reverse (lowered_program after)) g ≡ Some m → DeclsHaveFirsts (types_of (lowered_program after)) m.inputs → (callees_of after).takes g ≡ timely.kinds_of_decls (types_of (lowered_program after)) m.inputs
+  pub gives : AllByRecursion (GivesAnswers choices answers (callees_of after).takes) fs
+  pub turned : AreInTurn (obc_types (types_of after)) (callees_of after) (controls_in after) [] fs
+  pub alike : AllByRecursion (λ (g : FlatNode). AnswersAlike one.answers answers (callees_of after).takes g.name) fs
+
+pub joined : ReadyLaws → (program after : List Item) (ranks : List (List ℕ)) → IsReady program after → IsRemovable after → AllFall after ranks → TypesForm (obc_types_of program) → EachNode NodeShort after
+    → (choices : Choices) → EachNode (ChoosesValues (types_of after) choices) after → AreChoices after choices
+    → (fs : List FlatNode) → AreMadeOf (known_of (lowered_program after)) (lowered_program after) fs → (one : HasOneMeaningUnder choices (callees_of after) fs) → Joined choices after fs one
+joined laws program after ranks r ok fall form short choices values fit fs made one =
     let enums = enumerations [] after in
     let low = lowered_program after in
     let k = known_of low in
@@ -280,24 +299,63 @@ stream_law laws program after ranks r ok fall form short choices values fit fs m
     ap (λ o. kinds_of_decls types k (given_to o)) (nodes-known low g ∙ e) ∙ ap (λ ts. kinds_of_decls (obc_types ts) k m.inputs) (sym same) ∙ kinds_same low (names_of_types low) many small m.inputs h in
     let turned = ready_nodes laws.targets laws.calls program after r ok form short fs made in
     let gives = all_give laws.equations choices low p t.0 t.1 callees.takes taken [] low fs (split_first low) p.whole p.differ p.firsts made in
-    let Same : List ℕ → Type 0 = λ g. AnswersAlike one.answers t.0 callees.takes g in
-    let alike = alike_law laws.one laws.outputs types callees (controls_in after) choices fs (in_turn types k [] low fs turned.turned) fit one t.0 gives in
-    let there = lowered_there after f n e in
-    let own : Same f =
-    subst Same (name_found (reverse low) f (lowered_node enums n) there)
-    (each_found (λ (m : Node). Same m.name) (reverse low) f (lowered_node enums n) (each_reverse (λ (m : Node). Same m.name) low (of_names Same k low fs made alike)) there) in
-    let firsts = (each_found (NodeHasFirsts (types_of low)) (reverse low) f (lowered_node enums n) (each_reverse (NodeHasFirsts (types_of low)) low p.firsts) there).inputs in
-    let its : callees.takes f ≡ timely.kinds_of_decls (types_of after) n.inputs = taken f (lowered_node enums n) there firsts ∙ ap (λ ts. timely.kinds_of_decls ts n.inputs) same in
-    let begins = p.begins in
-    let of_types = all_of (types_of after) n.inputs inputs (subst ConstructorsDiffer same distinct) kinds_fit in
-    let it = laws.filled program after ranks r ok fall full choices values f n inputs e of_types (given_each (p.fills f) inputs) (given_all (λ i. GivenFits (types_of low) false (λ given. given) (reverse low) f i) (p.fills f) inputs (begins.fit f)) (given_many (p.fills f) inputs) in
+    let in_turns = in_turn types k [] low fs turned.turned in
     record {
-      one = it.one;
-      outputs =
-          sym it.outputs
-          ∙ all_answered choices low b.0 t.0 p.ranked t.1 f inputs it.filled.past it.filled.is_one
-          ∙ alike_answers one.answers t.0 callees.takes f own inputs (subst (λ ks. AllByRecursion (AreOfKinds ks) inputs) (sym its) kinds_fit);
+      same = same;
+      prepared = p;
+      answers = t.0;
+      answering = t.1;
+      taken = taken;
+      gives = gives;
+      turned = in_turns;
+      alike = alike_law laws.one laws.outputs types callees (controls_in after) choices fs in_turns fit one t.0 gives;
     }
+
+module _ (choices : Choices) (after : List Item) (fs : List FlatNode) (one : HasOneMeaningUnder choices (callees_of after) fs) (j : Joined choices after fs one) (f : List ℕ) (n : Node) (e : node_among (reverse after) f ≡ Some n) where
+  -- a node takes the kinds of its inputs
+  pub takes_its : (callees_of after).takes f ≡ timely.kinds_of_decls (types_of after) n.inputs
+  takes_its =
+      let low = lowered_program after in
+      let m = lowered_node (enumerations [] after) n in
+      let p = j.prepared in
+      let there = lowered_there after f n e in
+      let firsts = (each_found (NodeHasFirsts (types_of low)) (reverse low) f m (each_reverse (NodeHasFirsts (types_of low)) low p.firsts) there).inputs in
+      j.taken f m there firsts ∙ ap (λ ts. timely.kinds_of_decls ts n.inputs) j.same
+
+  own_alike : AreMadeOf (known_of (lowered_program after)) (lowered_program after) fs → AnswersAlike one.answers j.answers (callees_of after).takes f
+  own_alike made =
+      let low = lowered_program after in
+      let m = lowered_node (enumerations [] after) n in
+      let Same : List ℕ → Type 0 = λ g. AnswersAlike one.answers j.answers (callees_of after).takes g in
+      let there = lowered_there after f n e in
+      subst Same (name_found (reverse low) f m there) (each_found (λ (m : Node). Same m.name) (reverse low) f m (each_reverse (λ (m : Node). Same m.name) low (of_names Same (known_of low) low fs made j.alike)) there)
+
+  module _ (inputs : List (List Value)) (kinds_fit : AllByRecursion (AreOfKinds (timely.kinds_of_decls (types_of after) n.inputs)) inputs) where
+    -- its one reaction, and that of the filled form without automata
+    pub filled_one : ReadyLaws → (program : List Item) (ranks : List (List ℕ)) → IsReady program after → IsRemovable after → AllFall after ranks → TypesForm (obc_types_of program) → EachNode (ChoosesValues (types_of after) choices) after
+        → FilledForOne choices after f inputs (given_each (j.prepared.fills f) inputs)
+    filled_one laws program ranks r ok fall form values =
+        let low = lowered_program after in
+        let p = j.prepared in
+        let begins = p.begins in
+        let full = some_of (types_of program) form.counts in
+        let of_types = all_of (types_of after) n.inputs inputs (subst ConstructorsDiffer j.same p.distinct) kinds_fit in
+        laws.filled program after ranks r ok fall full choices values f n inputs e of_types (given_each (p.fills f) inputs)
+        (given_all (λ i. GivenFits (types_of low) false (λ given. given) (reverse low) f i) (p.fills f) inputs (begins.fit f)) (given_many (p.fills f) inputs)
+
+    -- has the outputs that are answered
+    pub outputs_are : AreMadeOf (known_of (lowered_program after)) (lowered_program after) fs → (it : FilledForOne choices after f inputs (given_each (j.prepared.fills f) inputs)) → map (outputs_at after f) it.one.before.past ≡ all_answers (one.answers f) inputs
+    outputs_are made it =
+        let p = j.prepared in
+        sym it.outputs
+        ∙ all_answered choices (lowered_program after) p.fills j.answers p.ranked j.answering f inputs it.filled.past it.filled.is_one
+        ∙ alike_answers one.answers j.answers (callees_of after).takes f (own_alike made) inputs (subst (λ ks. AllByRecursion (AreOfKinds ks) inputs) (sym takes_its) kinds_fit)
+
+pub stream_law : ReadyLaws → StreamLaw
+stream_law laws program after ranks r ok fall form short choices values fit fs made one f n inputs e kinds_fit =
+    let j = joined laws program after ranks r ok fall form short choices values fit fs made one in
+    let it = filled_one choices after fs one j f n e inputs kinds_fit laws program ranks r ok fall form values in
+    record { one = it.one; outputs = outputs_are choices after fs one j f n e inputs kinds_fit made it }
 
 -- so of the program of a text that the judgements accept
 pub text_law : MeaningTextLaw → ReadyLaws → TextLaw

@@ -4,12 +4,15 @@
 #![tactic(auto)]
 
 ghost use Rattle.hp_choosing_streams.specs.Alike.{AlikeLaw};
+ghost use Rattle.hp_choosing_streams.specs.Names.{NamesLaw, TextNamesLaw};
 ghost use Rattle.hp_choosing_streams.specs.Streams.{StreamLaw, TextLaw};
 
 use hp_causal::ranks_of_points;
 use hp_choosing::{chosen_nodes_have_one_reaction, programs_have_one_meaning_under_each_choice};
 use hp_choosing_filled::ready_programs_have_one_filled_reaction;
-use hp_choosing_flat::{chosen_nodes_answer, equations_answer_under_each_choice};
+use hp_choosing_flat::{
+    chosen_nodes_answer, equations_answer_under_each_choice, equations_keep_names_under_each_choice,
+};
 use hp_classed::removing_automata_keeps_classes;
 use hp_fitting::{calls_are_kept, targets_differ};
 use hp_flows::nodes_have_one_reaction;
@@ -41,4 +44,24 @@ pub fn meanings_give_the_chosen_reactions()
     ready_programs_have_one_filled_reaction();
     chosen_nodes_answer();
     equations_answer_under_each_choice();
+}
+
+/// In it, over the same inputs, each name of the body of a node has a variable, with the value of the name in that one reaction wherever this is not Nil; and the clocked equations of the node have no other reaction.
+pub fn meanings_keep_the_chosen_names()
+    ensures ready { NamesLaw }
+    ensures text { TextNamesLaw }
+{
+    programs_have_one_meaning_under_each_choice();
+    removing_automata_keeps_classes();
+    programs_with_classes_are_accepted();
+    ranks_of_points();
+    ranks_are_kept();
+    targets_differ();
+    calls_are_kept();
+    chosen_nodes_have_one_reaction();
+    nodes_have_one_reaction();
+    ready_programs_have_one_filled_reaction();
+    chosen_nodes_answer();
+    equations_answer_under_each_choice();
+    equations_keep_names_under_each_choice();
 }

@@ -1,0 +1,186 @@
+-- The names of the body of a node have their values in the one meaning of its clocked equations.
+use Rattle.std.proofs.Common.{◌≡◌, ℕ, Bool, true, false, ◌||◌, List, [], ◌∷◌, ◌++◌, map, reverse, refl, sym, ap, ap₂, subst, ◌∙◌}
+use Rattle.std.specs.Prelude.{Option, Some}
+use Rattle.std.specs.List.{AllByRecursion}
+use Rattle.std.specs.Str.{bytes_eq}
+use Rattle.hp_base.specs.Kinds.{KindData, AreOfKinds}
+use Rattle.hp_base.specs.declared.value.Value.{Value}
+use Rattle.hp_base.specs.declared.span.Span.{Span}
+use Rattle.hp_obc.specs.Form.{TypesForm}
+use Rattle.hp_obc.specs.Steps.{Names}
+use Rattle.hp_tree.specs.declared.program.Item.{Item}
+use Rattle.hp_tree.specs.declared.program.Item.TheVariants.{TypeItem, NodeItem}
+use Rattle.hp_tree.specs.Blocks.{Decl, Block, block}
+use Rattle.hp_tree.specs.Programs.{Node}
+use Rattle.hp_tree.specs.Operators.{filled}
+use Rattle.hp_tree.specs.Values.{AreOf}
+use Rattle.hp_tree.specs.Instant.{Named, Body, Place, Instant, Past}
+use Rattle.hp_tree.specs.Meaning.{types_of, declares, node_among}
+use Rattle.hp_tree.specs.Reaction.{Each}
+use Rattle.hp_causal.specs.OneReaction.{ReactionOf}
+use Rattle.hp_causal.specs.RanksOfPoints.{AllFall}
+use Rattle.hp_named.specs.Scoped.{EachNode}
+use Rattle.hp_accepted.specs.Laws.{IsReady}
+use Rattle.hp_filled.specs.Under.{PastsUnder}
+use Rattle.hp_filled.specs.Firsts.{DeclsHaveFirsts}
+use Rattle.hp_automata.specs.Lowering as lowering
+use Rattle.hp_automata.specs.Lowering.{Types, Enumerations, enumerations, lowered_body_of, lowered_node, lowered_program}
+use Rattle.hp_automata.specs.Renaming.{renamed_decls}
+use Rattle.hp_lowered.specs.Removable.{IsRemovable}
+use Rattle.hp_lowered.specs.Standing.{Along, NodeStands, either_is, stands_among, Stands}
+use Rattle.hp_lowerable.proofs.Runs.{lowered_there}
+use Rattle.hp_readied.specs.Laws.{IsWhole}
+use Rattle.hp_flat.specs.Nodes.{FlatNode}
+use Rattle.hp_flows.specs.Instants as flows
+use Rattle.hp_flows.specs.Reactions.{Answers}
+use Rattle.hp_made.specs.Making.{Known}
+use Rattle.hp_made.specs.Types.{obc_types, obc_types_of}
+use Rattle.hp_complete.specs.Declaring.{known_of}
+use Rattle.hp_complete.specs.Made.{IsMadeOf, AreMadeOf}
+use Rattle.hp_spelled.specs.Integers.{NodeShort}
+use Rattle.hp_answered.specs.Answering.{given_each, AreApart}
+use Rattle.hp_timely.specs.Kinds.{kinds_of_decls}
+use Rattle.hp_closed.proofs.ClosedLaws.{each_both}
+use Rattle.hp_history.proofs.Asked.{Splits, split_next, split_first}
+use Rattle.hp_history.proofs.NamesApart.{name_found, own_found}
+use Rattle.hp_on_clocks.specs.WellMade.{callees_of}
+use Rattle.hp_on_clocks.proofs.Texts.{when_accepted}
+use Rattle.hp_choosing.specs.Choices.{Choices, ReactionUnder}
+use Rattle.hp_choosing.specs.Meaning.{HasOneMeaningUnder}
+use Rattle.hp_choosing.specs.Programs.{AreChoices, controls_in, TextLaw as MeaningTextLaw}
+use Rattle.hp_choosing_runs.specs.Chosen.{chosen_meaning}
+use Rattle.hp_choosing_runs.specs.Laws.{ChoosesValues}
+use Rattle.hp_choosing_filled.specs.Ready.{FilledForOne}
+use Rattle.hp_choosing_flat.specs.Answering.{AnsweringUnder, ControlsDiffer}
+use Rattle.hp_choosing_flat.specs.Names.{locals_of, is_body_name, values_of, values_at, ReadsNames, NamesLaw as NodeNamesLaw}
+use Rattle.hp_choosing_streams.specs.Names.{AreUnder, IsOnlyReaction, KeepsNamesOf, NamesLaw, TextNamesLaw}
+use Rattle.hp_choosing_streams.proofs.Alike.{only_law}
+use Rattle.hp_choosing_streams.proofs.Streams.{Prepared, one_made, all_of, ReadyLaws, Joined, joined, takes_its, filled_one, outputs_are}
+
+-- ---- the names of a body, with and without automata
+
+declares_renamed : (to : List ℕ → List ℕ) (ds : List Decl) (x : List ℕ) → declares (renamed_decls to ds) x ≡ declares ds x
+declares_renamed to [] x = refl
+declares_renamed to (d ∷ ds) x = ap (λ b. bytes_eq d.name x || b) (declares_renamed to ds x)
+
+locals_kept : (enums : Enumerations) (types : Types) (s : Span) (b : Block) (x : List ℕ) → declares (locals_of (lowered_body_of enums types s b)) x ≡ declares (locals_of b) x
+locals_kept enums types s (block ds es) x = declares_renamed lowering.same_name ds x
+
+names_kept : (enums : Enumerations) (n : Node) (x : List ℕ) → is_body_name (lowered_node enums n) x ≡ is_body_name n x
+names_kept enums n x = ap (λ b. declares n.outputs x || b) (locals_kept enums (lowering.types_of n) n.span n.body x)
+
+-- ---- their values
+
+-- without automata they are the same
+names_stand : (items : List Item) (f : List ℕ) (i j : Instant) → stands_among items f i j → (x : List ℕ) → i (Body ∷ Named x ∷ []) ≡ j (Body ∷ Named x ∷ [])
+names_stand [] f i j h x = h (Body ∷ Named x ∷ [])
+names_stand (TypeItem t ∷ items) f i j h x = names_stand items f i j h x
+names_stand (NodeItem n ∷ items) f i j h x = by (bytes_eq n.name f) h (λ k. names_stand items f i j k x)
+  where
+    by : (d : Bool) → either_is d (NodeStands (stands_among items) n i j) (stands_among items f i j) → (stands_among items f i j → i (Body ∷ Named x ∷ []) ≡ j (Body ∷ Named x ∷ [])) → i (Body ∷ Named x ∷ []) ≡ j (Body ∷ Named x ∷ [])
+    by true k rest = k.names x
+    by false k rest = rest k
+
+values_stand : (program : List Item) (f x : List ℕ) (past other : Past) → Along (Stands program f) past other → values_of x past ≡ values_of x other
+values_stand program f x [] [] a = refl
+values_stand program f x [] (j ∷ other) a = absurd a
+values_stand program f x (i ∷ past) [] a = absurd a
+values_stand program f x (i ∷ past) (j ∷ other) a = ap₂ (λ (v : Value) vs. v ∷ vs) (names_stand (reverse program) f i j a.0 x) (values_stand program f x past other a.1)
+
+-- in the filled form they are the same where they are not Nil
+values_under : (x : List ℕ) (past other : Past) → PastsUnder past other → AreUnder (values_of x past) (values_of x other)
+values_under x [] [] u = tt
+values_under x [] (j ∷ other) u = absurd u
+values_under x (i ∷ past) [] u = absurd u
+values_under x (i ∷ past) (j ∷ other) u = (u.0 (Body ∷ Named x ∷ []), values_under x past other u.1)
+
+-- ---- the nodes of a program without automata
+
+some_same : {A : Type 0} (a b : A) → Some a ≡ Some b → a ≡ b
+some_same a b e = cc
+
+module _ (choices : Choices) (program : List Item) (p : Prepared choices program) (answers : Answers) where
+  -- the clocked equations of a node read its reactions
+  abbrev pub ReadsOf : FlatNode → Node → Type 0
+  ReadsOf g n =
+      (inputs : List (List Value)) (past : Past) → Each (AreOf (types_of program) n.inputs) inputs → ReactionOf (chosen_meaning choices filled program n.name) inputs (given_each (p.fills n.name) inputs) past
+      → ReadsNames choices answers (known_of program) n g inputs past
+
+  abbrev pub Reads : FlatNode → Type 0
+  Reads g = (n : Node) × (node_among (reverse program) g.name ≡ Some n) × ReadsOf g n
+
+  module _ (names : NodeNamesLaw) (answering : AnsweringUnder choices program p.fills answers) where
+    one_reads : (later earlier : List Item) (n : Node) → reverse program ≡ later ++ NodeItem n ∷ earlier → IsWhole n → ControlsDiffer n → (g : FlatNode) → IsMadeOf (known_of program) n g → Reads g
+    one_reads later earlier n stands whole differ g made =
+        let begins = p.begins in
+        let own : node_among (reverse program) n.name ≡ Some n = subst (λ xs. node_among xs n.name ≡ Some n) (sym stands) (own_found later earlier n (subst AreApart stands p.apart)) in (
+          n,
+          subst (λ x. node_among (reverse program) x ≡ Some n) (sym made.name) own,
+          names choices program p.class p.fills (known_of program) p.accepted p.ranked p.apart begins.fit p.distinct p.tested p.knows p.chooses answers answering later earlier n g (one_made choices program p later earlier n stands whole g made) made.name differ,
+        )
+
+    pub all_read : (before rest : List Item) (fs : List FlatNode) → Splits (reverse program) before rest → EachNode IsWhole rest → EachNode ControlsDiffer rest → AreMadeOf (known_of program) rest fs → AllByRecursion Reads fs
+    all_read before [] [] e w d made = tt
+    all_read before [] (g ∷ fs) e w d made = absurd made
+    all_read before (TypeItem t ∷ rest) fs e w d made = all_read (TypeItem t ∷ before) rest fs (split_next (reverse program) before rest (TypeItem t) e) w d made
+    all_read before (NodeItem n ∷ rest) [] e w d made = absurd made
+    all_read before (NodeItem n ∷ rest) (g ∷ fs) e w d made =
+        let next = split_next (reverse program) before rest (NodeItem n) e in
+        (one_reads (reverse rest) before n next w.0 d.0 g made.0, all_read (NodeItem n ∷ before) rest fs next w.1 d.1 made.1)
+
+-- ---- joined
+
+module _ (laws : ReadyLaws) (program after : List Item) (ranks : List (List ℕ)) (r : IsReady program after) (ok : IsRemovable after) (fall : AllFall after ranks) (form : TypesForm (obc_types_of program)) (choices : Choices)
+    (values : EachNode (ChoosesValues (types_of after) choices) after) (fs : List FlatNode) (made : AreMadeOf (known_of (lowered_program after)) (lowered_program after) fs) (one : HasOneMeaningUnder choices (callees_of after) fs) (j : Joined choices after fs one) where
+  -- reactions of clocked equations are those of the one meaning
+  abbrev pub OnlyOf : FlatNode → Type 0
+  OnlyOf g =
+      (inputs : List (List Value)) → AllByRecursion (AreOfKinds ((callees_of after).takes g.name)) inputs → (instants : List flows.Instant) → ReactionUnder choices j.answers g inputs instants → IsOnlyReaction choices one.answers g inputs instants
+
+  pub keeps_names : (g : FlatNode) → Reads choices (lowered_program after) j.prepared j.answers g → OnlyOf g → KeepsNamesOf choices after one.answers g
+  keeps_names g read only n inputs e kinds_fit =
+      let enums = enumerations [] after in
+      let low = lowered_program after in
+      let m = lowered_node enums n in
+      let p = j.prepared in
+      let there = lowered_there after g.name n e in
+      let it = filled_one choices after fs one j g.name n e inputs kinds_fit laws program ranks r ok fall form values in
+      let name : m.name ≡ g.name = name_found (reverse low) g.name m there in
+      let same_node : read.0 ≡ m = some_same read.0 m (sym read.1 ∙ there) in
+      let reads = subst (λ (z : Node). ReadsOf choices low p j.answers g z) same_node read.2 in
+      let of_types : Each (AreOf (types_of low) n.inputs) inputs = all_of (types_of low) n.inputs inputs p.distinct (subst (λ ts. AllByRecursion (AreOfKinds (kinds_of_decls ts n.inputs)) inputs) (sym j.same) kinds_fit) in
+      let reaction = subst (λ (x : List ℕ). ReactionOf (chosen_meaning choices filled low x) inputs (given_each (p.fills x) inputs) it.filled.past) (sym name) it.filled.is_one in
+      let its = reads inputs it.filled.past of_types reaction in
+      let taken = subst (λ (ks : List KindData). AllByRecursion (AreOfKinds ks) inputs) (sym (takes_its choices after fs one j g.name n e)) kinds_fit in
+      record {
+        answered = record { one = it.one; outputs = outputs_are choices after fs one j g.name n e inputs kinds_fit made it };
+        instants = its.instants;
+        is_only = only inputs taken its.instants its.reaction;
+        names = λ x h.
+            let v = its.names x (names_kept enums n x ∙ h) in
+            let behind : values_of x it.one.before.past ≡ values_of x it.one.behind.past = values_stand after g.name x it.one.before.past it.one.behind.past it.one.stands in
+            record {
+              variable = v.variable;
+              is_its = v.is_its;
+              under =
+                  subst (λ (ws : List Value). AreUnder (values_of x it.one.before.past) ws) (sym v.values)
+                  (subst (λ (vs : List Value). AreUnder vs (values_of x it.filled.past)) (sym behind) (values_under x it.one.behind.past it.filled.past it.under));
+            };
+      }
+
+pub names_law : NodeNamesLaw → ReadyLaws → NamesLaw
+names_law names laws program after ranks r ok fall form short choices values fit fs made one =
+    let low = lowered_program after in
+    let j = joined laws program after ranks r ok fall form short choices values fit fs made one in
+    let p = j.prepared in
+    let read = all_read choices low p j.answers names j.answering [] low fs (split_first low) p.whole p.differ made in
+    let only = only_law laws.one laws.outputs (obc_types (types_of after)) (callees_of after) (controls_in after) choices fs j.turned fit one j.answers j.gives in
+    each_both (Reads choices low p j.answers) (OnlyOf laws program after ranks r ok fall form choices values fs made one j) (KeepsNamesOf choices after one.answers)
+    (keeps_names laws program after ranks r ok fall form choices values fs made one j) fs read only
+
+-- so of the program of a text that the judgements accept
+pub text_names_law : MeaningTextLaw → NodeNamesLaw → ReadyLaws → TextNamesLaw
+text_names_law meaning names laws text tokens program after ranks a p n t d f i c fall choices values fit fs made =
+    let q = when_accepted text tokens program after a p n t d f i c in
+    let one = meaning text tokens program after a p n t d f i c choices fit fs made in
+    (one, names_law names laws program after ranks q.ready q.removable fall q.form q.short choices values fit fs made one)
