@@ -4,3 +4,4 @@ mod Signatures
 mod TypeKinds
 mod Streams
 mod Names
+mod Uncontrolled

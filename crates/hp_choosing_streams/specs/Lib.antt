@@ -1,3 +1,4 @@
 pub mod Alike
 pub mod Streams
 pub mod Names
+pub mod Uncontrolled

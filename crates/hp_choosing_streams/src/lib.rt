@@ -6,6 +6,7 @@
 ghost use Rattle.hp_choosing_streams.specs.Alike.{AlikeLaw};
 ghost use Rattle.hp_choosing_streams.specs.Names.{NamesLaw, TextNamesLaw};
 ghost use Rattle.hp_choosing_streams.specs.Streams.{StreamLaw, TextLaw};
+ghost use Rattle.hp_choosing_streams.specs.Uncontrolled.{NoChoiceLaw, UncontrolledProgramLaw};
 
 use hp_causal::ranks_of_points;
 use hp_choosing::{chosen_nodes_have_one_reaction, programs_have_one_meaning_under_each_choice};
@@ -64,4 +65,12 @@ pub fn meanings_keep_the_chosen_names()
     chosen_nodes_answer();
     equations_answer_under_each_choice();
     equations_keep_names_under_each_choice();
+}
+
+/// Where a program has no controllable variable, the one meaning under a choice is the one meaning without choices; and that nothing is chosen is a choice.
+pub fn uncontrolled_programs_choose_nothing()
+    ensures meaning { UncontrolledProgramLaw }
+    ensures nothing { NoChoiceLaw }
+{
+    programs_have_one_meaning_under_each_choice();
 }
