@@ -25,7 +25,7 @@ use Rattle.hp_made.proofs.BlockLayers.{Outer}
 use Rattle.hp_made.proofs.BodyLaws.{body-made}
 use Rattle.hp_made.proofs.StandsLaws.{nth, node-stands}
 use Rattle.hp_made.proofs.UnplacedLaws.{equations-alike}
-use Rattle.hp_choosing_flat.specs.Names.{locals_of, is_body_name, variable_of}
+use Rattle.hp_choosing_flat.specs.Names.{locals_of}
 
 -- ---- variables by their number in a list of flat names
 

@@ -1,20 +1,19 @@
 -- The names of the body of a node have their values in the one meaning of its clocked equations.
-use Rattle.std.proofs.Common.{◌≡◌, ℕ, Bool, true, false, ◌||◌, List, [], ◌∷◌, ◌++◌, map, reverse, refl, sym, ap, ap₂, subst, ◌∙◌}
-use Rattle.std.specs.Prelude.{Option, Some}
+use Rattle.std.proofs.Common.{◌≡◌, ℕ, Bool, true, false, ◌||◌, List, [], ◌∷◌, ◌++◌, reverse, refl, sym, ap, ap₂, subst, ◌∙◌}
+use Rattle.std.specs.Prelude.{Some}
 use Rattle.std.specs.List.{AllByRecursion}
 use Rattle.std.specs.Str.{bytes_eq}
 use Rattle.hp_base.specs.Kinds.{KindData, AreOfKinds}
 use Rattle.hp_base.specs.declared.value.Value.{Value}
 use Rattle.hp_base.specs.declared.span.Span.{Span}
 use Rattle.hp_obc.specs.Form.{TypesForm}
-use Rattle.hp_obc.specs.Steps.{Names}
 use Rattle.hp_tree.specs.declared.program.Item.{Item}
 use Rattle.hp_tree.specs.declared.program.Item.TheVariants.{TypeItem, NodeItem}
 use Rattle.hp_tree.specs.Blocks.{Decl, Block, block}
 use Rattle.hp_tree.specs.Programs.{Node}
 use Rattle.hp_tree.specs.Operators.{filled}
 use Rattle.hp_tree.specs.Values.{AreOf}
-use Rattle.hp_tree.specs.Instant.{Named, Body, Place, Instant, Past}
+use Rattle.hp_tree.specs.Instant.{Named, Body, Instant, Past}
 use Rattle.hp_tree.specs.Meaning.{types_of, declares, node_among}
 use Rattle.hp_tree.specs.Reaction.{Each}
 use Rattle.hp_causal.specs.OneReaction.{ReactionOf}
@@ -22,7 +21,6 @@ use Rattle.hp_causal.specs.RanksOfPoints.{AllFall}
 use Rattle.hp_named.specs.Scoped.{EachNode}
 use Rattle.hp_accepted.specs.Laws.{IsReady}
 use Rattle.hp_filled.specs.Under.{PastsUnder}
-use Rattle.hp_filled.specs.Firsts.{DeclsHaveFirsts}
 use Rattle.hp_automata.specs.Lowering as lowering
 use Rattle.hp_automata.specs.Lowering.{Types, Enumerations, enumerations, lowered_body_of, lowered_node, lowered_program}
 use Rattle.hp_automata.specs.Renaming.{renamed_decls}
@@ -33,11 +31,9 @@ use Rattle.hp_readied.specs.Laws.{IsWhole}
 use Rattle.hp_flat.specs.Nodes.{FlatNode}
 use Rattle.hp_flows.specs.Instants as flows
 use Rattle.hp_flows.specs.Reactions.{Answers}
-use Rattle.hp_made.specs.Making.{Known}
 use Rattle.hp_made.specs.Types.{obc_types, obc_types_of}
 use Rattle.hp_complete.specs.Declaring.{known_of}
 use Rattle.hp_complete.specs.Made.{IsMadeOf, AreMadeOf}
-use Rattle.hp_spelled.specs.Integers.{NodeShort}
 use Rattle.hp_answered.specs.Answering.{given_each, AreApart}
 use Rattle.hp_timely.specs.Kinds.{kinds_of_decls}
 use Rattle.hp_closed.proofs.ClosedLaws.{each_both}
@@ -47,12 +43,11 @@ use Rattle.hp_on_clocks.specs.WellMade.{callees_of}
 use Rattle.hp_on_clocks.proofs.Texts.{when_accepted}
 use Rattle.hp_choosing.specs.Choices.{Choices, ReactionUnder}
 use Rattle.hp_choosing.specs.Meaning.{HasOneMeaningUnder}
-use Rattle.hp_choosing.specs.Programs.{AreChoices, controls_in, TextLaw as MeaningTextLaw}
+use Rattle.hp_choosing.specs.Programs.{controls_in, TextLaw as MeaningTextLaw}
 use Rattle.hp_choosing_runs.specs.Chosen.{chosen_meaning}
 use Rattle.hp_choosing_runs.specs.Laws.{ChoosesValues}
-use Rattle.hp_choosing_filled.specs.Ready.{FilledForOne}
 use Rattle.hp_choosing_flat.specs.Answering.{AnsweringUnder, ControlsDiffer}
-use Rattle.hp_choosing_flat.specs.Names.{locals_of, is_body_name, values_of, values_at, ReadsNames, NamesLaw as NodeNamesLaw}
+use Rattle.hp_choosing_flat.specs.Names.{locals_of, is_body_name, values_of, ReadsNames, NamesLaw as NodeNamesLaw}
 use Rattle.hp_choosing_streams.specs.Names.{AreUnder, IsOnlyReaction, KeepsNamesOf, NamesLaw, TextNamesLaw}
 use Rattle.hp_choosing_streams.proofs.Alike.{only_law}
 use Rattle.hp_choosing_streams.proofs.Streams.{Prepared, one_made, all_of, ReadyLaws, Joined, joined, takes_its, filled_one, outputs_are}

@@ -1,8 +1,7 @@
 -- Without controllable variables nothing is chosen: the one meaning of clocked equations under a choice is the one that they have without choices.
 -- Source: own.
-use Rattle.std.specs.Prelude.{ℕ, List, []}
+use Rattle.std.specs.Prelude.{List, []}
 use Rattle.std.specs.List.{AllByRecursion}
-use Rattle.hp_base.specs.declared.value.Value.{Value}
 use Rattle.hp_tree.specs.declared.program.Item.{Item}
 use Rattle.hp_tree.specs.Meaning.{types_of}
 use Rattle.hp_causal.specs.Runs.{NoControls}
