@@ -47,7 +47,8 @@ pub fn meanings_give_the_chosen_reactions()
     equations_answer_under_each_choice();
 }
 
-/// In it, over the same inputs, each name of the body of a node has a variable, with the value of the name in that one reaction wherever this is not Nil; and the clocked equations of the node have no other reaction.
+/// Over the same inputs the clocked equations of each node have exactly one reaction with the chosen values, over what the one meaning answers.
+/// In it each name of the node's body has a variable, with the value that the name has in the program's one reaction, wherever this is not Nil.
 pub fn meanings_keep_the_chosen_names()
     ensures ready { NamesLaw }
     ensures text { TextNamesLaw }
