@@ -134,6 +134,11 @@ pub over_machines : (words : List (List ℕ)) (file : List ℕ) → MakesMachine
 over_machines words file (MakesMachines.to_run w) = IsOverSource.to_run w
 over_machines words file (MakesMachines.to_compile w) = IsOverSource.to_compile w
 
+-- and a check makes none
+pub check_makes : (words : List (List ℕ)) (file x : List ℕ) (print : Bool) → IsCheckOf words file print → MakesMachines words x → ⊥
+check_makes words file x print w (MakesMachines.to_run {node = y} r) = check_run words file x y print w r
+check_makes words file x print w (MakesMachines.to_compile {out = y} c) = check_compile words file x y print w c
+
 -- ---- the words of checks
 
 one_word : (x y : List ℕ) → codes "check" ∷ x ∷ [] ≡ codes "check" ∷ y ∷ [] → x ≡ y

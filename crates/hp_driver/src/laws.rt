@@ -1,4 +1,5 @@
 //! Laws on calls. The functions here do nothing: each is a law, which its contract states.
+ghost use Rattle.hp_driver.specs.GoodCalls.{PlainLaw};
 ghost use Rattle.hp_driver.specs.Written.{WrittenLaw};
 
 use hp_decided::machines_keep_contracts;
@@ -11,3 +12,8 @@ pub fn written_machines_agree_with_nodes()
     machines_run_the_nodes_of_texts();
     machines_keep_contracts();
 }
+
+/// Of the contracts of a program without contracts nothing is asked, that a call over it be one of which nothing is wrong.
+pub fn plain_programs_are_good()
+    ensures { PlainLaw }
+{}

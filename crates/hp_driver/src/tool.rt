@@ -126,10 +126,10 @@ pub fn run_tool<F: Folder, C: Console, E: Sink>(
     // A machine that is there is run over an input of good lines to its end, where nothing fails and there is memory.
     ensures complete { IsGood (map string_bytes words.now) (F.files files.old) (C.left console.old) → result ≢ 4 → result ≢ 5 → (result ≡ 0) ⊎ (result ≡ 6) }
 
-    // A program that breaks no rule and has no contract is accepted, where nothing fails and there is memory.
+    // A program that breaks no rule and of which no contract is refused is accepted, where nothing fails and there is memory.
     ensures complete_check { IsGoodCheck (map string_bytes words.now) (F.files files.old) → result ≢ 4 → result ≢ 5 → (result ≡ 0) ⊎ (result ≡ 6) }
 
-    // Its machines are written,
+    // Where it has no controllable variables, its machines are written,
     ensures complete_compile { IsGoodCompile (map string_bytes words.now) (F.files files.old) → result ≢ 4 → result ≢ 5 → (result ≡ 0) ⊎ (result ≡ 6) }
 
     // and each of its nodes is run over an input of good lines to its end.
