@@ -1,7 +1,7 @@
 -- What is asked of contracts refutes each cause for which one is refused, and asks nothing of programs without contracts.
-use Rattle.std.proofs.Common.{◌≡◌, ◌≢◌, ℕ, Bool, true, false, ◌||◌, List, [], ◌∷◌, ◌++◌, refl, sym, ap, subst, ◌∙◌, tt, arith}
+use Rattle.std.proofs.Common.{◌≡◌, ◌≢◌, ℕ, Bool, true, false, ◌||◌, List, [], ◌∷◌, ◌++◌, refl, sym, ap, subst, ◌∙◌, arith}
 use Rattle.std.specs.Prelude.{All, Contains, IsTrue, is_some}
-use Rattle.std.proofs.lemmas.List.Elements.{All-contains, Contains-append_right}
+use Rattle.std.proofs.lemmas.List.Elements.{All-cons, All-contains, All-nil, Contains-append_right}
 use Rattle.hp_compile.specs.Arranged.{IsArranged}
 use Rattle.hp_decided.specs.Acceptable.{IsDecidable, IsAcceptable, AreAcceptable}
 use Rattle.hp_decided.specs.Outcomes.{SaysOfNode, RefusesInGame, RefusesInGames}
@@ -51,9 +51,13 @@ none_refused program good cause r differs =
 
 -- ---- programs without contracts
 
-none_of : (items : List Item) → has_contract items ≡ false → All (λ (item : Item). own_contract item ≡ false) items
-none_of [] none = tt
-none_of (item ∷ items) none = let parts = none_or (own_contract item) (has_contract items) none in (parts.0, none_of items parts.1)
+-- an item that is no node with a contract
+abbrev IsPlain : Item → Type 0
+IsPlain item = own_contract item ≡ false
+
+none_of : (items : List Item) → has_contract items ≡ false → All IsPlain items
+none_of [] none = All-nil IsPlain
+none_of (item ∷ items) none = let parts = none_or (own_contract item) (has_contract items) none in All-cons IsPlain item items parts.0 (none_of items parts.1)
 
 pub plain_is_good : PlainLaw
 plain_is_good program none = (of_arranged, uncontrolled_plain program none)
@@ -61,5 +65,5 @@ plain_is_good program none = (of_arranged, uncontrolled_plain program none)
     of_arranged : (clocked : List Item) (ranks : List (List ℕ)) → IsArranged program clocked ranks → AreAcceptable clocked
     of_arranged clocked ranks arranged n has some =
         let plain = plain_written no_node program clocked none arranged.clocks in
-        let own : is_some n.contract ≡ false = All-contains (λ (item : Item). own_contract item ≡ false) clocked (NodeItem n) (none_of clocked plain) has in
+        let own : is_some n.contract ≡ false = All-contains IsPlain clocked (NodeItem n) (none_of clocked plain) has in
         absurd (let both : true ≡ false = sym some ∙ own in cc)
