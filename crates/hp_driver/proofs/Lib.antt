@@ -19,4 +19,5 @@ pub mod GoodLines
 pub mod Completeness
 pub mod GoodContracts
 pub mod SourceCalls
+pub mod ContractCalls
 pub mod StatusLaws

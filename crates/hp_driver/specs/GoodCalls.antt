@@ -1,16 +1,21 @@
--- Calls of which nothing is wrong: those that are to run a machine or a node to the end of the input, and those that are to check a program or to write its machines.
-use Rattle.std.specs.Prelude.{◌≡◌, ℕ, Bool, true, false, List, reverse, Option, None, Some, IsSome}
+-- Calls of which nothing is wrong: those that are to run a machine or a node to the end of the input, those that are to check a program or to write its machines, and those that are to write a certificate or to verify one.
+use Rattle.std.specs.Prelude.{◌≡◌, ℕ, Bool, true, false, IsTrue, List, reverse, Option, None, Some, IsSome, is_some}
+use Rattle.hp_abstract.specs.Machines.{IsMachineOf}
+use Rattle.hp_boolx.specs.Machine.{Machine}
+use Rattle.hp_cert.specs.declared.checking.Proved.{Proved}
 use Rattle.hp_compile.specs.Arranged.{IsArrangeable, IsArranged}
 use Rattle.hp_compile.specs.Judged.{IsJudged}
-use Rattle.hp_decided.specs.Acceptable.{AreAcceptable}
+use Rattle.hp_decided.specs.Acceptable.{IsDecidable, AreAcceptable}
 use Rattle.hp_io.specs.Faults.{Faults, IsCalm}
 use Rattle.hp_io.specs.Files.{Files}
 use Rattle.hp_obc.specs.Machines.{Obc}
 use Rattle.hp_tree.specs.Meaning.{node_among}
+use Rattle.hp_tree.specs.Programs.{Node}
 use Rattle.hp_tree.specs.declared.program.Item.{Item}
-use Rattle.hp_verdicts.specs.Decided.{has_contract}
+use Rattle.hp_verdicts.specs.Decided.{IsLong, has_contract, is_wide_contract}
+use Rattle.hp_verdicts.specs.Verified.{Shows}
 use Rattle.hp_driver.specs.Controls.{has_controls}
-use Rattle.hp_driver.specs.Command.{IsRunOf, IsCheckOf, IsCompileOf, IsExecOf, IsOver, Writes}
+use Rattle.hp_driver.specs.Command.{IsRunOf, IsCheckOf, IsCompileOf, IsExecOf, IsProveOf, IsVerifyOf, IsOver, Writes}
 use Rattle.hp_driver.specs.Lines.{lines_of}
 use Rattle.hp_driver.specs.NodeKinds.{input_kinds}
 use Rattle.hp_driver.specs.Outcome.{Gives, AreMachines, IsMachine}
@@ -85,6 +90,46 @@ pub record IsGoodRun (words : List (List ℕ)) (files : Option Files) (left : Op
   pub input : List ℕ
   pub console : left ≡ Some input
   pub lines : first_bad (input_kinds program node) 1 (lines_of true input) ≡ None
+
+-- The node of this name has a contract, which can be decided.
+pub record HasDecidable (program : List Item) (name : List ℕ) : Type 0 where
+  pub node : Node
+  pub named : node_among program name ≡ Some node
+  pub some : IsTrue (is_some node.contract)
+  pub decidable : IsDecidable program node
+
+-- The text of the certificate of its machine is no longer than it may be,
+pub record IsProvable (program : List Item) (name : List ℕ) : Type 0 where
+  pub there : HasDecidable program name
+  pub short : (m : Machine) → IsMachineOf program there.node m → IsLong m (is_wide_contract there.node.contract) → ⊥
+
+-- or this is the text of a certificate that proves something of it.
+pub record IsVerifiable (program : List Item) (name text : List ℕ) : Type 0 where
+  pub there : HasDecidable program name
+  pub verdict : Proved
+  pub shown : Shows program there.node text verdict
+
+-- The words ask for the certificate of such a contract of a program, once it is arranged, whether its contracts are kept or not,
+pub record IsGoodProve (words : List (List ℕ)) (files : Option Files) : Type 0 where
+  pub file : List ℕ
+  pub node : List ℕ
+  pub cert : List ℕ
+  pub asked : IsProveOf words file node cert
+  pub program : List Item
+  pub source : IsGoodFile files file program
+  pub provable : (clocked : List Item) (ranks : List (List ℕ)) → IsArranged program clocked ranks → IsProvable clocked node
+
+-- or to verify such a text, which the folder tells that a file holds.
+pub record IsGoodVerify (words : List (List ℕ)) (files : Option Files) : Type 0 where
+  pub file : List ℕ
+  pub node : List ℕ
+  pub cert : List ℕ
+  pub asked : IsVerifyOf words file node cert
+  pub program : List Item
+  pub source : IsGoodFile files file program
+  pub text : List ℕ
+  pub gives : Gives files cert text
+  pub verifiable : (clocked : List Item) (ranks : List (List ℕ)) → IsArranged program clocked ranks → IsVerifiable clocked node text
 
 -- Of a program without contracts nothing more is asked: it has none that is refused, and no controllable variables.
 abbrev pub PlainLaw : Type 0
