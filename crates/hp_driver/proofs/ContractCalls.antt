@@ -1,6 +1,6 @@
 -- A certificate of a contract that can be decided is written and verified, where nothing fails and there is memory.
 use Rattle.std.proofs.Common.{◌≡◌, ◌≢◌, ◌<◌, ◌≤◌, ℕ, ◌⊎◌, inl, inr, Bool, true, false, List, [], ◌∷◌, length, None, Some, refl, sym, ap, subst, ◌∙◌, arith}
-use Rattle.std.specs.Prelude.{Option, IsTrue, is_some}
+use Rattle.std.specs.Prelude.{codes, Option, IsTrue, is_some}
 use Rattle.hp_base.specs.Limits.{most}
 use Rattle.hp_base.specs.declared.limit.What.TheVariants.{Text}
 use Rattle.hp_abstract.specs.Machines.{IsMachineOf}
@@ -21,8 +21,9 @@ use Rattle.hp_verdicts.specs.Decided.{IsLong, is_wide_contract}
 use Rattle.hp_verdicts.specs.Verified.{HasMachine, Shows, RefusesCert}
 use Rattle.hp_verdicts.specs.declared.error.ContractErr.{ContractErr}
 use Rattle.hp_verdicts.specs.declared.error.ContractErr.TheVariants as contract
+use Rattle.hp_verdicts.proofs.ShownLaws.{node_shown}
 use Rattle.hp_driver.specs.Command.{IsExecOf, IsProveOf, IsVerifyOf, IsOverContract, IsOverSource, ReadsSource, IsOver}
-use Rattle.hp_driver.specs.GoodCalls.{HasDecidable, IsProvable, IsGoodProve}
+use Rattle.hp_driver.specs.GoodCalls.{HasDecidable, IsProvable, IsVerifiable, IsGoodProve, IsGoodVerify}
 use Rattle.hp_driver.specs.Outcome.{Outcome, Gives, GivesMoreThan, IsHeld, HasContract, AreAskedFor, IsAskedFor}
 use Rattle.hp_driver.specs.Systems.{System}
 use Rattle.hp_driver.proofs.Completeness.{same_text}
@@ -151,3 +152,47 @@ good_prove words files log line status good r f g =
     let source = good.source in
     proves words source.held good.file good.node good.cert source.text good.program good.asked (subst (λ z. Gives z good.file source.text) source.folder source.gives) source.judged source.arrangeable good.provable
     log line status (subst (λ z. Outcome words z log line status) source.folder r) f g
+
+-- ---- a certificate is verified
+
+module _ (words : List (List ℕ)) (held : Files) (file name cert text : List ℕ) (program : List Item) (w : IsVerifyOf words file name cert) (holds : Holds held file text) (judged : IsJudged text program)
+    (arrangeable : IsArrangeable program) (bytes : List ℕ) (told : Holds held cert bytes) (verifiable : (clocked : List Item) (ranks : List (List ℕ)) → IsArranged program clocked ranks → IsVerifiable clocked name bytes) where
+  only_verify : (x y : List ℕ) → IsOverContract words x y → (x ≡ file) × (y ≡ name)
+  only_verify x y k = verify_contract words file name cert x y w k
+
+  abbrev verifiable_there : (clocked : List Item) (ranks : List (List ℕ)) → IsArranged program clocked ranks → HasDecidable clocked name
+  verifiable_there clocked ranks arranged = (verifiable clocked ranks arranged).there
+
+  same_bytes : (x y z other : List ℕ) → IsVerifyOf words x y z → Holds held z other → other ≡ bytes
+  same_bytes x y z other v gives = same_text held cert z bytes other (same_four (codes "verify") words file name cert x y z w v).2 told gives
+
+  within : (x y z : List ℕ) → IsVerifyOf words x y z → HasContract (Some held) x y → GivesMoreThan (Some held) z (most Text) → ⊥
+  within x y z v c long =
+      let h = c.held in
+      let arranged = same_arranged held file text program holds judged x c.program (only_verify x y (IsOverContract.to_verify v)).0 h in
+      let found = verifiable h.clocked h.ranks arranged in
+      let few = found.shown.checked.within in
+      let many = long.2 in
+      let same : length long.0 ≡ length bytes = ap length (same_bytes x y z long.0 v long.1) in
+      omega (arith, few, many, same)
+
+  shown : (x y z other : List ℕ) (cause : CertErr) → IsVerifyOf words x y z → (c : HasContract (Some held) x y) → Gives (Some held) z other → cause ≢ certificate.OutOfMemory → RefusesCert c.held.clocked c.node other cause → ⊥
+  shown x y z other cause v c gives differs refuses =
+      let h = c.held in
+      let arranged = same_arranged held file text program holds judged x c.program (only_verify x y (IsOverContract.to_verify v)).0 h in
+      let found = verifiable h.clocked h.ranks arranged in
+      let same = same_node words held file name text program (IsOverContract.to_verify w) only_verify holds judged arrangeable verifiable_there x y c.program c.node (IsOverContract.to_verify v) h c.named arranged in
+      let shows = subst (λ n. Shows h.clocked n bytes found.verdict) same found.shown in
+      differs (node_shown h.clocked c.node bytes found.verdict cause shows (subst (λ t. RefusesCert h.clocked c.node t cause) (same_bytes x y z other v gives) refuses))
+
+  pub verifies : (log : List Event) (line : List ℕ) (status : ℕ) → Outcome words (Some held) log line status → (status ≡ 4 → ⊥) → (status ≡ 5 → ⊥) → (status ≡ 0) ⊎ (status ≡ 6)
+  verifies log line status r f g =
+      decides words held file name text program (IsOverContract.to_verify w) only_verify holds judged arrangeable verifiable_there log line status
+      (λ x y z p c m long. prove_verify words x y z file name cert p w) within shown r f g
+
+pub good_verify : (words : List (List ℕ)) (files : Option Files) (log : List Event) (line : List ℕ) (status : ℕ) → IsGoodVerify words files →
+    Outcome words files log line status → (status ≡ 4 → ⊥) → (status ≡ 5 → ⊥) → (status ≡ 0) ⊎ (status ≡ 6)
+good_verify words files log line status good r f g =
+    let source = good.source in
+    verifies words source.held good.file good.node good.cert source.text good.program good.asked (subst (λ z. Gives z good.file source.text) source.folder source.gives) source.judged source.arrangeable
+    good.text (subst (λ z. Gives z good.cert good.text) source.folder good.gives) good.verifiable log line status (subst (λ z. Outcome words z log line status) source.folder r) f g

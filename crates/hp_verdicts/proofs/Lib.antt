@@ -9,3 +9,4 @@ pub mod TheMade
 pub mod MadeLaws
 pub mod DecideLaws
 pub mod VerifyLaws
+pub mod ShownLaws
