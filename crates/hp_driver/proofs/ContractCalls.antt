@@ -1,5 +1,5 @@
 -- A certificate of a contract that can be decided is written and verified, where nothing fails and there is memory.
-use Rattle.std.proofs.Common.{◌≡◌, ◌≢◌, ◌<◌, ◌≤◌, ℕ, ◌⊎◌, inl, inr, Bool, true, false, List, [], ◌∷◌, length, None, Some, refl, sym, ap, subst, ◌∙◌, arith}
+use Rattle.std.proofs.Common.{◌≡◌, ◌≢◌, ℕ, ◌⊎◌, inl, inr, List, length, None, Some, refl, sym, ap, subst, ◌∙◌, arith}
 use Rattle.std.specs.Prelude.{codes, Option, IsTrue, is_some}
 use Rattle.hp_base.specs.Limits.{most}
 use Rattle.hp_base.specs.declared.limit.What.TheVariants.{Text}
@@ -22,7 +22,7 @@ use Rattle.hp_verdicts.specs.Verified.{HasMachine, Shows, RefusesCert}
 use Rattle.hp_verdicts.specs.declared.error.ContractErr.{ContractErr}
 use Rattle.hp_verdicts.specs.declared.error.ContractErr.TheVariants as contract
 use Rattle.hp_verdicts.proofs.ShownLaws.{node_shown}
-use Rattle.hp_driver.specs.Command.{IsExecOf, IsProveOf, IsVerifyOf, IsOverContract, IsOverSource, ReadsSource, IsOver}
+use Rattle.hp_driver.specs.Command.{IsProveOf, IsVerifyOf, IsOverContract, IsOverSource, ReadsSource, IsOver}
 use Rattle.hp_driver.specs.GoodCalls.{HasDecidable, IsProvable, IsVerifiable, IsGoodProve, IsGoodVerify}
 use Rattle.hp_driver.specs.Outcome.{Outcome, Gives, GivesMoreThan, IsHeld, HasContract, AreAskedFor, IsAskedFor}
 use Rattle.hp_driver.specs.Systems.{System}

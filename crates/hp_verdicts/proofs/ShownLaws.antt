@@ -1,12 +1,12 @@
 -- What shows something of a node's contract is not refused, whichever machine of the node it is held against.
-use Rattle.std.proofs.Common.{◌≡◌, ◌+◌, ◌<◌, ◌≤◌, ℕ, suc, IsTrue, IsFalse, ◌⊎◌, List, [], ◌∷◌, length, map, All, Option, None, Some, refl, ap, subst, ◌∙◌, arith}
+use Rattle.std.proofs.Common.{◌≡◌, ◌+◌, ◌<◌, ◌≤◌, ℕ, suc, IsTrue, IsFalse, ◌⊎◌, List, [], length, map, All, Option, None, Some, refl, ap, subst, ◌∙◌, arith}
 use Rattle.hp_base.specs.Limits.{most}
 use Rattle.hp_base.specs.declared.limit.What.TheVariants.{Text}
 use Rattle.hp_boolx.specs.Game.{Game, joined, IsState, ValidEarly, ValidChoice, ValidLate}
-use Rattle.hp_boolx.specs.Machine.{Machine, game, variables}
+use Rattle.hp_boolx.specs.Machine.{Machine}
 use Rattle.hp_boolx.specs.Search.{Bits}
 use Rattle.hp_boolx.specs.Solved.{rank}
-use Rattle.hp_cert.specs.Checked.{Proves, Refuses, Shows as ShowsClaim}
+use Rattle.hp_cert.specs.Checked.{Proves, Shows as ShowsClaim}
 use Rattle.hp_cert.specs.Proving.{set_of, functions_of, ReadsBelow, HoldsAt, HasWidths, HasCount, InScope}
 use Rattle.hp_cert.specs.declared.checking.Proved.{Proved}
 use Rattle.hp_cert.specs.declared.checking.Proved.TheVariants as proved
