@@ -10,3 +10,4 @@ pub mod MadeLaws
 pub mod DecideLaws
 pub mod VerifyLaws
 pub mod ShownLaws
+pub mod WrittenLaws
