@@ -20,4 +20,5 @@ pub mod Completeness
 pub mod GoodContracts
 pub mod SourceCalls
 pub mod ContractCalls
+pub mod WrittenCertificates
 pub mod StatusLaws

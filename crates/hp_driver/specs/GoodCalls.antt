@@ -12,13 +12,13 @@ use Rattle.hp_obc.specs.Machines.{Obc}
 use Rattle.hp_tree.specs.Meaning.{node_among}
 use Rattle.hp_tree.specs.Programs.{Node}
 use Rattle.hp_tree.specs.declared.program.Item.{Item}
-use Rattle.hp_verdicts.specs.Decided.{IsLong, has_contract, is_wide_contract}
+use Rattle.hp_verdicts.specs.Decided.{IsLong, IsProof, has_contract, is_wide_contract}
 use Rattle.hp_verdicts.specs.Verified.{Shows}
 use Rattle.hp_driver.specs.Controls.{has_controls}
 use Rattle.hp_driver.specs.Command.{IsRunOf, IsCheckOf, IsCompileOf, IsExecOf, IsProveOf, IsVerifyOf, IsOver, Writes}
 use Rattle.hp_driver.specs.Lines.{lines_of}
 use Rattle.hp_driver.specs.NodeKinds.{input_kinds}
-use Rattle.hp_driver.specs.Outcome.{Gives, AreMachines, IsMachine}
+use Rattle.hp_driver.specs.Outcome.{Gives, IsHeld, AreMachines, IsMachine}
 use Rattle.hp_driver.specs.Systems.{of_machine, inputs_of}
 use Rattle.hp_driver.specs.Values.{first_bad}
 
@@ -134,3 +134,9 @@ pub record IsGoodVerify (words : List (List ℕ)) (files : Option Files) : Type 
 -- Of a program without contracts nothing more is asked: it has none that is refused, and no controllable variables.
 abbrev pub PlainLaw : Type 0
 PlainLaw = (program : List Item) → has_contract program ≡ false → AreGoodContracts program × (has_controls program ≡ false)
+
+-- The text of the certificate of a contract is one of the texts that are to be verified. So what `prove` writes `verify` accepts, once a file holds it.
+abbrev pub ProvedLaw : Type 0
+ProvedLaw =
+    (files : Option Files) (file : List ℕ) (program : List Item) (held : IsHeld files file program) (name text : List ℕ) (there : HasDecidable held.clocked name) → IsProof held.clocked there.node text
+    → (clocked : List Item) (ranks : List (List ℕ)) → IsArranged program clocked ranks → IsVerifiable clocked name text
