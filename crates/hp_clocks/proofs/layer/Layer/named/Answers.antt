@@ -1,5 +1,6 @@
 use Rattle.std.proofs.Common.{◌≡◌, ◌<◌, ◌-◌, ℕ, List, Bor, length, map, drop, ap, ◌∙◌, arith}
-use Rattle.hp_clocks.specs.Layers.{or_base, put_at, says, says_names}
+use Rattle.hp_clocks.specs.Layers.{put_at, says, says_names}
+use Rattle.hp_clocks.specs.Units.{or_base}
 use Rattle.hp_clocks.proofs.TableLaws.{named_end, named_next}
 use Rattle.hp_clocks.proofs.layer.Layer.named.Goals as goal
 
