@@ -53,6 +53,33 @@ module _ (m : Machine) (lines : List Line) (is : IsMachine m) where
       let less = h.0 in
       (omega (arith, less, e), λ j l. (forces_told ranks j).0 (h.1 j l), λ f. h.2 ((forces_told ranks k).1 f))
 
+-- ---- what is proved is not refused
+
+module _ (m : Machine) (c : Certificate) where
+  -- a certificate that proves something is not refused
+  pub not_refused : (p : Proved) (e : CertErr) → Proves m c p → Refuses m c e → e ≡ error.OutOfMemory
+  not_refused p (error.Syntax span) a r = absurd r
+  not_refused p (error.Limit limit) a r = absurd r
+  not_refused p error.OutOfMemory a r = refl
+  not_refused p (error.Misfit misfit.Node) a r = absurd (r a.fits.name)
+  not_refused p (error.Misfit misfit.Vars) a r = absurd (r.1 a.fits.vars)
+  not_refused p (error.Misfit misfit.Count) a r = absurd (r.2 a.fits.count)
+  not_refused p (error.Misfit misfit.Scope) a r = absurd (r.3 a.fits.scope)
+  not_refused p (error.Fails cond.Init) a r = absurd (r.1 a.first)
+  not_refused p (error.Fails cond.Step) a r = absurd (by c.claim p a.shows r.1.1)
+    where
+      by : (k : Claim) (p : Proved) → Shows m c k p → FailsStep m c k → ⊥
+      by (win inv funs) proved.Win s f = f s
+      by (win inv funs) (proved.Lose n) s f = s
+      by (lose ranks) p s f = f
+  not_refused p (error.Fails (cond.Rank n)) a r = absurd (by c.claim p n a.shows r.1.1)
+    where
+      by : (k : Claim) (p : Proved) (n : ℕ) → Shows m c k p → FailsRank m c k n → ⊥
+      by (win inv funs) p n s f = f
+      by (lose ranks) p zero s f = f
+      by (lose ranks) proved.Win (suc k) s f = s
+      by (lose ranks) (proved.Lose n) (suc k) s f = f.2 (s.1 k f.0)
+
 module _ (m : Machine) (c : Certificate) (is : IsMachine m) where
   -- ---- what is proved
 
@@ -93,30 +120,6 @@ module _ (m : Machine) (c : Certificate) (is : IsMachine m) where
       by (lose ranks) proved.Win q s t = absurd s
       by (lose ranks) (proved.Lose n) proved.Win s t = absurd t
       by (lose ranks) (proved.Lose n) (proved.Lose k) s t = ap proved.Lose (s.0 ∙ sym t.0)
-
-  -- a certificate that proves something is not refused
-  pub not_refused : (p : Proved) (e : CertErr) → Proves m c p → Refuses m c e → e ≡ error.OutOfMemory
-  not_refused p (error.Syntax span) a r = absurd r
-  not_refused p (error.Limit limit) a r = absurd r
-  not_refused p error.OutOfMemory a r = refl
-  not_refused p (error.Misfit misfit.Node) a r = absurd (r a.fits.name)
-  not_refused p (error.Misfit misfit.Vars) a r = absurd (r.1 a.fits.vars)
-  not_refused p (error.Misfit misfit.Count) a r = absurd (r.2 a.fits.count)
-  not_refused p (error.Misfit misfit.Scope) a r = absurd (r.3 a.fits.scope)
-  not_refused p (error.Fails cond.Init) a r = absurd (r.1 a.first)
-  not_refused p (error.Fails cond.Step) a r = absurd (by c.claim p a.shows r.1.1)
-    where
-      by : (k : Claim) (p : Proved) → Shows m c k p → FailsStep m c k → ⊥
-      by (win inv funs) proved.Win s f = f s
-      by (win inv funs) (proved.Lose n) s f = s
-      by (lose ranks) p s f = f
-  not_refused p (error.Fails (cond.Rank n)) a r = absurd (by c.claim p n a.shows r.1.1)
-    where
-      by : (k : Claim) (p : Proved) (n : ℕ) → Shows m c k p → FailsRank m c k n → ⊥
-      by (win inv funs) p n s f = f
-      by (lose ranks) p zero s f = f
-      by (lose ranks) proved.Win (suc k) s f = s
-      by (lose ranks) (proved.Lose n) (suc k) s f = f.2 (s.1 k f.0)
 
   -- two reasons are one
   pub one_reason : (d e : CertErr) → Refuses m c d → Refuses m c e → (d ≡ e) ⊎ (d ≡ error.OutOfMemory) ⊎ (e ≡ error.OutOfMemory)
@@ -182,10 +185,10 @@ module _ (m : Machine) (c : Certificate) (is : IsMachine m) where
 
   pub answered : (r : Result Proved CertErr) (p : Proved) → IfOk r (Proves m c) → IfErr r (Refuses m c) → Proves m c p → (r ≡ Ok p) ⊎ (r ≡ Err error.OutOfMemory)
   answered (Ok q) p ok err h = inl (ap Ok (one_verdict q p ok h))
-  answered (Err e) p ok err h = inr (ap Err (not_refused p e h err))
+  answered (Err e) p ok err h = inr (ap Err (not_refused m c p e h err))
 
   pub refused_by : (r : Result Proved CertErr) (e : CertErr) → IfOk r (Proves m c) → IfErr r (Refuses m c) → Refuses m c e → (r ≡ Err e) ⊎ (r ≡ Err error.OutOfMemory) ⊎ (e ≡ error.OutOfMemory)
-  refused_by (Ok q) e ok err h = inr (inr (not_refused q e ok h))
+  refused_by (Ok q) e ok err h = inr (inr (not_refused m c q e ok h))
   refused_by (Err d) e ok err h = elim (one_reason d e err h) [ inl s ↦ inl (ap Err s) | inr s ↦ elim s [ inl o ↦ inr (inl (ap Err o)) | inr o ↦ inr (inr o) ] ]
 
   pub handed_reason : (r : Result Proved CertErr) (d e : CertErr) → IsErrAnd r (λ x. x ≡ d) → Refuses m c d → Refuses m c e → (r ≡ Err e) ⊎ (r ≡ Err error.OutOfMemory) ⊎ (e ≡ error.OutOfMemory)

@@ -1,3 +1,4 @@
 pub mod Laws
 pub mod Outcomes
 pub mod Promised
+pub mod Acceptable

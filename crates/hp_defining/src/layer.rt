@@ -4,6 +4,7 @@ ghost use Rattle.hp_tree.specs.Meaning.{names_of as declared_names};
 ghost use Rattle.hp_defining.specs.Layers.{put_at, no_entry, says, says_numbers, says_seen, sight, own_of};
 ghost use Rattle.hp_defining.specs.Seen.{names_seen, with_more};
 
+use crate::names::push;
 use hp_base::Name;
 use hp_tree::Decl;
 use indexmap::IndexMap;
@@ -118,7 +119,7 @@ fn add_declared<'a>(decls: &'a [Decl], into: &mut Vec<&'a Name>) -> Result<(), A
     ensures { OnOk result (names_seen into.new.items ≡ with_more (names_seen into.old.items) (declared_names decls.now)) }
 {
     for decl in decls {
-        into.push(&decl.name)?;
+        push(&decl.name, into)?;
     }
     Ok(())
 }

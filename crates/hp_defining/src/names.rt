@@ -13,7 +13,7 @@ use std::alloc::{AllocError, Global};
 
 /// The name behind the others.
 #[tactic(auto, using(crate::proofs::Rules::names))]
-fn push<'a>(name: &'a Name, into: &mut Vec<&'a Name>) -> Result<(), AllocError>
+pub(crate) fn push<'a>(name: &'a Name, into: &mut Vec<&'a Name>) -> Result<(), AllocError>
     ensures { OnOk result (names_seen into.new.items ≡ with_more (names_seen into.old.items) (name.now ∷ [])) }
 {
     into.push(name)?;

@@ -44,7 +44,7 @@ is_none (Some c) e = absurd cc
 none_both : (b c : Bool) → b ≡ false → c ≡ false → (b || c) ≡ false
 none_both b c e f = ap (λ z. z || c) e ∙ f
 
-plain_written : (nodes : List ℕ → Node) (items ys : List Item) → has_contract items ≡ false → AreWritten IsClocked (replaced_items nodes items) ys → has_contract ys ≡ false
+pub plain_written : (nodes : List ℕ → Node) (items ys : List Item) → has_contract items ≡ false → AreWritten IsClocked (replaced_items nodes items) ys → has_contract ys ≡ false
 plain_written nodes [] [] none w = refl
 plain_written nodes [] (y ∷ ys) none w = absurd w
 plain_written nodes (TypeItem t ∷ items) [] none w = absurd w

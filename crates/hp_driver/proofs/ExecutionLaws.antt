@@ -14,7 +14,7 @@ use Rattle.hp_lines.specs.Refusals.{refusal}
 use Rattle.hp_lines.specs.Values.{HasFewConstructors, HaveFewConstructors, values_of}
 use Rattle.hp_lines.specs.Words.{words}
 use Rattle.hp_lines.proofs.LineLaws.{as_many_values}
-use Rattle.hp_obc.specs.Form.{HasConstructors, HasObcForm}
+use Rattle.hp_obc.specs.Form.{HasConstructors, TypesForm}
 use Rattle.hp_obc.specs.Kinded.{kinds_in}
 use Rattle.hp_obc.specs.Machines.{ObcType, Obc}
 use Rattle.hp_obc.specs.Steps.{Behaviour, outputs_from, machine_behaviour, run}
@@ -142,8 +142,8 @@ few_of_vars : (types : List ObcType) (vars : List Var) → All HasConstructors t
 few_of_vars types [] h = tt
 few_of_vars types (v ∷ vars) h = (few_of_type types v.ty h, few_of_vars types vars h)
 
-pub few_inputs : (o : Obc) (node : List ℕ) (e : Executor) → HasObcForm o.types o.machines → Executes o node e → HaveFewConstructors (kinds_of e.signature.inputs)
-few_inputs o node e form h = subst (λ (s : SignatureData). HaveFewConstructors (kinds_of s.inputs)) (sym h.signature) (few_of_vars o.types h.machine.inputs form.0.counts)
+pub few_inputs : (o : Obc) (node : List ℕ) (e : Executor) → TypesForm o.types → Executes o node e → HaveFewConstructors (kinds_of e.signature.inputs)
+few_inputs o node e form h = subst (λ (s : SignatureData). HaveFewConstructors (kinds_of s.inputs)) (sym h.signature) (few_of_vars o.types h.machine.inputs form.counts)
 
 pub behaves : (o : Obc) (node : List ℕ) (e : Executor) → Executes o node e → HasBehaviour e
 behaves o node e h = record { behaviour = machine_behaviour o node; runs = h.runs; kinded = h.kinded }

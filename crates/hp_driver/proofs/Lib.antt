@@ -17,5 +17,8 @@ pub mod ContractLaws
 pub mod CertLaws
 pub mod GoodLines
 pub mod Completeness
+pub mod GoodContracts
 pub mod SourceCalls
+pub mod ContractCalls
+pub mod WrittenCertificates
 pub mod StatusLaws

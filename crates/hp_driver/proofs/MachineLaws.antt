@@ -17,8 +17,10 @@ use Rattle.hp_exec.specs.Bounds.{longest_chain, instance_count}
 use Rattle.hp_exec.specs.Executors.{Executor}
 use Rattle.hp_exec.specs.declared.error.ExecErr.{ExecErr}
 use Rattle.hp_exec.specs.declared.error.ExecErr.TheVariants.{NoNode, Limit as Passed}
+use Rattle.hp_obc.specs.Form.{TypesForm}
 use Rattle.hp_obc.specs.Machines.{Obc}
 use Rattle.hp_obctext.specs.Answers.{IsTextOf}
+use Rattle.hp_obctext.proofs.FormMachines.{file_form}
 use Rattle.hp_obctext.specs.declared.error.ObcErr.{ObcErr}
 use Rattle.hp_obctext.specs.declared.error.ObcErr.TheVariants.{Syntax, Form, Limit as Longer}
 use Rattle.hp_tree.specs.declared.program.Item.{Item}
@@ -43,6 +45,10 @@ use Rattle.hp_driver.proofs.ExecutionLaws.{machine_says, machine_refuses}
 use Rattle.hp_driver.proofs.OutcomeLaws.{told_or_not, Mirrors, outcome}
 use Rattle.hp_driver.proofs.WordLaws.{run_writes, exec_writes, check_writes, verify_writes}
 use Rattle.hp_driver.proofs.HistoryLaws.{keeping, runs_node, is_built, stays_within, node_mirrors}
+
+-- the types of a text of machines have form
+pub types_of_text : (text : List ℕ) (o : Obc) → IsTextOf text o → TypesForm o.types
+types_of_text text o t = subst (λ (p : Obc). TypesForm p.types) (sym t.machines) (file_form t.file_is t.spelled.0 t.kept).0
 
 -- ---- the text is refused
 

@@ -1,12 +1,12 @@
--- A program that breaks no rule and has no contract is checked, compiled and run, where nothing fails and there is memory.
-use Rattle.std.proofs.Common.{◌≡◌, ℕ, ◌⊎◌, inl, inr, Bool, true, false, List, [], ◌∷◌, ◌++◌, length, map, reverse, None, Some, refl, sym, ap, subst, ◌∙◌, arith, if◌then◌else◌}
+-- A program that breaks no rule and of which no contract is refused is checked, compiled and run, where nothing fails and there is memory.
+use Rattle.std.proofs.Common.{◌≡◌, ◌≢◌, ℕ, ◌⊎◌, inl, inr, Bool, true, false, List, [], ◌∷◌, ◌++◌, length, map, reverse, None, Some, refl, sym, ap, subst, ◌∙◌, arith, if◌then◌else◌}
 use Rattle.std.specs.Prelude.{codes, Option, IsSome, option_map}
 use Rattle.std.specs.Str.{bytes_eq}
 use Rattle.std.proofs.lemmas.List.{append-nil, reverse-append}
 use Rattle.hp_base.specs.Kinds.{KindData}
 use Rattle.hp_base.specs.Limits.{most}
 use Rattle.hp_base.specs.declared.limit.What.TheVariants.{Size}
-use Rattle.hp_compile.specs.Arranged.{IsArrangeable}
+use Rattle.hp_compile.specs.Arranged.{IsArrangeable, IsArranged}
 use Rattle.hp_compile.specs.Judged.{IsJudged}
 use Rattle.hp_clocks.specs.Answers.{IsClocked}
 use Rattle.hp_clocks.specs.Writing.{AreWritten}
@@ -24,9 +24,11 @@ use Rattle.hp_timely.specs.Kinds.{kind_of, kinds_of_decls}
 use Rattle.hp_base.specs.declared.ty.Ty.{Ty}
 use Rattle.hp_clocking.specs.Clocking.{base_written}
 use Rattle.hp_machines.specs.Machined.{Heading, heading_of_machine, heading_of_node, headings_of}
-use Rattle.hp_verdicts.specs.Decided.{has_contract}
-use Rattle.hp_driver.specs.Command.{IsRunOf, IsExecOf, IsOverSource, IsOverContract, ReadsSource, IsOver}
-use Rattle.hp_driver.specs.GoodCalls.{IsGoodCheck, IsGoodCompile, IsGoodRun}
+use Rattle.hp_decided.specs.Outcomes.{RefusesInGames}
+use Rattle.hp_verdicts.specs.declared.error.ContractErr.{ContractErr}
+use Rattle.hp_verdicts.specs.declared.error.ContractErr.TheVariants as contract
+use Rattle.hp_driver.specs.Command.{IsRunOf, IsExecOf, IsOverSource, MakesMachines, IsOverContract, ReadsSource, IsOver}
+use Rattle.hp_driver.specs.GoodCalls.{AreGoodContracts, IsGoodCheck, IsGoodCompile, IsGoodRun}
 use Rattle.hp_driver.specs.Lines.{lines_of}
 use Rattle.hp_driver.specs.Log.{heard, has_ended, HeardFrom}
 use Rattle.hp_driver.specs.NodeKinds.{input_kinds}
@@ -35,39 +37,48 @@ use Rattle.hp_driver.specs.Outcome.{Outcome, Gives, GivesMoreThan, HasNoProgram,
 use Rattle.hp_driver.specs.Systems.{System, inputs_of}
 use Rattle.hp_driver.specs.Values.{first_bad}
 use Rattle.hp_driver.specs.declared.trace.BadLine.{BadLine}
-use Rattle.hp_driver.proofs.ContractLaws.{uncontrolled_plain}
 use Rattle.hp_driver.proofs.Completeness.{same_text, no_bad_line}
-use Rattle.hp_driver.proofs.WordLaws.{run_exec, run_compile, exec_compile, check_run, check_exec, same_words, check_source, run_source, compile_source, source_contract, over_machines}
+use Rattle.hp_driver.proofs.GoodContracts.{none_refused}
+use Rattle.hp_driver.proofs.WordLaws.{run_exec, run_compile, exec_compile, check_run, check_exec, check_makes, same_words, check_source, run_source, compile_source, source_contract, over_machines}
 
 -- ---- a file that holds such a program
 
-module _ (words : List (List ℕ)) (held : Files) (file text : List ℕ) (program : List Item) (only_file : (x : List ℕ) → IsOverSource words x → x ≡ file) (holds : Holds held file text) (judged : IsJudged text program)
-    (arrangeable : IsArrangeable program) (plain : has_contract program ≡ false) where
+module _ (held : Files) (file text : List ℕ) (program : List Item) (holds : Holds held file text) (judged : IsJudged text program) where
   -- the program is that of the text
-  same_program : (x : List ℕ) (p : List Item) → IsOverSource words x → IsHeld (Some held) x p → program ≡ p
-  same_program x p over h =
-      let same : h.text ≡ text = same_text held file x text h.text (only_file x over) holds h.held in
+  pub same_program : (x : List ℕ) (p : List Item) → x ≡ file → IsHeld (Some held) x p → program ≡ p
+  same_program x p e h =
+      let same : h.text ≡ text = same_text held file x text h.text e holds h.held in
       h.only program (subst (λ t. IsJudged t program) (sym same) judged)
 
-  has_none : (x : List ℕ) (p : List Item) → IsOverSource words x → IsHeld (Some held) x p → has_contract p ≡ true → ⊥
-  has_none x p over h some = let both : false ≡ true = sym plain ∙ ap has_contract (same_program x p over h) ∙ some in cc
+  pub same_arranged : (x : List ℕ) (p : List Item) → x ≡ file → (h : IsHeld (Some held) x p) → IsArranged program h.clocked h.ranks
+  same_arranged x p e h = let arranged = h.arranged in subst (λ q. IsArranged q h.clocked h.ranks) (sym (same_program x p e h)) arranged
 
-  has_no_controls : (x : List ℕ) (p : List Item) → IsOverSource words x → IsHeld (Some held) x p → has_controls p ≡ true → ⊥
-  has_no_controls x p over h some = let both : false ≡ true = sym (uncontrolled_plain program plain) ∙ ap has_controls (same_program x p over h) ∙ some in cc
-
-  not_long : (x : List ℕ) → IsOverSource words x → GivesMoreThan (Some held) x (most Size) → ⊥
-  not_long x over long =
-      let same : long.0 ≡ text = same_text held file x text long.0 (only_file x over) holds long.1 in
+  pub not_long : (x : List ℕ) → x ≡ file → GivesMoreThan (Some held) x (most Size) → ⊥
+  not_long x e long =
+      let same : long.0 ≡ text = same_text held file x text long.0 e holds long.1 in
       let tokens = judged.program_of.spelled in
       let within = tokens.size in
       let longer = long.2 in
       let count : length long.0 ≡ length text = ap length same in
       omega (arith, within, longer, count)
 
-  not_refused : (x other : List ℕ) → IsOverSource words x → Gives (Some held) x other → HasNoProgram other → ⊥
-  not_refused x other over gives none =
-      let same : other ≡ text = same_text held file x text other (only_file x over) holds gives in
+  pub has_program : (x other : List ℕ) → x ≡ file → Gives (Some held) x other → IsArrangeable program → HasNoProgram other → ⊥
+  has_program x other e gives arrangeable none =
+      let same : other ≡ text = same_text held file x text other e holds gives in
       none program (subst (λ t. IsJudged t program) (sym same) judged) arrangeable
+
+-- ---- a call over all of its program
+
+module _ (words : List (List ℕ)) (held : Files) (file text : List ℕ) (program : List Item) (only_file : (x : List ℕ) → IsOverSource words x → x ≡ file) (holds : Holds held file text) (judged : IsJudged text program)
+    (arrangeable : IsArrangeable program) (contracts : AreGoodContracts program) (uncontrolled : (x : List ℕ) → MakesMachines words x → has_controls program ≡ false) where
+  no_contract_refused : (x : List ℕ) (p : List Item) (cause : ContractErr) → IsOverSource words x → (h : IsHeld (Some held) x p) → cause ≢ contract.OutOfMemory → RefusesInGames h.clocked cause → ⊥
+  no_contract_refused x p cause over h differs refuses =
+      none_refused h.clocked (contracts h.clocked h.ranks (same_arranged held file text program holds judged x p (only_file x over) h)) cause refuses differs
+
+  has_no_controls : (x : List ℕ) (p : List Item) → MakesMachines words x → IsHeld (Some held) x p → has_controls p ≡ true → ⊥
+  has_no_controls x p makes h some =
+      let same = same_program held file text program holds judged x p (only_file x (over_machines words x makes)) h in
+      let both : false ≡ true = sym (uncontrolled x makes) ∙ ap has_controls same ∙ some in cc
 
   module _ (over : IsOverSource words file) (not_exec : (x y : List ℕ) → IsExecOf words x y → ⊥) (there : (y : List ℕ) (o : Obc) → AreAskedFor words (Some held) y o → machine_named o.machines y ≡ None → ⊥) where
     -- the call succeeds but for want of memory
@@ -77,12 +88,12 @@ module _ (words : List (List ℕ)) (held : Files) (file text : List ℕ) (progra
     succeeds log line status good (Outcome.usage h) f g = absurd (h file (IsOver.a_source (ReadsSource.of_program over)))
     succeeds log line status good (Outcome.unread h) f g = absurd (f refl)
     succeeds log line status good Outcome.no_memory f g = inr refl
-    succeeds log line status good (Outcome.too_long {file = x} (ReadsSource.of_program reads) long) f g = absurd (not_long x reads long)
+    succeeds log line status good (Outcome.too_long {file = x} (ReadsSource.of_program reads) long) f g = absurd (not_long held file text program holds judged x (only_file x reads) long)
     succeeds log line status good (Outcome.too_long {file = x} (ReadsSource.of_contract {node = y} k) long) f g = absurd (source_contract words file x y over k)
-    succeeds log line status good (Outcome.refused {file = x} other cause (ReadsSource.of_program reads) gives causes none) f g = absurd (not_refused x other reads gives none)
+    succeeds log line status good (Outcome.refused {file = x} other cause (ReadsSource.of_program reads) gives causes none) f g = absurd (has_program held file text program holds judged x other (only_file x reads) gives arrangeable none)
     succeeds log line status good (Outcome.refused {file = x} other cause (ReadsSource.of_contract {node = y} k) gives causes none) f g = absurd (source_contract words file x y over k)
-    succeeds log line status good (Outcome.contract_refused {file = x} {program = p} cause reads source some differs refuses) f g = absurd (has_none x p reads source some)
-    succeeds log line status good (Outcome.controls_not_built {file = x} {program = p} makes source some kept) f g = absurd (has_no_controls x p (over_machines words x makes) source some)
+    succeeds log line status good (Outcome.contract_refused {file = x} {program = p} cause reads source some differs refuses) f g = absurd (no_contract_refused x p cause reads source differs refuses)
+    succeeds log line status good (Outcome.controls_not_built {file = x} {program = p} makes source some kept) f g = absurd (has_no_controls x p makes source some)
     succeeds log line status good (Outcome.accepted other c source kept) f g = inl refl
     succeeds log line status good (Outcome.accepted_in_part other out rest c source kept e) f g = absurd (g refl)
     succeeds log line status good (Outcome.no_node {file = x} {name = y} k source none) f g = absurd (source_contract words file x y over k)
@@ -128,7 +139,7 @@ module _ (words : List (List ℕ)) (files : Option Files) (log : List Event) (li
       let not_run : (x y : List ℕ) → IsRunOf words x y → ⊥ = λ x y v. check_run words good.file x y good.print w v in
       let not_exec : (x y : List ℕ) → IsExecOf words x y → ⊥ = λ x y v. check_exec words good.file x y good.print w v in
       succeeds words source.held good.file source.text good.program (λ x over. check_source words good.file x good.print w over) (subst (λ z. Gives z good.file source.text) source.folder source.gives) source.judged
-      source.arrangeable source.plain (IsOverSource.to_check good.print w) not_exec (λ y o asked none. not_asked words (Some source.held) not_run not_exec y o asked) log line status
+      source.arrangeable good.contracts (λ x makes. absurd (check_makes words good.file x good.print w makes)) (IsOverSource.to_check good.print w) not_exec (λ y o asked none. not_asked words (Some source.held) not_run not_exec y o asked) log line status
       (λ s bad_line asked e. not_system words (Some source.held) not_run not_exec s asked) (subst (λ z. Outcome words z log line status) source.folder r) f g
 
   pub good_compile : IsGoodCompile words files → Outcome words files log line status → (status ≡ 4 → ⊥) → (status ≡ 5 → ⊥) → (status ≡ 0) ⊎ (status ≡ 6)
@@ -138,7 +149,7 @@ module _ (words : List (List ℕ)) (files : Option Files) (log : List Event) (li
       let not_run : (x y : List ℕ) → IsRunOf words x y → ⊥ = λ x y v. run_compile words x y good.file good.out v w in
       let not_exec : (x y : List ℕ) → IsExecOf words x y → ⊥ = λ x y v. exec_compile words x y good.file good.out v w in
       succeeds words source.held good.file source.text good.program (λ x over. compile_source words good.file good.out x w over) (subst (λ z. Gives z good.file source.text) source.folder source.gives) source.judged
-      source.arrangeable source.plain (IsOverSource.to_compile w) not_exec (λ y o asked none. not_asked words (Some source.held) not_run not_exec y o asked) log line status
+      source.arrangeable good.contracts (λ x makes. good.uncontrolled) (IsOverSource.to_compile w) not_exec (λ y o asked none. not_asked words (Some source.held) not_run not_exec y o asked) log line status
       (λ s bad_line asked e. not_system words (Some source.held) not_run not_exec s asked) (subst (λ z. Outcome words z log line status) source.folder r) f g
 
 -- ---- the inputs of nodes
@@ -288,7 +299,7 @@ no_inputs (Some n) e h = absurd cc
 -- ---- calls that run a node
 
 module _ (words : List (List ℕ)) (held : Files) (file node text : List ℕ) (program : List Item) (w : IsRunOf words file node) (holds : Holds held file text) (judged : IsJudged text program)
-    (arrangeable : IsArrangeable program) (plain : has_contract program ≡ false) (there : IsSome (node_among (reverse program) node)) where
+    (arrangeable : IsArrangeable program) (contracts : AreGoodContracts program) (uncontrolled : has_controls program ≡ false) (there : IsSome (node_among (reverse program) node)) where
   only_file : (x : List ℕ) → IsOverSource words x → x ≡ file
   only_file x over = run_source words file node x w over
 
@@ -297,8 +308,8 @@ module _ (words : List (List ℕ)) (held : Files) (file node text : List ℕ) (p
 
   clocks_of : (x : List ℕ) (o : Obc) → IsOverSource words x → (compiled : AreCompiled (Some held) x o) → AreWritten IsClocked (replaced program) compiled.held.clocked
   clocks_of x o over compiled =
-      let arranged = compiled.held.arranged in
-      subst (λ p. AreWritten IsClocked (replaced p) compiled.held.clocked) (sym (same_program words held file text program only_file holds judged arrangeable plain x compiled.program over compiled.held)) arranged.clocks
+      let arranged = same_arranged held file text program holds judged x compiled.program (only_file x over) compiled.held in
+      arranged.clocks
 
   machine_there : (y : List ℕ) (o : Obc) → AreAskedFor words (Some held) y o → machine_named o.machines y ≡ None → ⊥
   machine_there y o (AreAskedFor.in_text {file = x} v others) none = not_exec x y v
@@ -319,7 +330,7 @@ module _ (words : List (List ℕ)) (held : Files) (file node text : List ℕ) (p
   run_succeeds : (log : List Event) (line : List ℕ) (status : ℕ) (more : List ℕ) → (has_ended log ≡ true → more ≡ []) → first_bad (input_kinds program node) 1 (lines_of true (heard log ++ more)) ≡ None →
       Outcome words (Some held) log line status → (status ≡ 4 → ⊥) → (status ≡ 5 → ⊥) → (status ≡ 0) ⊎ (status ≡ 6)
   run_succeeds log line status more ended good r f g =
-      succeeds words held file text program only_file holds judged arrangeable plain (IsOverSource.to_run w) not_exec machine_there log line status
+      succeeds words held file text program only_file holds judged arrangeable contracts (λ x makes. uncontrolled) (IsOverSource.to_run w) not_exec machine_there log line status
       (λ s bad_line asked e. no_bad_line (input_kinds program node) (has_ended log) (heard log) more bad_line ended good (ap (λ ks. first_bad ks 1 (lines_of (has_ended log) (heard log))) (sym (system_kinds s asked)) ∙ e)) r f g
 
   -- the input in two parts: what was heard, and what is left
@@ -334,5 +345,5 @@ pub good_run : (words : List (List ℕ)) (files : Option Files) (left after : Op
     Outcome words files log line status → (status ≡ 4 → ⊥) → (status ≡ 5 → ⊥) → (status ≡ 0) ⊎ (status ≡ 6)
 good_run words files left after log line status good h r f g =
     let source = good.source in
-    run_by words source.held good.file good.node source.text good.program good.asked (subst (λ z. Gives z good.file source.text) source.folder source.gives) source.judged source.arrangeable source.plain good.there
+    run_by words source.held good.file good.node source.text good.program good.asked (subst (λ z. Gives z good.file source.text) source.folder source.gives) source.judged source.arrangeable good.contracts good.uncontrolled good.there
     good.input after log line status good.lines (subst (λ z. HeardFrom z after log) good.console h) (subst (λ z. Outcome words z log line status) source.folder r) f g

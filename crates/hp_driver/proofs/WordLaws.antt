@@ -2,7 +2,7 @@
 use Rattle.std.proofs.Common.{◌≡◌, ◌<◌, ℕ, ◌⊎◌, inl, inr, Bool, true, false, List, [], ◌∷◌, length, sym, subst, refl, ap, ◌∙◌, arith}
 use Rattle.std.specs.Prelude.{codes}
 use Rattle.hp_words.specs.Words.{IsArgument}
-use Rattle.hp_driver.specs.Command.{IsOnTraceBy, IsRunOf, IsExecOf, IsCheckOf, IsCompileOf, IsProveOf, IsVerifyOf, IsOverSource, MakesMachines, IsOverContract, Writes}
+use Rattle.hp_driver.specs.Command.{IsOnTraceBy, IsOnCertBy, IsRunOf, IsExecOf, IsCheckOf, IsCompileOf, IsProveOf, IsVerifyOf, IsOverSource, MakesMachines, IsOverContract, Writes}
 
 same_first : (x y : List ℕ) (xs ys : List (List ℕ)) → x ∷ xs ≡ y ∷ ys → x ≡ y
 same_first x y xs ys e = cc
@@ -106,9 +106,25 @@ exec_contract words x y file node w k =
     let four = contract_four words file node k in
     omega (arith, three, four)
 
-prove_verify : (words : List (List ℕ)) (file node cert x y z : List ℕ) → IsProveOf words file node cert → IsVerifyOf words x y z → ⊥
+pub prove_verify : (words : List (List ℕ)) (file node cert x y z : List ℕ) → IsProveOf words file node cert → IsVerifyOf words x y z → ⊥
 prove_verify words file node cert x y z p q =
     let e : codes "prove" ≡ codes "verify" = one_name words (codes "prove") (codes "verify") (file ∷ node ∷ cert ∷ []) (x ∷ y ∷ z ∷ []) p.spelled q.spelled in cc
+
+four_words : (name a b c x y z : List ℕ) → name ∷ a ∷ b ∷ c ∷ [] ≡ name ∷ x ∷ y ∷ z ∷ [] → (a ≡ x) × (b ≡ y) × (c ≡ z)
+four_words name a b c x y z e = (cc, cc, cc)
+
+-- words that name two files and a node name no others
+pub same_four : (name : List ℕ) (words : List (List ℕ)) (file node cert x y z : List ℕ) → IsOnCertBy name words file node cert → IsOnCertBy name words x y z → (x ≡ file) × (y ≡ node) × (z ≡ cert)
+same_four name words file node cert x y z w v = four_words name x y z file node cert (sym v.spelled ∙ w.spelled)
+
+module _ (words : List (List ℕ)) (file node cert x y : List ℕ) where
+  pub prove_contract : IsProveOf words file node cert → IsOverContract words x y → (x ≡ file) × (y ≡ node)
+  prove_contract w (IsOverContract.to_prove {cert = z} p) = let same = same_four (codes "prove") words file node cert x y z w p in (same.0, same.1)
+  prove_contract w (IsOverContract.to_verify {cert = z} v) = absurd (prove_verify words file node cert x y z w v)
+
+  pub verify_contract : IsVerifyOf words file node cert → IsOverContract words x y → (x ≡ file) × (y ≡ node)
+  verify_contract w (IsOverContract.to_prove {cert = z} p) = absurd (prove_verify words x y z file node cert p w)
+  verify_contract w (IsOverContract.to_verify {cert = z} v) = let same = same_four (codes "verify") words file node cert x y z w v in (same.0, same.1)
 
 -- ---- what writes no file
 
@@ -133,6 +149,11 @@ module _ (words : List (List ℕ)) (file out : List ℕ) where
 pub over_machines : (words : List (List ℕ)) (file : List ℕ) → MakesMachines words file → IsOverSource words file
 over_machines words file (MakesMachines.to_run w) = IsOverSource.to_run w
 over_machines words file (MakesMachines.to_compile w) = IsOverSource.to_compile w
+
+-- and a check makes none
+pub check_makes : (words : List (List ℕ)) (file x : List ℕ) (print : Bool) → IsCheckOf words file print → MakesMachines words x → ⊥
+check_makes words file x print w (MakesMachines.to_run {node = y} r) = check_run words file x y print w r
+check_makes words file x print w (MakesMachines.to_compile {out = y} c) = check_compile words file x y print w c
 
 -- ---- the words of checks
 

@@ -1,17 +1,24 @@
--- Calls of which nothing is wrong: those that are to run a machine or a node to the end of the input, and those that are to check a program or to write its machines.
-use Rattle.std.specs.Prelude.{◌≡◌, ℕ, Bool, true, false, List, reverse, Option, None, Some, IsSome}
-use Rattle.hp_compile.specs.Arranged.{IsArrangeable}
+-- Calls of which nothing is wrong: those that are to run a machine or a node to the end of the input, those that are to check a program or to write its machines, and those that are to write a certificate or to verify one.
+use Rattle.std.specs.Prelude.{◌≡◌, ℕ, Bool, true, false, IsTrue, List, reverse, Option, None, Some, IsSome, is_some}
+use Rattle.hp_abstract.specs.Machines.{IsMachineOf}
+use Rattle.hp_boolx.specs.Machine.{Machine}
+use Rattle.hp_cert.specs.declared.checking.Proved.{Proved}
+use Rattle.hp_compile.specs.Arranged.{IsArrangeable, IsArranged}
 use Rattle.hp_compile.specs.Judged.{IsJudged}
+use Rattle.hp_decided.specs.Acceptable.{IsDecidable, AreAcceptable}
 use Rattle.hp_io.specs.Faults.{Faults, IsCalm}
 use Rattle.hp_io.specs.Files.{Files}
 use Rattle.hp_obc.specs.Machines.{Obc}
 use Rattle.hp_tree.specs.Meaning.{node_among}
+use Rattle.hp_tree.specs.Programs.{Node}
 use Rattle.hp_tree.specs.declared.program.Item.{Item}
-use Rattle.hp_verdicts.specs.Decided.{has_contract}
-use Rattle.hp_driver.specs.Command.{IsRunOf, IsCheckOf, IsCompileOf, IsExecOf, IsOver, Writes}
+use Rattle.hp_verdicts.specs.Decided.{IsLong, IsProof, has_contract, is_wide_contract}
+use Rattle.hp_verdicts.specs.Verified.{Shows}
+use Rattle.hp_driver.specs.Controls.{has_controls}
+use Rattle.hp_driver.specs.Command.{IsRunOf, IsCheckOf, IsCompileOf, IsExecOf, IsProveOf, IsVerifyOf, IsOver, Writes}
 use Rattle.hp_driver.specs.Lines.{lines_of}
 use Rattle.hp_driver.specs.NodeKinds.{input_kinds}
-use Rattle.hp_driver.specs.Outcome.{Gives, AreMachines, IsMachine}
+use Rattle.hp_driver.specs.Outcome.{Gives, IsHeld, AreMachines, IsMachine}
 use Rattle.hp_driver.specs.Systems.{of_machine, inputs_of}
 use Rattle.hp_driver.specs.Values.{first_bad}
 
@@ -38,7 +45,7 @@ pub record IsGood (words : List (List ℕ)) (files : Option Files) (left : Optio
   pub console : left ≡ Some input
   pub lines : first_bad (inputs_of (of_machine o node)) 1 (lines_of true input) ≡ None
 
--- The folder tells that a file holds a source text, which has a program without contracts that breaks no rule.
+-- The folder tells that a file holds a source text, which has a program that breaks no rule.
 pub record IsGoodFile (files : Option Files) (file : List ℕ) (program : List Item) : Type 0 where
   pub held : Files
   pub folder : files ≡ Some held
@@ -46,23 +53,29 @@ pub record IsGoodFile (files : Option Files) (file : List ℕ) (program : List I
   pub gives : Gives files file text
   pub judged : IsJudged text program
   pub arrangeable : IsArrangeable program
-  pub plain : has_contract program ≡ false
 
--- The words ask to check such a file,
+-- Once the program is arranged, no contract is refused: each can be decided, and no violation is ever forced in its game.
+abbrev pub AreGoodContracts : List Item → Type 0
+AreGoodContracts program = (clocked : List Item) (ranks : List (List ℕ)) → IsArranged program clocked ranks → AreAcceptable clocked
+
+-- The words ask to check such a file, of whose program no contract is refused,
 pub record IsGoodCheck (words : List (List ℕ)) (files : Option Files) : Type 0 where
   pub file : List ℕ
   pub print : Bool
   pub asked : IsCheckOf words file print
   pub program : List Item
   pub source : IsGoodFile files file program
+  pub contracts : AreGoodContracts program
 
--- or to write the machines of its program,
+-- or to write the machines of such a program, which has no controllable variables,
 pub record IsGoodCompile (words : List (List ℕ)) (files : Option Files) : Type 0 where
   pub file : List ℕ
   pub out : List ℕ
   pub asked : IsCompileOf words file out
   pub program : List Item
   pub source : IsGoodFile files file program
+  pub contracts : AreGoodContracts program
+  pub uncontrolled : has_controls program ≡ false
 
 -- or to run a node that the program has, and the console tells an input of which no line has a fault.
 pub record IsGoodRun (words : List (List ℕ)) (files : Option Files) (left : Option (List ℕ)) : Type 0 where
@@ -71,7 +84,59 @@ pub record IsGoodRun (words : List (List ℕ)) (files : Option Files) (left : Op
   pub asked : IsRunOf words file node
   pub program : List Item
   pub source : IsGoodFile files file program
+  pub contracts : AreGoodContracts program
+  pub uncontrolled : has_controls program ≡ false
   pub there : IsSome (node_among (reverse program) node)
   pub input : List ℕ
   pub console : left ≡ Some input
   pub lines : first_bad (input_kinds program node) 1 (lines_of true input) ≡ None
+
+-- The node of this name has a contract, which can be decided.
+pub record HasDecidable (program : List Item) (name : List ℕ) : Type 0 where
+  pub node : Node
+  pub named : node_among program name ≡ Some node
+  pub some : IsTrue (is_some node.contract)
+  pub decidable : IsDecidable program node
+
+-- The text of the certificate of its machine is no longer than it may be,
+pub record IsProvable (program : List Item) (name : List ℕ) : Type 0 where
+  pub there : HasDecidable program name
+  pub short : (m : Machine) → IsMachineOf program there.node m → IsLong m (is_wide_contract there.node.contract) → ⊥
+
+-- or this is the text of a certificate that proves something of it.
+pub record IsVerifiable (program : List Item) (name text : List ℕ) : Type 0 where
+  pub there : HasDecidable program name
+  pub verdict : Proved
+  pub shown : Shows program there.node text verdict
+
+-- The words ask for the certificate of such a contract of a program, once it is arranged, whether its contracts are kept or not,
+pub record IsGoodProve (words : List (List ℕ)) (files : Option Files) : Type 0 where
+  pub file : List ℕ
+  pub node : List ℕ
+  pub cert : List ℕ
+  pub asked : IsProveOf words file node cert
+  pub program : List Item
+  pub source : IsGoodFile files file program
+  pub provable : (clocked : List Item) (ranks : List (List ℕ)) → IsArranged program clocked ranks → IsProvable clocked node
+
+-- or to verify such a text, which the folder tells that a file holds.
+pub record IsGoodVerify (words : List (List ℕ)) (files : Option Files) : Type 0 where
+  pub file : List ℕ
+  pub node : List ℕ
+  pub cert : List ℕ
+  pub asked : IsVerifyOf words file node cert
+  pub program : List Item
+  pub source : IsGoodFile files file program
+  pub text : List ℕ
+  pub gives : Gives files cert text
+  pub verifiable : (clocked : List Item) (ranks : List (List ℕ)) → IsArranged program clocked ranks → IsVerifiable clocked node text
+
+-- Of a program without contracts nothing more is asked: it has none that is refused, and no controllable variables.
+abbrev pub PlainLaw : Type 0
+PlainLaw = (program : List Item) → has_contract program ≡ false → AreGoodContracts program × (has_controls program ≡ false)
+
+-- The text of the certificate of a contract is one of the texts that are to be verified. So what `prove` writes `verify` accepts, once a file holds it.
+abbrev pub ProvedLaw : Type 0
+ProvedLaw =
+    (files : Option Files) (file : List ℕ) (program : List Item) (held : IsHeld files file program) (name text : List ℕ) (there : HasDecidable held.clocked name) → IsProof held.clocked there.node text
+    → (clocked : List Item) (ranks : List (List ℕ)) → IsArranged program clocked ranks → IsVerifiable clocked name text

@@ -1,8 +1,10 @@
 //! Laws on calls. The functions here do nothing: each is a law, which its contract states.
+ghost use Rattle.hp_driver.specs.GoodCalls.{PlainLaw, ProvedLaw};
 ghost use Rattle.hp_driver.specs.Written.{WrittenLaw};
 
 use hp_decided::machines_keep_contracts;
 use hp_history::machines_run_the_nodes_of_texts;
+use hp_lettered::names_are_spelled;
 
 /// `exec` says of the text that `compile` writes what `run` says of its program.
 pub fn written_machines_agree_with_nodes()
@@ -10,4 +12,16 @@ pub fn written_machines_agree_with_nodes()
 {
     machines_run_the_nodes_of_texts();
     machines_keep_contracts();
+}
+
+/// Of the contracts of a program without contracts nothing is asked, that a call over it be one of which nothing is wrong.
+pub fn plain_programs_are_good()
+    ensures { PlainLaw }
+{}
+
+/// What `prove` writes of a contract that can be decided is a text of which nothing is wrong for `verify`.
+pub fn written_certificates_are_good()
+    ensures { ProvedLaw }
+{
+    names_are_spelled();
 }

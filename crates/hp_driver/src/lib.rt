@@ -16,7 +16,9 @@ mod tool;
 mod trace;
 mod words;
 
-pub use laws::written_machines_agree_with_nodes;
+pub use laws::{
+    plain_programs_are_good, written_certificates_are_good, written_machines_agree_with_nodes,
+};
 pub use status::Status;
 pub use tool::run_tool;
 pub use trace::MAX_LINES;

@@ -1,6 +1,7 @@
 //! A machine that is run on a trace, and the command `exec`, which reads a text of machines.
 ghost use Rattle.std.specs.Prelude.{◌≢◌, ◌++◌, ℕ, List, codes};
 ghost use Rattle.hp_io.specs.Told.{Grows};
+ghost use Rattle.hp_obc.specs.Form.{TypesForm};
 ghost use Rattle.hp_driver.specs.Diagnostics.{place_text, executor_line};
 ghost use Rattle.hp_driver.specs.Follows.{ExecOf, MachinesOutcome, RefusedText, RefusedMachine};
 ghost use Rattle.hp_driver.specs.Ran.{ReportsOrNot};
@@ -82,6 +83,7 @@ pub(crate) fn run_machines<C: Console, E: Sink>(
     console: &mut C,
     diag: &mut E,
 ) -> Status
+    requires { TypesForm machines.now.types }
     ensures outcome { Happened (C.events console.old) (C.events console.new) (C.left console.old) (C.left console.new) (E.took diag.old) (E.took diag.new)
         (λ log line. MachinesOutcome machines.now node.now log line (code_of result)) }
     ensures takes { TakeFaults (code_of result) (C.take_faults console.old) (C.take_faults console.new) }
@@ -90,8 +92,6 @@ pub(crate) fn run_machines<C: Console, E: Sink>(
     // Laws: machines of a program run its nodes, and keep contracts.
     machines_run_the_nodes_of_texts();
     machines_keep_contracts();
-    // The types have form with the machines, so no enumeration has too many constructors.
-    let _types = machines.types();
     let exec = match Exec::new(alloc, machines, node) {
         Ok(exec) => exec,
         Err(error) => return report_machine(alloc, diag, node, error),

@@ -6,7 +6,7 @@ ghost use Rattle.hp_io.specs.Reads.{Reading};
 ghost use Rattle.hp_io.specs.Told.{Grows};
 ghost use Rattle.hp_io.specs.declared.console.Event.{Event};
 ghost use Rattle.hp_driver.specs.Commanded.{Spells, file_of};
-ghost use Rattle.hp_driver.specs.GoodCalls.{AreCalm, IsGood, IsGoodCheck, IsGoodCompile, IsGoodRun};
+ghost use Rattle.hp_driver.specs.GoodCalls.{AreCalm, IsGood, IsGoodCheck, IsGoodCompile, IsGoodProve, IsGoodRun, IsGoodVerify};
 ghost use Rattle.hp_driver.specs.Leaves.{Leaves, ReadRose, WriteRose};
 ghost use Rattle.hp_driver.specs.Log.{HeardFrom};
 ghost use Rattle.hp_driver.specs.Outcome.{Outcome, Gives};
@@ -126,14 +126,20 @@ pub fn run_tool<F: Folder, C: Console, E: Sink>(
     // A machine that is there is run over an input of good lines to its end, where nothing fails and there is memory.
     ensures complete { IsGood (map string_bytes words.now) (F.files files.old) (C.left console.old) → result ≢ 4 → result ≢ 5 → (result ≡ 0) ⊎ (result ≡ 6) }
 
-    // A program that breaks no rule and has no contract is accepted, where nothing fails and there is memory.
+    // A program that breaks no rule and of which no contract is refused is accepted, where nothing fails and there is memory.
     ensures complete_check { IsGoodCheck (map string_bytes words.now) (F.files files.old) → result ≢ 4 → result ≢ 5 → (result ≡ 0) ⊎ (result ≡ 6) }
 
-    // Its machines are written,
+    // Where it has no controllable variables, its machines are written,
     ensures complete_compile { IsGoodCompile (map string_bytes words.now) (F.files files.old) → result ≢ 4 → result ≢ 5 → (result ≡ 0) ⊎ (result ≡ 6) }
 
     // and each of its nodes is run over an input of good lines to its end.
     ensures complete_run { IsGoodRun (map string_bytes words.now) (F.files files.old) (C.left console.old) → result ≢ 4 → result ≢ 5 → (result ≡ 0) ⊎ (result ≡ 6) }
+
+    // The certificate of a contract that can be decided is written, where its text is no longer than it may be, nothing fails and there is memory,
+    ensures complete_prove { IsGoodProve (map string_bytes words.now) (F.files files.old) → result ≢ 4 → result ≢ 5 → (result ≡ 0) ⊎ (result ≡ 6) }
+
+    // and a text that proves something of it is verified, whoever wrote it.
+    ensures complete_verify { IsGoodVerify (map string_bytes words.now) (F.files files.old) → result ≢ 4 → result ≢ 5 → (result ≡ 0) ⊎ (result ≡ 6) }
 {
     perform(alloc, words, files, console, diag).code()
 }

@@ -9,3 +9,5 @@ pub mod TheMade
 pub mod MadeLaws
 pub mod DecideLaws
 pub mod VerifyLaws
+pub mod ShownLaws
+pub mod WrittenLaws

@@ -234,6 +234,27 @@ module _ (name : List ℕ) (c : Circuit) (m : Machine) (is : circuit.IsMachineOf
       (subst (λ x. Known s.wires x c.slots.items c.reads.items c.hyp c.duty name m) of.shapes
       (subst (λ x. Known x c.shapes.items c.slots.items c.reads.items c.hyp c.duty name m) of.wires known_of)))))
 
+-- ---- the machines of a node
+
+-- Two machines have one name, their controllable variables the same widths, and the machines have one game.
+pub record AreOne (m other : Machine) : Type 0 where
+  pub name : m.name ≡ other.name
+  pub widths : m.widths ≡ other.widths
+  pub one_game : game m ≡ game other
+
+pub node_machine : (program : List Item) (n : Node) (m other : Machine) → IsMachineOf program n m → IsMachineOf program n other → AreOne m other
+node_machine program n m other of_m of_other =
+    let s = drawn_node (told_of program) n in
+    let first = of_m.drawn in
+    let second = of_other.drawn in
+    let one = known n.name first.0 m first.1.1 s first.1.0 in
+    let two = known n.name second.0 other second.1.1 s second.1.0 in
+    record {
+      name = name_one s.wires s.shapes s.slots s.reads s.hyp s.duty n.name m other one two;
+      widths = widths_one s.wires s.shapes s.slots s.reads s.hyp s.duty n.name m other one two;
+      one_game = game_one s.wires s.shapes s.slots s.reads s.hyp s.duty n.name m other one two;
+    }
+
 -- ---- certificates of a node
 
 -- what is the certificate of a machine is that of another with its name, its widths and its game
@@ -261,15 +282,8 @@ moved m other form name widths same wide c is =
 
 node_certificate : (program : List Item) (n : Node) (m other : Machine) → IsMachineOf program n m → IsMachineOf program n other → (wide : Bool) (c d : Certificate) → IsTheCertificate m wide c → IsTheCertificate other wide d → c ≡ d
 node_certificate program n m other of_m of_other wide c d is_c is_d =
-    let s = drawn_node (told_of program) n in
-    let first = of_m.drawn in
-    let second = of_other.drawn in
-    let one = known n.name first.0 m first.1.1 s first.1.0 in
-    let two = known n.name second.0 other second.1.1 s second.1.0 in
-    certificate_one other wide c d
-    (moved m other is_d.form (name_one s.wires s.shapes s.slots s.reads s.hyp s.duty n.name m other one two) (widths_one s.wires s.shapes s.slots s.reads s.hyp s.duty n.name m other one two)
-    (game_one s.wires s.shapes s.slots s.reads s.hyp s.duty n.name m other one two) wide c is_c)
-    is_d
+    let same = node_machine program n m other of_m of_other in
+    certificate_one other wide c d (moved m other is_d.form same.name same.widths same.one_game wide c is_c) is_d
 
 pub node_text : NodeTextLaw
 node_text program n text other a b =

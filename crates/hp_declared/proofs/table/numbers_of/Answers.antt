@@ -1,5 +1,4 @@
-use Rattle.std.proofs.Common.{◌≡◌, ◌<◌, ◌-◌, ℕ, List, [], Bor, get_or, length, ap, ◌∙◌, arith}
-use Rattle.std.proofs.lemmas.List.{get_or_default}
+use Rattle.std.proofs.Common.{◌≡◌, ◌<◌, ◌-◌, length, ap, ◌∙◌, arith}
 use Rattle.hp_declared.specs.Tables.{put_at, said_in}
 use Rattle.hp_declared.proofs.TableLaws.{numbers-end, numbers-next}
 use Rattle.hp_declared.proofs.table.numbers_of.Goals as goal
@@ -13,7 +12,7 @@ pub loop-i-preserved : goal.loop-i-preserved
 loop-i-preserved c =
     let names = c.args.names.now in
     let i = c.loop-i.i - 1 in
-    let name : Bor (List ℕ) = get_or names i (record { ref_ptr = (0, 0); now = [] }) in
+    let name = c.index-names-i.result in
     let inside : i < length names = omega arith in
     let name_is : c.bytes.result.now ≡ name.now = cc in
     record {
@@ -21,5 +20,5 @@ loop-i-preserved c =
       numbers = c.in_ok-put.ensures
           ∙ ap (λ x. put_at (said_in c.loop-i.numbers) x i) name_is
           ∙ ap (λ f. put_at f name.now i) c.loop-i.invariant.numbers
-          ∙ numbers-next names i c.loop-i.i name (omega arith) inside (get_or_default names i (record { ref_ptr = (0, 0); now = [] }) name inside);
+          ∙ numbers-next names i c.loop-i.i name (omega arith) inside c.index-names-i.is;
     }

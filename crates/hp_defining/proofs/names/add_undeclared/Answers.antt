@@ -1,5 +1,4 @@
-use Rattle.std.proofs.Common.{◌+◌, ℕ, List, [], ◌∷◌, Bor, get_or, if◌then◌else◌, drop, sym, ap, ◌∙◌}
-use Rattle.std.proofs.lemmas.List.{get_or_default}
+use Rattle.std.proofs.Common.{◌+◌, [], ◌∷◌, if◌then◌else◌, drop, sym, ap, ◌∙◌}
 use Rattle.hp_defining.specs.Names.{undeclared}
 use Rattle.hp_defining.specs.Seen.{names_seen, with_more}
 use Rattle.hp_defining.proofs.NameLaws.{names-undeclared}
@@ -9,9 +8,9 @@ pub loop-i-preserved : goal.loop-i-preserved
 loop-i-preserved c =
     let names = c.args.names.now in
     let i = c.loop-i.i in
-    let name : Bor (List ℕ) = get_or names i (record { ref_ptr = (0, 0); now = [] }) in
+    let name = c.index-names-i.result in
     let before = names_seen c.loop-i.into.items in
     let rest = undeclared c.args.decls.now (names_seen (drop (i + 1) names)) in
     ap (λ made. with_more made rest) (c.in_ok-add_unknown.ensures ∙ ap (λ known. if known name.now then before else with_more before (name.now ∷ [])) c.in_ok-known.ensures)
-    ∙ sym (names-undeclared before c.args.decls.now names i name c.loop-i-test.true (get_or_default names i (record { ref_ptr = (0, 0); now = [] }) name c.loop-i-test.true))
+    ∙ sym (names-undeclared before c.args.decls.now names i name c.loop-i-test.true c.index-names-i.is)
     ∙ c.loop-i.invariant

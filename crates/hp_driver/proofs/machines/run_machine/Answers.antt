@@ -1,6 +1,6 @@
 use Rattle.std.proofs.Common.{[]}
 use Rattle.hp_io.proofs.ToldLaws.{Grows-nil}
-use Rattle.hp_driver.proofs.MachineLaws.{in_text}
+use Rattle.hp_driver.proofs.MachineLaws.{in_text, types_of_text}
 use Rattle.hp_driver.proofs.RanLaws.{heard_nothing}
 use Rattle.hp_driver.specs.Status.{code_of}
 use Rattle.hp_driver.proofs.machines.run_machine.Goals as goal
@@ -26,3 +26,6 @@ returns-in-Err-clause-outcome g c =
       told.1,
       told.2 c.args.text.now c.args.node.now c.in-Err.ensures.refused,
     )
+
+pub run_machines-requires : goal.run_machines-requires
+run_machines-requires g c = types_of_text c.args.text.now c.in-Ok.machines c.in-Ok.ensures.machines

@@ -21,7 +21,7 @@ returns-in-Err-clause-outcome g c =
     )
 
 pub new-requires-2-clause-few : goal.new-requires-2-clause-few
-new-requires-2-clause-few g c = few_inputs c.args.machines.now c.args.node.now c.in-Ok.exec c.types-types.ensures.form c.in-Ok.ensures
+new-requires-2-clause-few g c = few_inputs c.args.machines.now c.args.node.now c.in-Ok.exec c.requires c.in-Ok.ensures
 
 pub returns-in_default-clause-outcome : goal.returns-in_default-clause-outcome
 returns-in_default-clause-outcome g c = (

@@ -36,3 +36,6 @@ returns-clause-outcome g c = (
   Grows-nil (g.E.Sink.took c.args.diag.now),
   run_memory c.args.node.now c.args.ordered.program,
 )
+
+pub run_machines-requires : goal.run_machines-requires
+run_machines-requires g c = c.in-Ok.ensures.machines.form

@@ -1,6 +1,6 @@
-use Rattle.std.proofs.Common.{◌≡◌, ◌<◌, ◌-◌, ℕ, List, [], Bor, get_or, length, map, drop, ap, ◌∙◌, arith}
-use Rattle.std.proofs.lemmas.List.{get_or_default}
-use Rattle.hp_clocks.specs.Layers.{or_base, put_at, says, says_names}
+use Rattle.std.proofs.Common.{◌≡◌, ◌<◌, ◌-◌, ℕ, List, Bor, length, map, drop, ap, ◌∙◌, arith}
+use Rattle.hp_clocks.specs.Layers.{put_at, says, says_names}
+use Rattle.hp_clocks.specs.Units.{or_base}
 use Rattle.hp_clocks.proofs.TableLaws.{named_end, named_next}
 use Rattle.hp_clocks.proofs.layer.Layer.named.Goals as goal
 
@@ -14,15 +14,15 @@ loop-i-preserved c =
     let names = c.args.names.now in
     let see = says c.args.cells.now in
     let i = c.loop-i.i - 1 in
-    let name : Bor (List ℕ) = get_or names i (record { ref_ptr = (0, 0); now = [] }) in
+    let name = c.index-names-i.result in
     let within : i < length names = omega arith in
-    let name_is : c.bytes.result.now ≡ name.now = cc in
+    let name_is : c.bytes-name.result.now ≡ name.now = cc in
     let rest = says_names (map (λ (x : Bor (List ℕ)). x.now) (drop c.loop-i.i names)) see in
     record {
       within = omega arith;
       named = c.in_ok-put.ensures
-          ∙ ap (λ f. put_at f c.bytes.result.now c.cell.result) c.loop-i.invariant.named
-          ∙ ap (λ number. put_at rest c.bytes.result.now number) c.cell.ensures
+          ∙ ap (λ f. put_at f c.bytes-name.result.now c.cell.result) c.loop-i.invariant.named
+          ∙ ap (λ number. put_at rest c.bytes-name.result.now number) c.cell.ensures
           ∙ ap (λ x. put_at rest x (or_base (see x))) name_is
-          ∙ named_next names see i c.loop-i.i name (omega arith) within (get_or_default names i (record { ref_ptr = (0, 0); now = [] }) name within);
+          ∙ named_next names see i c.loop-i.i name (omega arith) within c.index-names-i.is;
     }

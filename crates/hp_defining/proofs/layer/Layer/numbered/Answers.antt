@@ -1,5 +1,4 @@
-use Rattle.std.proofs.Common.{◌≡◌, ◌+◌, ◌<◌, ◌-◌, ℕ, List, [], Bor, get_or, length, Some, ap, ◌∙◌, arith}
-use Rattle.std.proofs.lemmas.List.{get_or_default}
+use Rattle.std.proofs.Common.{◌≡◌, ◌+◌, ◌<◌, ◌-◌, length, Some, ap, ◌∙◌, arith}
 use Rattle.hp_defining.specs.Layers.{put_at, says}
 use Rattle.hp_defining.proofs.LayerLaws.{numbers-end, numbers-next}
 use Rattle.hp_defining.proofs.layer.Layer.numbered.Goals as goal
@@ -13,14 +12,14 @@ pub loop-i-preserved : goal.loop-i-preserved
 loop-i-preserved c =
     let names = c.args.names.now in
     let i = c.loop-i.i - 1 in
-    let name : Bor (List ℕ) = get_or names i (record { ref_ptr = (0, 0); now = [] }) in
+    let name = c.index-names-i.result in
     let number = Some (c.args.first + i) in
     let inside : i < length names = omega arith in
-    let name_is : c.bytes.result.now ≡ name.now = cc in
+    let name_is : c.bytes-name.result.now ≡ name.now = cc in
     record {
       within = omega arith;
       numbers = c.in_ok-put.ensures
           ∙ ap (λ x. put_at (says c.loop-i.layer) x number) name_is
           ∙ ap (λ f. put_at f name.now number) c.loop-i.invariant.numbers
-          ∙ numbers-next c.args.first names i c.loop-i.i name (omega arith) inside (get_or_default names i (record { ref_ptr = (0, 0); now = [] }) name inside);
+          ∙ numbers-next c.args.first names i c.loop-i.i name (omega arith) inside c.index-names-i.is;
     }

@@ -1,5 +1,4 @@
-use Rattle.std.proofs.Common.{◌≡◌, ◌<◌, ◌-◌, ℕ, List, [], Bor, get_or, length, drop, ap, ◌∙◌, arith}
-use Rattle.std.proofs.lemmas.List.{get_or_default}
+use Rattle.std.proofs.Common.{◌≡◌, ◌<◌, ◌-◌, length, drop, ap, ◌∙◌, arith}
 use Rattle.hp_defining.specs.Seen.{names_seen}
 use Rattle.hp_defining.specs.Layers.{put_at, says_seen, sight}
 use Rattle.hp_defining.proofs.LayerLaws.{seen-end, seen-next}
@@ -15,15 +14,15 @@ loop-i-preserved c =
     let names = c.args.names.now in
     let see = sight c.args.layers.now in
     let i = c.loop-i.i - 1 in
-    let name : Bor (List ℕ) = get_or names i (record { ref_ptr = (0, 0); now = [] }) in
+    let name = c.index-names-i.result in
     let within : i < length names = omega arith in
-    let name_is : c.bytes.result.now ≡ name.now = cc in
+    let name_is : c.bytes-name.result.now ≡ name.now = cc in
     let rest = says_seen (names_seen (drop c.loop-i.i names)) see in
     record {
       within = omega arith;
       seen = c.in_ok-put.ensures
-          ∙ ap (λ f. put_at f c.bytes.result.now c.sight.result) c.loop-i.invariant.seen
-          ∙ ap (λ number. put_at rest c.bytes.result.now number) c.sight.ensures
+          ∙ ap (λ f. put_at f c.bytes-name.result.now c.sight.result) c.loop-i.invariant.seen
+          ∙ ap (λ number. put_at rest c.bytes-name.result.now number) c.sight.ensures
           ∙ ap (λ x. put_at rest x (see x)) name_is
-          ∙ seen-next names see i c.loop-i.i name (omega arith) within (get_or_default names i (record { ref_ptr = (0, 0); now = [] }) name within);
+          ∙ seen-next names see i c.loop-i.i name (omega arith) within c.index-names-i.is;
     }
