@@ -37,7 +37,7 @@ module _ (b : Behaviour) where
   pub runs_on : (e : Executor) (values : List Value) → Runs e b → length values ≡ length e.signature.inputs → Runs (stepped e values) b
   runs_on e values h n =
       let follows = h.steps e.values values h.long n in
-      record { long = follows.as_long ∙ h.long; reset = h.reset; flat = h.flat; steps = h.steps }
+      record { long = follows.as_long ∙ h.long; reset = h.reset; flat = h.flat; shape = h.shape; steps = h.steps }
 
   outputs_on : (e : Executor) (values : List Value) → Runs e b → length values ≡ length e.signature.inputs → answered e values ≡ (b.step (kept e) values).outputs
   outputs_on e values h n = sym (h.steps e.values values h.long n).given
