@@ -29,29 +29,13 @@ pub fn chosen_answers_are_alike()
 }
 
 /// The one meaning of the clocked equations of a ready program under a choice answers with the outputs of the program's one reaction under this choice.
+/// Over the same inputs the clocked equations of each node have exactly one reaction with the chosen values, over what the one meaning answers.
+/// In it each name of the node's body has a variable, with the value that the name has in the program's one reaction, wherever this is not Nil.
 pub fn meanings_give_the_chosen_reactions()
     ensures ready { StreamLaw }
     ensures text { TextLaw }
-{
-    programs_have_one_meaning_under_each_choice();
-    removing_automata_keeps_classes();
-    programs_with_classes_are_accepted();
-    ranks_of_points();
-    ranks_are_kept();
-    targets_differ();
-    calls_are_kept();
-    chosen_nodes_have_one_reaction();
-    nodes_have_one_reaction();
-    ready_programs_have_one_filled_reaction();
-    chosen_nodes_answer();
-    equations_answer_under_each_choice();
-}
-
-/// Over the same inputs the clocked equations of each node have exactly one reaction with the chosen values, over what the one meaning answers.
-/// In it each name of the node's body has a variable, with the value that the name has in the program's one reaction, wherever this is not Nil.
-pub fn meanings_keep_the_chosen_names()
-    ensures ready { NamesLaw }
-    ensures text { TextNamesLaw }
+    ensures names { NamesLaw }
+    ensures names_of_text { TextNamesLaw }
 {
     programs_have_one_meaning_under_each_choice();
     removing_automata_keeps_classes();
