@@ -6,4 +6,4 @@ mod lines;
 mod making;
 mod walk;
 
-pub use making::{lose_cert, win_cert};
+pub use making::{Page, lose_cert, make_page, win_cert};

@@ -18,11 +18,11 @@ use hp_quant::Line;
 use indexmap::IndexSet;
 use std::alloc::{AllocError, Global};
 
-/// Lines, and references to them.
+/// Lines, and the numbers of some references among them: 0 is false, 1 is true, and 2 is the first line.
 #[derive(Drop)]
-struct Page {
-    lines: Vec<Line>,
-    numbers: Vec<usize>,
+pub struct Page {
+    pub lines: Vec<Line>,
+    pub numbers: Vec<usize>,
 }
 
 /// The lines of nodes that were visited, and the numbers of the references from which they were.
@@ -44,7 +44,8 @@ fn page_of(
     Ok(Page { lines, numbers })
 }
 
-fn make_page(alloc: Global, t: &Table, roots: &[Ref]) -> Result<Page, AllocError>
+/// The lines of some references, which are the nodes that these reach, each once and behind its children, low before high; and their numbers.
+pub fn make_page(alloc: Global, t: &Table, roots: &[Ref]) -> Result<Page, AllocError>
     requires { All (Has t.now) roots.now }
     ensures made { IfOk result (λ page. AreMade t.now roots.now page.lines.items page.numbers.items) }
     ensures functions { IfOk result (λ page. HaveFunctions t.now roots.now page.lines.items page.numbers.items) }

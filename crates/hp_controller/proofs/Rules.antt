@@ -1,0 +1,11 @@
+-- Sets of lemmas that functions name.
+use Rattle.std.proofs.lemmas.List.{map_more}
+use Rattle.hp_controller.proofs.NodeLaws.{registers-next, registers-end, gates-next, gates-end, lines-next, lines-end, outputs-next, outputs-end, range-next, variables-next}
+
+pub ruleset added = (lines-next, lines-end, outputs-next, outputs-end, gates-next, gates-end)
+
+pub ruleset numbered = (variables-next, range-next)
+
+pub ruleset stepped = (registers-next, registers-end)
+
+pub ruleset read = map_more

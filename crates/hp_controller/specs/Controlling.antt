@@ -1,0 +1,28 @@
+-- The controller of a Boolean machine.
+use Rattle.std.specs.Prelude.{◌≡◌, ⊤, ◌+◌, List, ◌++◌, length, map, codes}
+use Rattle.std.specs.List.{AllByRecursion}
+use Rattle.hp_base.specs.declared.value.Value.TheVariants.{B}
+use Rattle.hp_boolx.specs.Machine.{Machine, game}
+use Rattle.hp_boolx.specs.Search.{Bits}
+use Rattle.hp_boolx.specs.Solved.{IsChoice}
+use Rattle.hp_obc.specs.Machines.{ObcType}
+use Rattle.hp_flat.specs.Equations.{Right, operator, register, called, FlatEqn}
+use Rattle.hp_flat.specs.Nodes.{FlatNode}
+use Rattle.hp_flows.specs.Instants.{Instant}
+use Rattle.hp_flows.specs.Reactions.{Answers, Continues, outputs_at}
+use Rattle.hp_flows.specs.Kinding.{Callees, IsWellMade}
+
+-- an operator, which remembers nothing and asks no node
+abbrev pub IsOperator : Right → Type 0
+IsOperator (operator op args) = ⊤
+IsOperator (register first next) = ⊥
+IsOperator (called f args) = ⊥
+
+-- The node is the controller of the machine: it is named after it, takes the registers and the early bits, remembers nothing, and gives its choice at each state and all early values.
+pub record IsController (m : Machine) (node : FlatNode) : Type 0 where
+  pub name : node.name ≡ m.name ++ codes "$ctl"
+  pub inputs : node.inputs ≡ m.registers + m.early
+  pub stateless : AllByRecursion (λ (e : FlatEqn). IsOperator e.right) node.eqns
+  pub well_made : (types : List ObcType) (callees : Callees) → IsWellMade types callees node
+  pub gives : (answers : Answers) (past : List Instant) (r u : Bits) (now : Instant) → length r ≡ m.registers → length u ≡ m.early → Continues answers node past (map (λ b. B b) (r ++ u)) now
+      → (c : Bits) × IsChoice (game m) r u c × (outputs_at node now ≡ map (λ b. B b) c)

@@ -1,0 +1,49 @@
+//! The controller of a machine.
+ghost use Rattle.std.specs.Prelude.{◌≡◌, ◌++◌, ◌≤◌, length, codes, IfOk};
+ghost use Rattle.hp_boolx.specs.Machine.{game, variables};
+ghost use Rattle.hp_controller.specs.Controlling.{IsController};
+ghost use Rattle.hp_diagram.specs.Diagrams.{Keeps};
+ghost use Rattle.hp_synth.specs.Verdicts.{IsWon};
+
+use crate::node::node_of_lines;
+use hp_base::Name;
+use hp_boolx::BoolMachine;
+use hp_certmade::make_page;
+use hp_control::functions;
+use hp_flat::FlatNode;
+use hp_synth::Solved;
+use std::alloc::{AllocError, Global};
+
+/// The name of the controller of a node.
+fn controller_name(alloc: Global, node: &Name) -> Result<Name, AllocError>
+    requires { length node.now ≤ 255 }
+    ensures { IfOk result (λ name. name ≡ node.now ++ codes "$ctl") }
+{
+    let mut bytes = Vec::from_slice(alloc, node.bytes())?;
+    bytes.extend_from_slice(b"$ctl")?;
+    Name::new(alloc, &bytes)
+}
+
+/// The controller of a machine in which nothing is forced: at each state and all early values it gives the preferred permitted choice, and the preference where none is
+/// permitted. The verdict stays, and so does the function of each earlier reference.
+pub fn controller(alloc: Global, s: &mut Solved, m: &BoolMachine) -> Result<FlatNode, AllocError>
+    requires fits { variables m.now ≡ s.old.table.vars }
+    requires won { IsWon (game m.now) s.old.table s.old.verdict }
+    requires name { length m.now.name ≤ 255 }
+    ensures controller { IfOk result (IsController m.now) }
+    ensures verdict { s.new.verdict ≡ s.old.verdict }
+    ensures keeps { Keeps s.old.table s.new.table }
+{
+    let counts = m.counts;
+    let funs = functions(alloc, s, m)?;
+    let page = make_page(alloc, &s.table, &funs)?;
+    let name = controller_name(alloc, &m.name)?;
+    let node = node_of_lines(
+        alloc,
+        &name,
+        counts.registers + counts.early,
+        &page.lines,
+        &page.numbers,
+    )?;
+    Ok(node)
+}
