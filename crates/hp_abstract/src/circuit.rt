@@ -12,7 +12,7 @@ use crate::scope::{Layer, Scope};
 use crate::table::Tables;
 use hp_circuit::{Circuit, Role, Shape};
 use hp_drawing::{Draft, Entry, Place, TRUE};
-use hp_tree::{Contract, Decl, Node};
+use hp_tree::{Contract, Decl, Node, controls_of};
 use std::alloc::AllocError;
 
 /// A variable that is given.
@@ -37,15 +37,6 @@ fn add_given(
         add_one_given(role, tables.shape(&decl.ty), draft)?;
     }
     Ok(())
-}
-
-fn controls_of(contract: &Option<Contract>) -> &[Decl]
-    ensures { result.now ≡ controls_of contract.now }
-{
-    match contract {
-        None => &[],
-        Some(contract) => &contract.controls,
-    }
 }
 
 /// Outputs have no value but where they are defined.

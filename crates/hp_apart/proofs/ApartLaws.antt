@@ -17,7 +17,8 @@ use Rattle.hp_automata.specs.Lowering.{Enumerations, Types, lowered_contract, lo
 use Rattle.hp_lowered.specs.OldNames.{behind_sign, is_digit, all_digits, some_digits, IsOld}
 use Rattle.hp_lowered.specs.Removable.{AllOldDecls}
 use Rattle.hp_followed.specs.Premises.{first_byte, letter_of, is_taken}
-use Rattle.hp_fitting.specs.Fitting.{IsKept, signature_names, locals_of, NodeNamed}
+use Rattle.hp_made.specs.Blocks.{locals_of}
+use Rattle.hp_fitting.specs.Fitting.{IsKept, signature_names, NodeNamed}
 use Rattle.hp_apart.specs.Apart.{ScopedLaw, LoweredLaw}
 
 -- ---- old names are kept

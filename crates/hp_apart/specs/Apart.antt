@@ -6,7 +6,8 @@ use Rattle.hp_clocking.specs.Clocking.{AreOnce}
 use Rattle.hp_named.specs.Scoped.{also, interface, AreFresh}
 use Rattle.hp_automata.specs.Lowering.{Enumerations, lowered_node}
 use Rattle.hp_lowered.specs.Removable.{AllOldDecls}
-use Rattle.hp_fitting.specs.Fitting.{locals_of, NodeNamed}
+use Rattle.hp_made.specs.Blocks.{locals_of}
+use Rattle.hp_fitting.specs.Fitting.{NodeNamed}
 
 -- The names that a node declares outside of inner blocks are those of a text, or of variables of inlined calls.
 pub record NamesOld (n : Node) : Type 0 where

@@ -2,7 +2,6 @@ pub mod ListLaws
 pub mod NameLaws
 pub mod WordLaws
 pub mod LayerLaws
-pub mod RenamingLaws
 pub mod FrameLaws
 pub mod PartLaws
 pub mod BlockLaws

@@ -1,11 +1,8 @@
 -- Sets of lemmas that functions name.
-use Rattle.hp_tree.proofs.Lists.{nodes-at, nodes-at_part}
-use Rattle.hp_tree.proofs.KindSizes.{nodes-expr_at}
 use Rattle.hp_tree.proofs.BlockLists.{lines-at_eqn, lines-at_arm, lines-at_state}
 use Rattle.std.proofs.lemmas.List.{take_all, map_more, append-nil}
 use Rattle.hp_automata.proofs.ListLaws.{drop-end, front-more, more-nil, more-from_nil, more-one, more-append, more-cons, more-is, names-push, seen-pushed}
 use Rattle.hp_automata.proofs.LayerLaws.{said-here, said-further, said-all, declaring-next, enumerations-next}
-use Rattle.hp_automata.proofs.RenamingLaws.{exprs-mapped, parts-mapped}
 use Rattle.hp_automata.proofs.PartLaws.{transition-locals-next, choices-next, value-locals-next, joined-next, idle-next, locals-next, kept-next}
 use Rattle.hp_automata.proofs.BlockLaws.{declared-left, block-entered, body-entered, arms-mapped, eqns-end}
 use Rattle.hp_automata.proofs.WordLaws.{new-next, new-here, new-end, signed-old, signed-new}
@@ -21,12 +18,6 @@ pub ruleset once = (known-paired, paired-more, with-known, with-new, more-one, n
 pub ruleset signs = (new-next, new-here, new-end, signed-old, signed-new)
 
 pub ruleset pushed = seen-pushed
-
-pub ruleset renamed_kinds = (nodes-expr_at, nodes-at)
-
-pub ruleset renamed_exprs = (exprs-mapped, parts-mapped)
-
-pub ruleset renamed_in_exprs = (nodes-at, nodes-at_part, map_more)
 
 pub ruleset more = map_more
 

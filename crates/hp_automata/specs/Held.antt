@@ -2,14 +2,13 @@
 use Rattle.std.specs.Prelude.{ℕ, if◌then◌else◌, List, [], ◌∷◌, Option, None, Some}
 use Rattle.std.specs.Str.{bytes_eq}
 use Rattle.indexmap.specs.IndexMap.{get_by}
-use Rattle.hp_tree.specs.declared.decl.Cons.{Cons}
-use Rattle.hp_tree.specs.Expressions.{Expr}
 use Rattle.hp_automata.specs.declared.around.Layer.{Layer}
+use Rattle.hp_automata.specs.declared.around.States.{States}
 use Rattle.hp_automata.specs.declared.frame.Frame as held
 use Rattle.hp_automata.specs.declared.frame.Targets.{Targets}
 use Rattle.hp_automata.specs.NewNames.{value_name}
 use Rattle.hp_automata.specs.Names.{is_name}
-use Rattle.hp_automata.specs.Renaming.{renamed}
+use Rattle.hp_automata.specs.Renaming.{itself}
 use Rattle.hp_automata.specs.Lowering.{Frame}
 use Rattle.hp_automata.specs.Lists.{names_seen}
 
@@ -25,11 +24,12 @@ said_over to (l ∷ ls) x = said_over (said_by l to) ls x
 abbrev pub said : List Layer → List ℕ → List ℕ
 said ls x = said_over (λ y. y) ls x
 
-abbrev pub renamed_step : (List ℕ → List ℕ) → Cons × List ℕ → Cons × List ℕ
-renamed_step to s = (s.0, to s.1)
+-- what is read for names there, and what is declared
+abbrev pub read_in : States → List ℕ → List ℕ
+read_in states = said states.layers.now
 
-abbrev pub renamed_part : (List ℕ → List ℕ) → Cons × Expr → Cons × Expr
-renamed_part to p = (p.0, renamed to p.1)
+abbrev pub kept_in : States → List ℕ → List ℕ
+kept_in states = itself
 
 -- the number that a table of states has for a name
 abbrev pub says : Targets → List ℕ → Option ℕ

@@ -1,44 +1,34 @@
 -- Parts of a program in which other names stand for names. What stands behind `last` stays, and so does what is declared.
-use Rattle.std.specs.Prelude.{ℕ, List, map, option_map}
+use Rattle.std.specs.Prelude.{ℕ, List}
 use Rattle.hp_base.specs.declared.span.Span.{Span}
 use Rattle.hp_tree.specs.declared.decl.Cons.{Cons}
-use Rattle.hp_tree.specs.Expressions.{Expr, constant, variable, last_of, one, two, choose, pre, fby, arrow, when_is, merge, call, Exprs, no_expr, more_exprs, Parts, no_part, more_parts}
+use Rattle.hp_tree.specs.Expressions.{Expr, Exprs, Parts}
 use Rattle.hp_tree.specs.Blocks.{Decl}
+use Rattle.hp_renaming.specs.Renaming as parts
 
--- by a function on names
+abbrev pub itself : List ℕ → List ℕ
+itself x = x
+
+-- by a function on names that are read
 module _ (to : List ℕ → List ℕ) where
-  abbrev mutual
-    pub renamed : Expr → Expr
-    renamed (constant at c) = constant at c
-    renamed (variable at x) = variable at (to x)
-    renamed (last_of at x) = last_of at x
-    renamed (one at op a) = one at op (renamed a)
-    renamed (two at op a b) = two at op (renamed a) (renamed b)
-    renamed (choose at a b c) = choose at (renamed a) (renamed b) (renamed c)
-    renamed (pre at a) = pre at (renamed a)
-    renamed (fby at a b) = fby at (renamed a) (renamed b)
-    renamed (arrow at a b) = arrow at (renamed a) (renamed b)
-    renamed (when_is at a c x) = when_is at (renamed a) c (to x)
-    renamed (merge at x ps) = merge at (to x) (renamed_parts ps)
-    renamed (call at f inlined es) = call at f inlined (renamed_exprs es)
+  abbrev pub renamed : Expr → Expr
+  renamed = parts.renamed to itself
 
-    pub renamed_exprs : Exprs → Exprs
-    renamed_exprs no_expr = no_expr
-    renamed_exprs (more_exprs e es) = more_exprs (renamed e) (renamed_exprs es)
+  abbrev pub renamed_exprs : Exprs → Exprs
+  renamed_exprs = parts.renamed_exprs to itself
 
-    pub renamed_parts : Parts → Parts
-    renamed_parts no_part = no_part
-    renamed_parts (more_parts c e ps) = more_parts c (renamed e) (renamed_parts ps)
+  abbrev pub renamed_parts : Parts → Parts
+  renamed_parts = parts.renamed_parts to itself
 
   abbrev pub renamed_path : List (Cons × List ℕ) → List (Cons × List ℕ)
-  renamed_path path = map (λ (step : Cons × List ℕ). (step.0, to step.1)) path
+  renamed_path = parts.renamed_path to itself
 
   -- a declaration: its clock is read where it stands
   abbrev pub renamed_decl : Decl → Decl
-  renamed_decl d = record d { clock = option_map renamed_path d.clock }
+  renamed_decl = parts.renamed_decl to itself
 
   abbrev pub renamed_decls : List Decl → List Decl
-  renamed_decls ds = map renamed_decl ds
+  renamed_decls = parts.renamed_decls to itself
 
   abbrev pub renamed_left : List (List ℕ × Span) → List (List ℕ × Span)
-  renamed_left xs = map (λ (x : List ℕ × Span). (to x.0, x.1)) xs
+  renamed_left = parts.renamed_left to

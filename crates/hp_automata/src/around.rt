@@ -2,13 +2,14 @@
 ghost use Rattle.std.specs.Prelude.{◌≡◌, option_map, IfOk, OnOk};
 ghost use Rattle.hp_automata.specs.Lowering.{declaring, type_of, first_of, first_constructor, some_constant};
 ghost use Rattle.hp_automata.specs.Names.{is_name};
-ghost use Rattle.hp_automata.specs.Held.{said};
+ghost use Rattle.hp_automata.specs.Held.{said, read_in, kept_in};
 ghost use Rattle.hp_automata.specs.Lists.{names_seen};
 
 use crate::names::Names;
 use crate::new_names::value_name;
 use hp_base::{Const, Name, Ty};
 use hp_known::Known;
+use hp_renaming::Renaming;
 use hp_tree::{Decl, TypeDecl};
 use std::alloc::{AllocError, Global};
 
@@ -60,6 +61,26 @@ pub fn said(alloc: Global, layers: &[Layer<'_>], name: &Name) -> Result<Name, Al
         }
     }
     name.copy(alloc)
+}
+
+/// The states around a place, the outermost first, whose values stand for names that are read.
+#[derive(Clone, Copy)]
+pub struct States<'t> {
+    pub layers: &'t [Layer<'t>],
+}
+
+impl Renaming for States<'_> {
+    ghost reads = { read_in };
+
+    ghost declares = { kept_in };
+
+    fn read(&self, alloc: Global, name: &Name) -> Result<Name, AllocError> {
+        said(alloc, self.layers, name)
+    }
+
+    fn declared(&self, alloc: Global, name: &Name) -> Result<Name, AllocError> {
+        name.copy(alloc)
+    }
 }
 
 /// What is known at a place of a node.

@@ -11,16 +11,16 @@ ghost use Rattle.hp_automata.specs.Inside.{locals_of, declared_in, lowered_insid
 ghost use Rattle.hp_automata.specs.Held.{frame_seen, said};
 ghost use Rattle.hp_automata.specs.Lists.{names_seen, with_more, front};
 
-use crate::around::{Around, Enums, Layer, declare};
+use crate::around::{Around, Enums, Layer, States, declare};
 use crate::defined::names_of_arms;
 use crate::definitions::{constant, push_eqn};
 use crate::frame::Frame;
 use crate::kept::add_kept;
 use crate::new_names::Word;
-use crate::rename::{rename_decls, rename_expr, rename_left};
 use crate::states::{add_choosing, add_frame_eqns, add_switch, add_weak, frame_locals, idle};
 use crate::transitions::add_transition_locals;
 use hp_base::{Const, Name, Span};
+use hp_renaming::{rename_decls, rename_expr, rename_left};
 use hp_tree::{Arm, Block, Decl, Eqn, State, Trans};
 use std::alloc::{AllocError, Global};
 
@@ -93,7 +93,13 @@ fn lower_inside<'a>(
     ensures types { OnOk result (around.new.types ≡ around.old.types) }
     ensures layers { OnOk result (around.new.layers.items ≡ around.old.layers.items) }
 {
-    let locals = rename_decls(alloc, &around.layers, &block.locals)?;
+    let locals = rename_decls(
+        alloc,
+        &States {
+            layers: &around.layers,
+        },
+        &block.locals,
+    )?;
     let mut eqns = Vec::new(alloc);
     add_lowered(alloc, enums, around, &block.eqns, &mut eqns)?;
     add_kept(alloc, &around.layers, span, names, block, &mut eqns)?;
@@ -136,17 +142,41 @@ fn lower_eqn<'a>(
     match eqn {
         Eqn::Def { span, names, right } => Ok(Eqn::Def {
             span: *span,
-            names: rename_left(alloc, &around.layers, names)?,
-            right: rename_expr(alloc, &around.layers, right)?,
+            names: rename_left(
+                alloc,
+                &States {
+                    layers: &around.layers,
+                },
+                names,
+            )?,
+            right: rename_expr(
+                alloc,
+                &States {
+                    layers: &around.layers,
+                },
+                right,
+            )?,
         }),
         Eqn::Switch { span, cond, arms } => Ok(Eqn::Switch {
             span: *span,
-            cond: rename_expr(alloc, &around.layers, cond)?,
+            cond: rename_expr(
+                alloc,
+                &States {
+                    layers: &around.layers,
+                },
+                cond,
+            )?,
             arms: lower_arms(alloc, enums, around, arms)?,
         }),
         Eqn::Reset { span, body, cond } => Ok(Eqn::Reset {
             span: *span,
-            cond: rename_expr(alloc, &around.layers, cond)?,
+            cond: rename_expr(
+                alloc,
+                &States {
+                    layers: &around.layers,
+                },
+                cond,
+            )?,
             body: lower_block(alloc, enums, around, *span, &[], body)?,
         }),
         Eqn::Automaton { span, states } => lower_automaton(alloc, enums, around, *span, states),
@@ -340,7 +370,7 @@ fn body_locals(
 ) -> Result<Vec<Decl>, AllocError>
     ensures { IfOk result (λ locals. locals.items ≡ with_more (renamed_decls (said layers.now) (locals_of block.now)) (transition_locals (frame_seen frame.now) Weak number 0 until.now)) }
 {
-    let mut locals = rename_decls(alloc, layers, &block.locals)?;
+    let mut locals = rename_decls(alloc, &States { layers }, &block.locals)?;
     add_transition_locals(alloc, frame, Word::Weak, number, until, &mut locals)?;
     Ok(locals)
 }

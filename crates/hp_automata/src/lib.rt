@@ -13,7 +13,6 @@ mod kept;
 mod names;
 mod new_names;
 mod programs;
-mod rename;
 mod states;
 mod transitions;
 

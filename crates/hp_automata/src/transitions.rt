@@ -9,11 +9,11 @@ ghost use Rattle.hp_automata.specs.Renaming.{renamed};
 ghost use Rattle.hp_automata.specs.Held.{frame_seen, said, target_in};
 ghost use Rattle.hp_automata.specs.Lists.{with_more};
 
-use crate::around::Layer;
+use crate::around::{Layer, States};
 use crate::definitions::{add_definition, choose, code, following, number, on_base, variable};
 use crate::frame::Frame;
 use crate::new_names::{Word, transition_word};
-use crate::rename::rename_expr;
+use hp_renaming::rename_expr;
 use hp_tree::{Decl, Eqn, Expr, Trans, Ty};
 use std::alloc::{AllocError, Global};
 
@@ -91,7 +91,7 @@ fn choice(
 ) -> Result<Expr, AllocError>
     ensures { IfOk result (λ expr. expr ≡ choose frame.now.span (renamed (said layers.now) transition.now.cond) (number frame.now.span (code (target_in frame.now.targets transition.now.target) transition.now.restart)) (chosen (frame_seen frame.now) chain.entry.word chain.entry.state (length chain.entry.transitions.now) chain.entry.end.now (i + 1))) }
 {
-    let condition = rename_expr(alloc, layers, &transition.cond)?;
+    let condition = rename_expr(alloc, &States { layers }, &transition.cond)?;
     let target = frame.targets.of(&transition.target);
     let jump = number(alloc, frame.span, code(target, transition.restart)?)?;
     let other = chosen(alloc, frame, chain, following(i)?)?;

@@ -4,7 +4,7 @@ use Rattle.std.proofs.Math.Path.{fun_ext}
 use Rattle.std.specs.Prelude.{Bool, true, false, IsTrue, ⊤, if◌then◌else◌, reverse}
 use Rattle.std.specs.Str.{bytes_eq}
 use Rattle.hp_base.specs.declared.value.Value.{Value}
-use Rattle.hp_base.specs.declared.value.Value.TheVariants.{Absent, Star}
+use Rattle.hp_base.specs.declared.value.Value.TheVariants.{Star}
 use Rattle.hp_tree.specs.declared.expr.Op2.{Op2}
 use Rattle.hp_tree.specs.declared.program.Item.{Item}
 use Rattle.hp_tree.specs.declared.program.Item.TheVariants.{TypeItem, NodeItem}
@@ -12,7 +12,7 @@ use Rattle.hp_tree.specs.Blocks.{Decl}
 use Rattle.hp_tree.specs.Programs.{TypeDecl, Node}
 use Rattle.hp_tree.specs.Operators.{Reading, real, abstraction, marked, two_marked, is_comparison, is_there, constant_of}
 use Rattle.hp_tree.specs.Instant.{Controls, Observer, Assume, Enforce, nothing, in_node, Named, Fresh, Head, Tail, Instance, Place, Instant, Past, part, top}
-use Rattle.hp_tree.specs.Meaning.{Names, Nodes, no_nodes, lasts, input_of, observer, types_of, controls_of, given_to, node, nodes, meaning}
+use Rattle.hp_tree.specs.Meaning.{Names, absent, Nodes, no_nodes, lasts, input_of, observer, types_of, controls_of, given_to, node, nodes, meaning}
 use Rattle.hp_causal.specs.Agreement.{AgreeAtControls, GivenLaw, OneByControlsLaw, AgreeAtFree, AbstractGivenLaw, OneByFreeLaw}
 use Rattle.hp_causal.proofs.Fix.{Fixed}
 use Rattle.hp_causal.proofs.Swap.{AgreeWhere, OfParts, SameOperators, given, observer_swap, node_swap_given}
@@ -89,9 +89,6 @@ one_by_controls program f (vs ∷ inputs) (free ∷ frees) (other ∷ others) (i
     ((λ p. one.only j met' p ∙ sym (one.only i met p)), e)
 
 -- ---- the abstraction
-
-abbrev absent : Names
-absent x = Absent
 
 abbrev Free : Related
 Free free other now = AgreeAtFree now free other

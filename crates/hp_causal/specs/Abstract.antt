@@ -2,17 +2,13 @@
 use Rattle.std.specs.Prelude.{ℕ, List, [], ◌∷◌, map, reverse, if◌then◌else◌}
 use Rattle.std.specs.Str.{bytes_eq}
 use Rattle.hp_base.specs.declared.value.Value.{Value}
-use Rattle.hp_base.specs.declared.value.Value.TheVariants.{Absent}
 use Rattle.hp_tree.specs.declared.program.Item.{Item}
 use Rattle.hp_tree.specs.declared.program.Item.TheVariants.{TypeItem, NodeItem}
 use Rattle.hp_tree.specs.Blocks.{Decl}
 use Rattle.hp_tree.specs.Programs.{TypeDecl, Node}
 use Rattle.hp_tree.specs.Operators.{abstraction, constant_of, marked}
 use Rattle.hp_tree.specs.Instant.{Named, Instant, Given, nothing, in_node}
-use Rattle.hp_tree.specs.Meaning.{Names, Nodes, types_of, names_of, no_nodes, lasts, input_of, observer, node}
-
-abbrev absent : Names
-absent x = Absent
+use Rattle.hp_tree.specs.Meaning.{Names, absent, Nodes, types_of, names_of, no_nodes, lasts, input_of, observer, node}
 
 -- the outputs of a call: any values that are given, an integer as its mark
 abbrev pub given_outputs : List Decl → Instant → Names → Names

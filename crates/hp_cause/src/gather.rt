@@ -20,7 +20,7 @@ use crate::table::Locals;
 use hp_base::{Name, Span};
 use hp_causal::PointKind;
 use hp_defining::{Layer, declared_names, names_in, names_of, outer_names, sight};
-use hp_tree::{Arm, Block, Contract, Decl, Eqn, Expr, Node, State};
+use hp_tree::{Arm, Block, Contract, Decl, Eqn, Expr, Node, State, controls_of};
 use std::alloc::{AllocError, Global};
 
 /// What is known at a place of a node.
@@ -606,15 +606,6 @@ fn add_controls<'a>(decls: &'a [Decl], facts: &mut Vec<Fact<'a>>) -> Result<(), 
         stand(PointKind::Def, decl.name.bytes(), decl.span, Some(i), facts)?;
     }
     Ok(())
-}
-
-fn controls_of(contract: &Option<Contract>) -> &[Decl]
-    ensures { result.now ≡ controls_of contract.now }
-{
-    match contract {
-        None => &[],
-        Some(contract) => &contract.controls,
-    }
 }
 
 /// Begins with the controllable variables: adds them, and gives the layer of their vertices.

@@ -29,9 +29,9 @@ use Rattle.hp_answered.proofs.FlatCallLaws.{flatten_same}
 use Rattle.hp_choosing.specs.Choices.{Choices}
 use Rattle.hp_choosing_runs.specs.Chosen.{chosen_nodes}
 use Rattle.hp_choosing_runs.proofs.Chosen.{outputs_alike}
+use Rattle.hp_made.proofs.MadeLaw.{NamesStand, stands-kept}
 use Rattle.hp_choosing_flat.specs.Answering.{chosen_filled}
 use Rattle.hp_choosing_flat.proofs.Behave.{outputs_behind}
-use Rattle.hp_choosing_flat.proofs.BodyNames.{NamesStand, names-stand}
 
 -- A node of a program without automata, and clocked equations that stand for its flat names, with its controllable variables behind its inputs.
 pub record StandsFlat (choices : Choices) (program : List Item) (fills : List ℕ → Place → Value) (later earlier : List Item) (n : Node) (means : ℕ → FlatName) (flat : FlatNode) : Type 0 where
@@ -73,7 +73,7 @@ stands_flat K choices program fills k apart knows later earlier n flat is keeps 
     let whole = filled_nodes program in
     let chosen = chosen_filled choices program in
     let before = chosen_nodes choices types filled earlier in
-    let kept = names-stand K types whole.outputs k (fills n.name) n flat knows is.ready keeps is.inputs is.outputs is.equations in
+    let kept = stands-kept K types whole.outputs k (fills n.name) n flat knows is.ready keeps is.inputs is.outputs is.equations in
     let s = kept.0 in
     let split : reverse program ≡ (later ++ NodeItem n ∷ []) ++ earlier = is.stands ∙ sym (append_assoc later (NodeItem n ∷ []) earlier) in
     let alike : (f : List ℕ) → whole.outputs f ≡ chosen.outputs f = λ f. sym (outputs_alike choices types filled (reverse program) f) in

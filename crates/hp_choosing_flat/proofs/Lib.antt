@@ -4,6 +4,5 @@ pub mod Values
 pub mod Among
 pub mod Along
 pub mod Rows
-pub mod BodyNames
 pub mod Flat
 pub mod Nodes

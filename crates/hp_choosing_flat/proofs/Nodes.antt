@@ -56,6 +56,7 @@ use Rattle.hp_timely.proofs.NodeRows.{name_rows}
 use Rattle.hp_timely.proofs.Rows.{OptFits}
 use Rattle.hp_timely.proofs.KeptLaws.{keeps}
 use Rattle.hp_timely.proofs.BeginLaws.{begins}
+use Rattle.hp_made.proofs.MadeLaw.{NamesStand}
 use Rattle.hp_choosing.specs.Choices.{Choice, Choices, ReactionUnder, with_chosen}
 use Rattle.hp_choosing.specs.Meaning.{GivesAnswer}
 use Rattle.hp_choosing_runs.specs.Chosen.{inputs_at, chosen_given, chosen_nodes, chosen_meaning}
@@ -67,7 +68,6 @@ use Rattle.hp_choosing_flat.proofs.Behave.{outputs_answered, outputs_here, insta
 use Rattle.hp_choosing_flat.proofs.Values.{steered_fits, callees}
 use Rattle.hp_choosing_flat.proofs.Among.{Accepted, accepted_at, tested_at, ranked_at, each_at, given_at, among_behind, has_among}
 use Rattle.hp_choosing_flat.proofs.Along.{meets_along, timely_along, with_all, along_so, told_of}
-use Rattle.hp_choosing_flat.proofs.BodyNames.{NamesStand}
 use Rattle.hp_choosing_flat.proofs.Flat.{StandsFlat, stands_flat}
 use Rattle.hp_choosing_flat.proofs.Rows.{same_row, row_read, are_long, steered_each, all_filled, values_given}
 

@@ -3,7 +3,6 @@
 use Rattle.std.specs.Prelude.{◌≡◌, ℕ, Bool, true, ◌||◌, List, [], ◌∷◌, map, reverse, Option, Some}
 use Rattle.hp_base.specs.declared.value.Value.{Value}
 use Rattle.hp_tree.specs.declared.program.Item.{Item}
-use Rattle.hp_tree.specs.Blocks.{Decl, Block, block}
 use Rattle.hp_tree.specs.Programs.{Node}
 use Rattle.hp_tree.specs.Values.{AreOf}
 use Rattle.hp_tree.specs.Operators.{filled}
@@ -19,6 +18,7 @@ use Rattle.hp_flat.specs.Nodes.{FlatNode}
 use Rattle.hp_flows.specs.Instants.{Instant}
 use Rattle.hp_flows.specs.Reactions.{Answers}
 use Rattle.hp_made.specs.Making.{Known, Sight, Body, base_site, unknown, over, sketch_block}
+use Rattle.hp_made.specs.Blocks.{locals_of}
 use Rattle.hp_made.specs.Standing.{Knows}
 use Rattle.hp_made.specs.Laws.{around_body}
 use Rattle.hp_answered.specs.Answering.{given_each, filled_nodes, AreApart}
@@ -31,10 +31,6 @@ use Rattle.hp_choosing_runs.specs.Laws.{ChoosesValues}
 use Rattle.hp_choosing_flat.specs.Answering.{AnsweringUnder, ControlsDiffer}
 
 -- ---- names and their variables
-
--- what a block declares
-abbrev pub locals_of : Block → List Decl
-locals_of (block ds es) = ds
 
 -- The names of a node's body: the outputs, and what its outermost block declares.
 abbrev pub is_body_name : Node → List ℕ → Bool

@@ -21,7 +21,7 @@ use Rattle.hp_choosing.specs.Choices.{Choices, ReactionUnder, ChoicesOfKinds, Is
 use Rattle.hp_choosing.specs.Meaning.{AreInTurn, GivesAnswers, HasOneMeaningUnder}
 use Rattle.hp_choosing_streams.specs.Alike.{AlikeLaw}
 use Rattle.hp_choosing_streams.specs.Names.{IsOnlyReaction}
-use Rattle.hp_choosing_streams.proofs.Taken.{reaction_alike}
+use Rattle.hp_on_clocks.proofs.Meanings.{reaction_alike}
 
 -- ---- names
 

@@ -1,4 +1,3 @@
-mod Taken
 mod Alike
 mod Signatures
 mod TypeKinds

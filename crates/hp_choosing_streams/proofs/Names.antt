@@ -47,7 +47,8 @@ use Rattle.hp_choosing.specs.Programs.{controls_in, TextLaw as MeaningTextLaw}
 use Rattle.hp_choosing_runs.specs.Chosen.{chosen_meaning}
 use Rattle.hp_choosing_runs.specs.Laws.{ChoosesValues}
 use Rattle.hp_choosing_flat.specs.Answering.{AnsweringUnder, ControlsDiffer}
-use Rattle.hp_choosing_flat.specs.Names.{locals_of, is_body_name, values_of, ReadsNames, NamesLaw as NodeNamesLaw}
+use Rattle.hp_made.specs.Blocks.{locals_of}
+use Rattle.hp_choosing_flat.specs.Names.{is_body_name, values_of, ReadsNames, NamesLaw as NodeNamesLaw}
 use Rattle.hp_choosing_streams.specs.Names.{AreUnder, IsOnlyReaction, KeepsNamesOf, NamesLaw, TextNamesLaw}
 use Rattle.hp_choosing_streams.proofs.Alike.{only_law}
 use Rattle.hp_choosing_streams.proofs.Streams.{Prepared, one_made, all_of, ReadyLaws, Joined, joined, takes_its, filled_one, outputs_are}

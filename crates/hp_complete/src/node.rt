@@ -19,7 +19,7 @@ use crate::layer::Entry;
 use crate::order::order;
 use hp_base::Name;
 use hp_flat::FlatNode;
-use hp_tree::{Contract, Decl, Node};
+use hp_tree::{Decl, Node, controls_of};
 use std::alloc::{AllocError, Global};
 
 impl<'d, 'a> Draft<'d, 'a> {
@@ -92,16 +92,6 @@ impl<'d, 'a> Draft<'d, 'a> {
             Ok(()) => Ok(()),
             Err(error) => Err(error),
         }
-    }
-}
-
-/// The controllable variables of a contract.
-fn controls_of(contract: &Option<Contract>) -> &[Decl]
-    ensures { result.now ≡ controls_of contract.now }
-{
-    match contract {
-        None => &[],
-        Some(contract) => &contract.controls,
     }
 }
 

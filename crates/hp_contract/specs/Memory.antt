@@ -11,7 +11,7 @@ use Rattle.hp_tree.specs.Blocks.{Decl, Block, block, Eqns, no_eqn, more_eqns, Eq
 use Rattle.hp_tree.specs.Programs.{TypeDecl, Contract, Node}
 use Rattle.hp_tree.specs.Operators.{abstraction, constant_of}
 use Rattle.hp_tree.specs.Instant.{Body, Observer, Assume, Enforce, Named, Fresh, Equations, Head, Tail, Right, Test, Arms as ArmsOf, States as StatesOf, Until, Unless, First, Second, Third, Args, Instance, Instant, Past, part, parts, top, own, newest, at_first, nothing, with_one, with_two, with_three, in_row, with_row, with_instance, of_two, in_block, in_right, with_arms, with_body, in_state, with_words, in_observer}
-use Rattle.hp_tree.specs.Meaning.{Names, lasts, state_word, selected, types_of, node_among}
+use Rattle.hp_tree.specs.Meaning.{Names, absent, lasts, state_word, selected, types_of, node_among}
 use Rattle.hp_contract.specs.Codes.{to_bits}
 use Rattle.hp_contract.specs.Slots.{width_of, Register, registers, zero_at}
 
@@ -25,9 +25,6 @@ remembering v b i j p = Absent
 
 abbrev pub has_past : Past → Value
 has_past past = at_first past (B false) (B true)
-
-abbrev absent : Names
-absent x = Absent
 
 -- a name that is declared `last` here
 abbrev pub is_last : List Decl → List ℕ → Bool

@@ -6,7 +6,8 @@ use Rattle.hp_tree.specs.declared.block.Trans.{Trans}
 use Rattle.hp_tree.specs.Expressions.{Expr, constant, variable, last_of, one, two, choose, pre, fby, arrow, when_is, merge, call, Exprs, no_expr, more_exprs, Parts, no_part, more_parts}
 use Rattle.hp_tree.specs.Blocks.{Decl, Block, block, Eqns, no_eqn, more_eqns, Eqn, define, switch, reset, automaton, Arms, no_arm, more_arms, States, no_state, more_states}
 use Rattle.hp_tree.specs.Programs.{Node}
-use Rattle.hp_names.specs.Scopes.{nothing, with_variable, with_variables, inside, inside_node, controls_of}
+use Rattle.hp_tree.specs.Meaning.{controls_of}
+use Rattle.hp_names.specs.Scopes.{nothing, with_variable, with_variables, inside, inside_node}
 use Rattle.hp_names.specs.Rules.{ExprIsNamed, ExprsAreNamed, PartsAreNamed, TransitionsAreNamed, BlockIsNamed, EqnsAreNamed, EqnIsNamed, ArmsAreNamed, StatesAreNamed, NodeIsNamed}
 use Rattle.hp_expand.specs.Sizes.{places, join, deeper, of_call, in_expr, in_exprs, in_parts, in_right, in_transitions, in_block, in_eqns, in_eqn, in_arms, in_states}
 use Rattle.hp_counted.proofs.Replaced.{TypeOf, Size}

@@ -5,7 +5,7 @@ use Rattle.hp_base.specs.declared.value.Value.TheVariants.{Absent}
 use Rattle.hp_base.specs.declared.ty.Ty.{Ty}
 use Rattle.hp_tree.specs.ExpressionTypes.{typed_in, untyped}
 use Rattle.hp_tree.specs.Instant.{Named, Observer, Assume, Enforce, Instant, Clock, holds, nothing, Place as TreePlace}
-use Rattle.hp_tree.specs.Meaning.{Names, declares, input_of}
+use Rattle.hp_tree.specs.Meaning.{Names, declares, input_of, absent}
 use Rattle.hp_tree.specs.Programs.{TypeDecl, Contract, Node}
 use Rattle.hp_known.specs.Known.{lookup}
 use Rattle.hp_typing.specs.Scopes.{inside_node}
@@ -20,7 +20,7 @@ use Rattle.hp_contract.specs.Slots as slots
 use Rattle.hp_contract.specs.Slots.{callee_slots}
 use Rattle.hp_circuit.specs.Meaning.{truth}
 use Rattle.hp_mirror.specs.Memories.{AreApart}
-use Rattle.hp_wires.specs.Wired.{Held, absent, lasts_in}
+use Rattle.hp_wires.specs.Wired.{Held, lasts_in}
 use Rattle.hp_wires.specs.WiredCallees.{callee_wires, alone_names, wired_alone, shown_alone, next_alone}
 use Rattle.hp_wires.specs.WiredNodes.{contract_names}
 use Rattle.hp_wiretyped.specs.Typed.{IsWire, AreWires, OutputsTyped, ContractTyped}

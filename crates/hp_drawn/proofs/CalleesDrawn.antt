@@ -9,7 +9,7 @@ use Rattle.hp_tree.specs.declared.program.Item.{Item}
 use Rattle.hp_tree.specs.declared.program.Item.TheVariants.{TypeItem, NodeItem}
 use Rattle.hp_tree.specs.Blocks.{Decl}
 use Rattle.hp_tree.specs.Instant.{Named, Fresh, Instant, Clock, holds, Place as TreePlace}
-use Rattle.hp_tree.specs.Meaning.{Names, node_among, declares}
+use Rattle.hp_tree.specs.Meaning.{Names, node_among, declares, absent}
 use Rattle.hp_tree.specs.Operators.{marked, is_there}
 use Rattle.hp_tree.specs.Programs.{TypeDecl, Node}
 use Rattle.hp_causal.specs.Abstract.{given_outputs}
@@ -19,7 +19,7 @@ use Rattle.hp_contract.specs.Duties.{assumes, enforces}
 use Rattle.hp_contract.specs.Memory.{number_in, remembers_callee}
 use Rattle.hp_contract.specs.Slots.{callee_slots}
 use Rattle.hp_init.specs.Classes.{Assignment}
-use Rattle.hp_wires.specs.Wired.{Held, absent}
+use Rattle.hp_wires.specs.Wired.{Held}
 use Rattle.hp_wires.specs.WiredCallees.{outputs_by, shown_by, wired_by, next_by, wired_alone, next_alone}
 use Rattle.hp_wiretyped.specs.Typed.{AreWires}
 use Rattle.hp_wiretyped.specs.Callees.{AloneTyped, AloneKept, AloneGiven, CalleeTyped, CalleeKept, CalleeGiven}

@@ -10,7 +10,7 @@ use Rattle.hp_base.specs.declared.value.Value.TheVariants.{Absent}
 use Rattle.hp_tree.specs.Blocks.{Decl}
 use Rattle.hp_tree.specs.ExpressionTypes.{typed_in, untyped}
 use Rattle.hp_tree.specs.Instant.{Named, Instant, Place as TreePlace}
-use Rattle.hp_tree.specs.Meaning.{Names, declares, input_of, lasts}
+use Rattle.hp_tree.specs.Meaning.{Names, declares, input_of, lasts, absent}
 use Rattle.hp_tree.specs.Programs.{TypeDecl, Node}
 use Rattle.hp_known.specs.Known.{lookup}
 use Rattle.hp_typed.specs.Scopes.{Scope as TypeScope}
@@ -19,7 +19,7 @@ use Rattle.hp_valued.specs.Judged.{lasts_in as known_lasts, no_lasts, HaveOwnTyp
 use Rattle.hp_contract.specs.Memory.{number_in, is_last}
 use Rattle.hp_contract.specs.Slots.{is_int}
 use Rattle.hp_mirror.specs.Memories.{AreApart}
-use Rattle.hp_wires.specs.Wired.{absent, lasts_in, value}
+use Rattle.hp_wires.specs.Wired.{lasts_in, value}
 use Rattle.hp_wiretyped.specs.Typed.{AreWires, OutputsTyped}
 use Rattle.hp_wiretyped.specs.Kept.{LastsKept}
 use Rattle.hp_wiretyped.proofs.Scopes.{last_declared, last_further}

@@ -11,7 +11,7 @@ use Rattle.hp_tree.specs.Blocks.{Decl, block, Eqns}
 use Rattle.hp_tree.specs.ExpressionTypes as types_shown
 use Rattle.hp_tree.specs.ExpressionTypes.{typed_in}
 use Rattle.hp_tree.specs.Instant.{Named, Instant, Place as TreePlace}
-use Rattle.hp_tree.specs.Meaning.{Names, declares, some_defines, inside as inside_names, lasts}
+use Rattle.hp_tree.specs.Meaning.{Names, declares, some_defines, inside as inside_names, lasts, absent}
 use Rattle.hp_tree.specs.Programs.{TypeDecl, Node}
 use Rattle.hp_known.specs.Known.{lookup}
 use Rattle.hp_typing.specs.Scopes.{with_variables}
@@ -23,7 +23,7 @@ use Rattle.hp_contract.specs.Memory.{number_in, is_last}
 use Rattle.hp_contract.specs.Slots as slots
 use Rattle.hp_contract.specs.Slots.{is_int}
 use Rattle.hp_mirror.specs.Memories.{AreApart}
-use Rattle.hp_wires.specs.Wired.{absent, lasts_in, value}
+use Rattle.hp_wires.specs.Wired.{lasts_in, value}
 use Rattle.hp_wiretyped.specs.Typed.{IsWire, NamesTyped}
 use Rattle.hp_wiretyped.specs.Kept.{LastsKept}
 use Rattle.hp_wiretyped.proofs.Exprs.{LastsAre, as_wire}

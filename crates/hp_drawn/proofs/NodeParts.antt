@@ -8,7 +8,7 @@ use Rattle.hp_tree.specs.declared.program.Item.TheVariants.{TypeItem, NodeItem}
 use Rattle.hp_tree.specs.Blocks.{Decl, Block, block}
 use Rattle.hp_tree.specs.Operators.{abstraction}
 use Rattle.hp_tree.specs.Instant.{Named, Controls, Head, Tail, Instant, Clock, part, alone, in_row, Place as TreePlace}
-use Rattle.hp_tree.specs.Meaning.{Names, declares, some_defines, block_defines, controls_of, given_to, no_nodes, input_of}
+use Rattle.hp_tree.specs.Meaning.{Names, declares, some_defines, block_defines, controls_of, given_to, no_nodes, input_of, absent}
 use Rattle.hp_tree.specs.Programs.{TypeDecl, Node}
 use Rattle.hp_known.specs.Known.{lookup}
 use Rattle.hp_typing.specs.Scopes.{with_variables, inside_node}
@@ -24,7 +24,7 @@ use Rattle.hp_contract.specs.Memory.{number_in}
 use Rattle.hp_circuit.specs.Meaning.{truth}
 use Rattle.hp_circuit.specs.declared.circuit.Shape.TheVariants.{Truth}
 use Rattle.hp_circuit.specs.declared.circuit.Wire.TheVariants as wire
-use Rattle.hp_wires.specs.Wired.{Callees, absent, lasts_in}
+use Rattle.hp_wires.specs.Wired.{Callees, lasts_in}
 use Rattle.hp_wires.specs.WiredNodes.{controls_in, body_names, contract_names}
 use Rattle.hp_wires.specs.WiredBlocks.{read_of}
 use Rattle.hp_wiretyped.specs.Typed.{IsWire, AreWires, OutputsTyped}

@@ -7,7 +7,7 @@ use Rattle.hp_tree.specs.Blocks.{Decl}
 use Rattle.hp_tree.specs.Expressions.{Expr}
 use Rattle.hp_tree.specs.ExpressionTypes.{typed_in, untyped}
 use Rattle.hp_tree.specs.Instant.{Step, Controls, Tail, Body, Observer, Assume, Enforce, Instant, part, top, Place as TreePlace}
-use Rattle.hp_tree.specs.Meaning.{Names, node_among, declares, controls_of, input_of, names_of}
+use Rattle.hp_tree.specs.Meaning.{Names, node_among, declares, controls_of, input_of, names_of, absent}
 use Rattle.hp_tree.specs.Programs.{Contract, Node}
 use Rattle.hp_known.specs.Known.{lookup}
 use Rattle.hp_typed.specs.Scopes.{Scope as TypeScope}
@@ -20,7 +20,7 @@ use Rattle.hp_contract.specs.FreePlaces.{calls_of}
 use Rattle.hp_contract.specs.Memory.{number_in, remembers_contract}
 use Rattle.hp_contract.specs.Slots.{is_int, slots_of_contract}
 use Rattle.hp_circuit.specs.Meaning.{truth}
-use Rattle.hp_wires.specs.Wired.{Held, held_at, Callees, absent}
+use Rattle.hp_wires.specs.Wired.{Held, held_at, Callees}
 use Rattle.hp_wires.specs.WiredNodes.{wired_observer, shown_observer, next_observer}
 use Rattle.hp_wires.specs.WiredCallees.{callee_wires}
 use Rattle.hp_wiretyped.specs.Typed.{AreWires, ContractTyped}

@@ -9,7 +9,7 @@ use Rattle.hp_base.specs.declared.value.Value.TheVariants.{Absent}
 use Rattle.hp_tree.specs.Blocks.{Decl}
 use Rattle.hp_tree.specs.ExpressionTypes.{Scope as ScopeOfTypes, typed_in, untyped}
 use Rattle.hp_tree.specs.Instant.{Step, Named, Inputs, Controls, Body, Observer, Assume, Enforce, Instant, part, Place as TreePlace}
-use Rattle.hp_tree.specs.Meaning.{Names, node_among, declares, controls_of, input_of}
+use Rattle.hp_tree.specs.Meaning.{Names, node_among, declares, controls_of, input_of, absent}
 use Rattle.hp_tree.specs.Programs.{Node}
 use Rattle.hp_known.specs.Known.{lookup}
 use Rattle.hp_typing.specs.Scopes.{with_variables, inside_node}
@@ -26,7 +26,7 @@ use Rattle.hp_contract.specs.Slots as slots
 use Rattle.hp_contract.specs.Slots.{input, control, is_int, slots_of_block, slots_of_contract}
 use Rattle.hp_circuit.specs.declared.circuit.Role.TheVariants as role
 use Rattle.hp_circuit.specs.Meaning.{truth}
-use Rattle.hp_wires.specs.Wired.{Held, held_at, Callees, absent, lasts_in}
+use Rattle.hp_wires.specs.Wired.{Held, held_at, Callees, lasts_in}
 use Rattle.hp_wires.specs.WiredBlocks.{read_of}
 use Rattle.hp_wires.specs.WiredNodes.{remembers_in, controls_in, body_names, contract_names, wired_node, shown_node, next_node}
 use Rattle.hp_wires.specs.WiredCallees.{callee_wires}

@@ -22,6 +22,7 @@ use Rattle.hp_compile.specs.declared.refusal.Place.{Place}
 use Rattle.hp_compile.specs.declared.refusal.Place.TheVariants.{Whole, At}
 use Rattle.hp_compile.specs.declared.refusal.Refusal.{Refusal}
 use Rattle.hp_compile.specs.declared.refusal.Refusal.TheVariants as refusal
+use Rattle.hp_exec.specs.Bounds.{most_chained, most_instances}
 use Rattle.hp_expand.specs.declared.error.ExpandErr.{ExpandErr}
 use Rattle.hp_expand.specs.declared.error.ExpandErr.TheVariants as expand
 use Rattle.hp_expand.specs.declared.error.Shape.{Shape}
@@ -135,8 +136,8 @@ cause_line cause.OutOfMemory = []
 
 -- A machine that is executed may have more on a chain of instances, and more instances, than a node of a program.
 abbrev pub most_executed : What → ℕ
-most_executed Calls = 70
-most_executed what = 250000
+most_executed Calls = most_chained
+most_executed what = most_instances
 
 abbrev pub executor_line : Limit → List ℕ
 executor_line limit = passed_line Whole limit.what limit.found (most_executed limit.what)

@@ -21,7 +21,7 @@ use Rattle.hp_machines.specs.Machined.{AreMachinesOf}
 use Rattle.hp_compile.specs.Refusals.{Causes}
 use Rattle.hp_compile.specs.declared.refusal.Refusal.{Refusal}
 use Rattle.hp_exec.specs.Answers.{IsPassed}
-use Rattle.hp_exec.specs.Bounds.{longest_chain, instance_count}
+use Rattle.hp_exec.specs.Bounds.{most_chained, most_instances, longest_chain, instance_count}
 use Rattle.hp_obc.specs.Form.{machine_named}
 use Rattle.hp_obc.specs.Machines.{Obc, Machine}
 use Rattle.hp_obctext.specs.Answers.{IsTextOf, BreaksForm}
@@ -99,8 +99,8 @@ pub data AreAskedFor (words : List (List ℕ)) (files : Option Files) (node : Li
 pub record IsMachine (node : List ℕ) (o : Obc) : Type 0 where
   pub machine : Machine
   pub named : machine_named o.machines node ≡ Some machine
-  pub chain : longest_chain o.machines node ≤ 70
-  pub count : instance_count o.machines node ≤ 250000
+  pub chain : longest_chain o.machines node ≤ most_chained
+  pub count : instance_count o.machines node ≤ most_instances
 
 -- The words ask to run this, and the file holds it: a node of a program without controllable variables whose contracts are kept, as it is once it is arranged, whose machine is within the limits; or a machine of a text of machines.
 pub data IsAskedFor (words : List (List ℕ)) (files : Option Files) : System → Type 0 where

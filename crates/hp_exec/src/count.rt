@@ -1,6 +1,6 @@
 ghost use Rattle.std.specs.Prelude.{◌≡◌, ◌≤◌, ℕ, List, suc, MatchResult};
 ghost use Rattle.hp_obc.specs.Steps.{Names};
-ghost use Rattle.hp_exec.specs.Bounds.{most_of, sum_of};
+ghost use Rattle.hp_exec.specs.Bounds.{most_chained, most_instances, most_of, sum_of};
 ghost use Rattle.hp_exec.specs.Counting.{count_at, capped_calls, capped_instances, HoldCalls, HoldInstances};
 ghost use Rattle.hp_exec.specs.Passing.{PassesLimit};
 ghost use Rattle.hp_exec.specs.Naming.{names_in};
@@ -58,7 +58,7 @@ pub fn count_of(names: &IndexSet<&[u8]>, counts: &[Count], insts: &[(Name, Name)
 impl Count {
     /// Whether the limits hold: first that of chains, and then that of instances.
     pub fn check(self) -> Result<(), ExecErr>
-        ensures { MatchResult result (λ _. (self.calls ≤ 70) × (self.instances ≤ 250000)) (λ e. PassesLimit self e) }
+        ensures { MatchResult result (λ _. (self.calls ≤ most_chained) × (self.instances ≤ most_instances)) (λ e. PassesLimit self e) }
     {
         if self.calls > MAX_CALLS {
             return Err(ExecErr::Limit(Limit {

@@ -1,15 +1,13 @@
--- The lists of a part under other names are lists of such parts.
+-- The lists of a block under other names are lists of such parts.
 use Rattle.std.proofs.Common.{◌≡◌, ℕ, ◌+◌, ◌<◌, get_or, length, take, map, List, [], ◌∷◌, ◌++◌, refl, sym, ap, ◌∙◌}
 use Rattle.std.proofs.lemmas.List.{append_assoc}
-use Rattle.hp_tree.specs.declared.decl.Cons.{Cons}
 use Rattle.hp_tree.specs.declared.block.Eqn as code_eqn
 use Rattle.hp_tree.specs.declared.block.Arm as code_arm
 use Rattle.hp_tree.specs.declared.block.State as code_state
 use Rattle.hp_tree.specs.BlockView.{eqn_seen, arm_seen, state_seen}
-use Rattle.hp_tree.specs.Expressions.{Expr, more_exprs, more_parts, exprs_of, parts_of}
 use Rattle.hp_tree.specs.Blocks.{Arm, Arms, more_arms, State, States, more_states, more_eqns, eqns_of, arms_of, states_of}
-use Rattle.hp_expand.specs.Renaming.{renamed, renamed_exprs, renamed_parts, renamed_eqns, renamed_eqn, renamed_arms, renamed_states}
-use Rattle.hp_expand.specs.Renamed.{renamed_part, renamed_arm, renamed_state}
+use Rattle.hp_expand.specs.Renaming.{renamed_eqns, renamed_eqn, renamed_arms, renamed_states}
+use Rattle.hp_expand.specs.Renamed.{renamed_arm, renamed_state}
 use Rattle.hp_expand.proofs.LayerLaws.{take-next}
 
 abbrev arms_of_one : Arm → Arms → Arms
@@ -19,14 +17,6 @@ abbrev states_of_one : State → States → States
 states_of_one q rest = more_states q.name q.body q.until q.unless q.span rest
 
 module _ (to : List ℕ → List ℕ) where
-  pub exprs-mapped : (es : List Expr) → renamed_exprs to (exprs_of es) ≡ exprs_of (map (renamed to) es)
-  exprs-mapped [] = refl
-  exprs-mapped (e ∷ es) = ap (more_exprs (renamed to e)) (exprs-mapped es)
-
-  pub parts-mapped : (ps : List (Cons × Expr)) → renamed_parts to (parts_of ps) ≡ parts_of (map (renamed_part to) ps)
-  parts-mapped [] = refl
-  parts-mapped (p ∷ ps) = ap (more_parts p.0 (renamed to p.1)) (parts-mapped ps)
-
   pub eqns-mapped : (es : List code_eqn.Eqn) → renamed_eqns to (eqns_of (map eqn_seen es)) ≡ eqns_of (map (λ e. renamed_eqn to (eqn_seen e)) es)
   eqns-mapped [] = refl
   eqns-mapped (e ∷ es) = ap (more_eqns (renamed_eqn to (eqn_seen e))) (eqns-mapped es)

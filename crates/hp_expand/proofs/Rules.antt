@@ -6,7 +6,7 @@ use Rattle.hp_tree.proofs.KindSizes.{nodes-expr_at}
 use Rattle.hp_expand.proofs.SizeLaws.{cap-left, cap-right, cap-deeper, cap-call, cap-none, exprs-next, parts-next, transitions-next, eqns-next, arms-next, states-next, drop-end}
 use Rattle.hp_expand.proofs.FoundLaws.{found_after-nil, found_after-append, found_after-cons, found_after-exprs, found_after-parts, found_after-transitions, found_after-controls, found_after-eqns, found_after-arms, found_after-states, shapes-type, shapes-broken, shapes-kept}
 use Rattle.hp_expand.proofs.LayerLaws.{new-next, new-here, new-end, stem-next, stem-here, stem-end, six-digits, number-silent, number-found, number-begin, numbers-next, new-decls-next}
-use Rattle.hp_expand.proofs.RenamingLaws.{exprs-mapped, parts-mapped, eqns-mapped, arms-mapped, states-mapped, grown-next, map-one}
+use Rattle.hp_expand.proofs.RenamingLaws.{eqns-mapped, arms-mapped, states-mapped, grown-next, map-one}
 use Rattle.hp_expand.proofs.LayerLaws.{said-entered}
 use Rattle.hp_expand.proofs.NumberingLaws.{front-more, front-left, block-entered, new-both, contract-numbered, behind-new, eqns-all, arms-all, states-all}
 use Rattle.hp_expand.proofs.MakingLaws.{more-nil, more-append, more-from_nil, seen-pushed, given-next, given-end, defined-next, defined-end, exprs-finished, parts-finished}
@@ -59,12 +59,6 @@ pub ruleset layers = (number-silent, number-found, number-begin)
 pub ruleset declared = (numbers-next, new-decls-next, drop-end)
 
 -- parts under other names
-pub ruleset renamed_kinds = (nodes-expr_at, nodes-at)
-
-pub ruleset renamed_exprs = (exprs-mapped, parts-mapped)
-
-pub ruleset renamed_in_exprs = (nodes-at, nodes-at_part, map_more)
-
 pub ruleset more = map_more
 
 pub ruleset added = (grown-next, append-nil)

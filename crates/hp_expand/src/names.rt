@@ -5,6 +5,7 @@ ghost use Rattle.hp_expand.specs.Numbering.{one_if_new, new_in_decls};
 ghost use Rattle.hp_expand.specs.Layers.{no_number, put_at, put_if_new, numbers_from, says, number_in, name_by, said};
 
 use hp_base::Name;
+use hp_renaming::Renaming;
 use hp_tree::Decl;
 use indexmap::IndexMap;
 use itoa::Buffer;
@@ -173,5 +174,19 @@ impl<'t> Naming<'t> {
             Naming::Marked(number) => with_number(alloc, 262, name.bytes(), number),
             Naming::Numbered(layers) => name_by(alloc, name, number_in(layers, name.bytes())),
         }
+    }
+}
+
+impl Renaming for Naming<'_> {
+    ghost reads = { said };
+
+    ghost declares = { said };
+
+    fn read(&self, alloc: Global, name: &Name) -> Result<Name, AllocError> {
+        self.name(alloc, name)
+    }
+
+    fn declared(&self, alloc: Global, name: &Name) -> Result<Name, AllocError> {
+        self.name(alloc, name)
     }
 }

@@ -8,7 +8,8 @@ ghost use Rattle.hp_expand.specs.Numbered.{front, entered, said_inside, own_new,
 ghost use Rattle.hp_expand.specs.Layers.{said, said_in};
 
 use crate::names::{Layer, Naming};
-use crate::rename::{rename_decls, rename_expr, rename_left, rename_transitions};
+use crate::rename::rename_transitions;
+use hp_renaming::{rename_decls, rename_expr, rename_left};
 use hp_tree::{Arm, Block, Contract, Eqn, Expr, Node, State, copy_decls};
 use std::alloc::{AllocError, Global};
 

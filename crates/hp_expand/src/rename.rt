@@ -1,146 +1,16 @@
-//! Parts of a program under other names.
-ghost use Rattle.std.specs.Prelude.{◌≡◌, ◌++◌, map, option_map, IfOk, OnOk};
-ghost use Rattle.hp_base.specs.declared.span.Span.{Span};
-ghost use Rattle.hp_tree.specs.ExpressionView.{expr_at};
-ghost use Rattle.hp_tree.specs.DeclView.{clock_seen};
+//! Blocks under other names.
+ghost use Rattle.std.specs.Prelude.{◌≡◌, ◌++◌, map, IfOk, OnOk};
 ghost use Rattle.hp_tree.specs.BlockView.{eqn_seen, arm_seen, state_seen};
-ghost use Rattle.hp_expand.specs.Renaming.{renamed, renamed_path, renamed_decl, renamed_left, renamed_transition, renamed_block, renamed_eqn};
-ghost use Rattle.hp_expand.specs.Renamed.{renamed_part, renamed_arm, renamed_state};
+ghost use Rattle.hp_expand.specs.Renaming.{renamed_decl, renamed_transition, renamed_block, renamed_eqn};
+ghost use Rattle.hp_expand.specs.Renamed.{renamed_arm, renamed_state};
 ghost use Rattle.hp_expand.specs.Layers.{said};
 
 use crate::names::Naming;
-use hp_base::{Const, Name, Span};
-use hp_tree::{Arm, Block, Cons, Decl, Eqn, Expr, ExprKind, State, Trans, copy_last};
+use hp_renaming::{rename_decls, rename_expr, rename_left};
+use hp_tree::{Arm, Block, Decl, Eqn, State, Trans};
 use std::alloc::{AllocError, Global};
 
-#[cycle(rename)]
-#[tactic(auto, using(crate::proofs::Rules::renamed_kinds))]
-pub fn rename_expr(alloc: Global, naming: &Naming<'_>, expr: &Expr) -> Result<Expr, AllocError>
-    ensures { IfOk result (λ other. other ≡ renamed (said naming.now) expr.now) }
-{
-    Expr::new(alloc, expr.span, rename_kind(alloc, naming, &expr.kind)?)
-}
-
-#[cycle(rename)]
-#[tactic(auto, using(crate::proofs::Rules::renamed_exprs))]
-fn rename_kind(alloc: Global, naming: &Naming<'_>, kind: &ExprKind) -> Result<ExprKind, AllocError>
-    ensures { IfOk result (λ other. (span : Span) → expr_at span other ≡ renamed (said naming.now) (expr_at span kind.now)) }
-{
-    match kind {
-        ExprKind::Const(c) => Ok(ExprKind::Const(c.copy(alloc)?)),
-        ExprKind::Name(x) => Ok(ExprKind::Name(naming.name(alloc, x)?)),
-        ExprKind::Last(x) => Ok(ExprKind::Last(naming.name(alloc, x)?)),
-        ExprKind::One(op, a) => Ok(ExprKind::One(*op, rename_expr(alloc, naming, a)?)),
-        ExprKind::Two(op, a, b) => Ok(ExprKind::Two(
-            *op,
-            rename_expr(alloc, naming, a)?,
-            rename_expr(alloc, naming, b)?,
-        )),
-        ExprKind::If(a, b, c) => Ok(ExprKind::If(
-            rename_expr(alloc, naming, a)?,
-            rename_expr(alloc, naming, b)?,
-            rename_expr(alloc, naming, c)?,
-        )),
-        ExprKind::Pre(a) => Ok(ExprKind::Pre(rename_expr(alloc, naming, a)?)),
-        ExprKind::Fby(a, b) => Ok(ExprKind::Fby(
-            rename_expr(alloc, naming, a)?,
-            rename_expr(alloc, naming, b)?,
-        )),
-        ExprKind::Arrow(a, b) => Ok(ExprKind::Arrow(
-            rename_expr(alloc, naming, a)?,
-            rename_expr(alloc, naming, b)?,
-        )),
-        ExprKind::When(a, c, x) => Ok(ExprKind::When(
-            rename_expr(alloc, naming, a)?,
-            c.copy(alloc)?,
-            naming.name(alloc, x)?,
-        )),
-        ExprKind::Merge(x, parts) => Ok(ExprKind::Merge(
-            naming.name(alloc, x)?,
-            rename_parts(alloc, naming, parts)?,
-        )),
-        ExprKind::Call {
-            node,
-            inlined,
-            args,
-        } => Ok(ExprKind::Call {
-            node: node.copy(alloc)?,
-            inlined: *inlined,
-            args: rename_args(alloc, naming, args)?,
-        }),
-    }
-}
-
-#[cycle(rename)]
-#[tactic(auto, using(crate::proofs::Rules::renamed_in_exprs))]
-fn rename_args(alloc: Global, naming: &Naming<'_>, args: &[Expr]) -> Result<Vec<Expr>, AllocError>
-    ensures { IfOk result (λ others. others.items ≡ map (renamed (said naming.now)) args.now) }
-{
-    let mut others = Vec::new(alloc);
-    for arg in args {
-        others.push(rename_expr(alloc, naming, arg)?)?;
-    }
-    Ok(others)
-}
-
-#[cycle(rename)]
-#[tactic(auto, using(crate::proofs::Rules::renamed_in_exprs))]
-fn rename_parts(
-    alloc: Global,
-    naming: &Naming<'_>,
-    parts: &[(Cons, Expr)],
-) -> Result<Vec<(Cons, Expr)>, AllocError>
-    ensures { IfOk result (λ others. others.items ≡ map (renamed_part (said naming.now)) parts.now) }
-{
-    let mut others = Vec::new(alloc);
-    for (cons, right) in parts {
-        others.push((cons.copy(alloc)?, rename_expr(alloc, naming, right)?))?;
-    }
-    Ok(others)
-}
-
-#[tactic(auto, using(crate::proofs::Rules::more))]
-fn rename_path(
-    alloc: Global,
-    naming: &Naming<'_>,
-    path: &[(Cons, Name)],
-) -> Result<Vec<(Cons, Name)>, AllocError>
-    ensures { IfOk result (λ others. others.items ≡ renamed_path (said naming.now) path.now) }
-{
-    let mut others = Vec::new(alloc);
-    for (cons, name) in path {
-        others.push((cons.copy(alloc)?, naming.name(alloc, name)?))?;
-    }
-    Ok(others)
-}
-
-fn rename_clock(
-    alloc: Global,
-    naming: &Naming<'_>,
-    clock: &Option<Vec<(Cons, Name)>>,
-) -> Result<Option<Vec<(Cons, Name)>>, AllocError>
-    ensures { IfOk result (λ other. clock_seen other ≡ option_map (renamed_path (said naming.now)) (clock_seen clock.now)) }
-{
-    match clock {
-        None => Ok(None),
-        Some(path) => Ok(Some(rename_path(alloc, naming, path)?)),
-    }
-}
-
-fn rename_decl(alloc: Global, naming: &Naming<'_>, decl: &Decl) -> Result<Decl, AllocError>
-    ensures { IfOk result (λ other. other ≡ renamed_decl (said naming.now) decl.now) }
-{
-    Ok(Decl {
-        name: naming.name(alloc, &decl.name)?,
-        ty: decl.ty.copy(alloc)?,
-        last: copy_last(alloc, &decl.last)?,
-        clock: rename_clock(alloc, naming, &decl.clock)?,
-        span: decl.span,
-    })
-}
-
 /// Adds the declarations, in order.
-#[tactic(auto, using(crate::proofs::Rules::added))]
 pub fn add_decls(
     alloc: Global,
     naming: &Naming<'_>,
@@ -149,38 +19,9 @@ pub fn add_decls(
 ) -> Result<(), AllocError>
     ensures { OnOk result (into.new.items ≡ into.old.items ++ map (renamed_decl (said naming.now)) decls.now) }
 {
-    for decl in decls {
-        into.push(rename_decl(alloc, naming, decl)?)?;
-    }
+    let mut more = rename_decls(alloc, naming, decls)?;
+    into.append(&mut more)?;
     Ok(())
-}
-
-pub fn rename_decls(
-    alloc: Global,
-    naming: &Naming<'_>,
-    decls: &[Decl],
-) -> Result<Vec<Decl>, AllocError>
-    ensures { IfOk result (λ others. others.items ≡ map (renamed_decl (said naming.now)) decls.now) }
-{
-    let mut others = Vec::new(alloc);
-    add_decls(alloc, naming, decls, &mut others)?;
-    Ok(others)
-}
-
-/// The names on the left of an equation.
-#[tactic(auto, using(crate::proofs::Rules::more))]
-pub fn rename_left(
-    alloc: Global,
-    naming: &Naming<'_>,
-    names: &[(Name, Span)],
-) -> Result<Vec<(Name, Span)>, AllocError>
-    ensures { IfOk result (λ others. others.items ≡ renamed_left (said naming.now) names.now) }
-{
-    let mut others = Vec::new(alloc);
-    for (name, span) in names {
-        others.push((naming.name(alloc, name)?, *span))?;
-    }
-    Ok(others)
 }
 
 fn rename_transition(

@@ -10,7 +10,8 @@ use Rattle.hp_flat.specs.declared.node.Variable.{Variable as VariableData}
 use Rattle.hp_flat.specs.Equations.{FlatEqn}
 use Rattle.hp_followed.specs.Premises.{names}
 use Rattle.hp_made.specs.Making.{Known, Sketch, Sight, Seen, Body, next, no_entry, nothing_made, unknown, base_site, over, with_variable, with_new, new_name, keeps_name, own_variable, with_own, own_names, declared, names_of_eqns, each_once, put, flat_type, signed, signature, remember_all, sketch_block, sketch_node}
-use Rattle.hp_fitting.specs.Fitting.{signature_names, locals_of, TargetsLaw}
+use Rattle.hp_made.specs.Blocks.{locals_of}
+use Rattle.hp_fitting.specs.Fitting.{signature_names, TargetsLaw}
 use Rattle.hp_fitting.proofs.Growth.{IsNew, AreNew, AllApart, both}
 use Rattle.hp_fitting.proofs.BlockGrowth.{remember-grown, eqns-grown}
 

@@ -10,7 +10,8 @@ use Rattle.hp_flat.specs.declared.node.Variable.{Variable as VariableData}
 use Rattle.hp_followed.specs.Premises.{is_taken, letter_of, IsOwn, names}
 use Rattle.hp_made.specs.Making.{is_in, new_name, each_once, sketch_node}
 use Rattle.hp_made.proofs.LayerLaws.{Once, names-once}
-use Rattle.hp_fitting.specs.Fitting.{is_made, IsKept, signature_names, locals_of, NamesLaw}
+use Rattle.hp_made.specs.Blocks.{locals_of}
+use Rattle.hp_fitting.specs.Fitting.{is_made, IsKept, signature_names, NamesLaw}
 use Rattle.hp_fitting.proofs.Letters.{new-letter, new-number}
 use Rattle.hp_fitting.proofs.Growth.{IsNew, AreNew}
 use Rattle.hp_fitting.proofs.NodeGrowth.{AreOwn, node-parts}

@@ -2,7 +2,6 @@
 use Rattle.std.specs.Prelude.{◌≡◌, ◌≤◌, ◌^◌, ℕ, Bool, true, false, nat_eq, List, ◌++◌, length, IsTrue}
 use Rattle.std.specs.List.{AllByRecursion, IsDistinct}
 use Rattle.std.specs.Str.{bytes_eq}
-use Rattle.hp_tree.specs.Blocks.{Decl, Block, block}
 use Rattle.hp_tree.specs.Programs.{Node}
 use Rattle.hp_tree.specs.Meaning.{declares, controls_of, names_of}
 use Rattle.hp_obc.specs.Form.{has_name}
@@ -11,6 +10,7 @@ use Rattle.hp_flattened.specs.Flatten.{Prefix}
 use Rattle.hp_flattened.specs.Behaves.{EachCallIn}
 use Rattle.hp_followed.specs.Programs.{CallsOnly}
 use Rattle.hp_followed.specs.Premises.{letter_of, IsOwn, names}
+use Rattle.hp_made.specs.Blocks.{locals_of}
 use Rattle.hp_made.specs.Making.{Known, sketch_node}
 
 -- the letter behind the first sign of the names that are made for variables
@@ -25,9 +25,6 @@ pub record IsKept (x : List ℕ) : Type 0 where
 -- the names of inputs, controllable variables and outputs
 abbrev pub signature_names : Node → List (List ℕ)
 signature_names n = names_of (n.inputs ++ controls_of n.contract) ++ names_of n.outputs
-
-abbrev pub locals_of : Block → List Decl
-locals_of (block ds es) = ds
 
 -- What is asked of the names of a node: those of its signature differ from each other and from those that its body declares, and all are kept.
 pub record NodeNamed (n : Node) : Type 0 where

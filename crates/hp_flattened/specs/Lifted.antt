@@ -6,7 +6,7 @@ use Rattle.hp_tree.specs.Blocks.{Decl}
 use Rattle.hp_tree.specs.Programs.{TypeDecl, Node}
 use Rattle.hp_tree.specs.Operators.{same_value, is_true}
 use Rattle.hp_tree.specs.Instant.{Controls, Body, Head, Tail, Place, Instant, Past, Given, part}
-use Rattle.hp_tree.specs.Meaning.{Names, input_of, controls_of}
+use Rattle.hp_tree.specs.Meaning.{Names, absent, input_of, controls_of}
 use Rattle.hp_flattened.specs.Flat.{name, value, Now, since, held}
 use Rattle.hp_flattened.specs.Flatten.{FlatName, Input, At, Free, Nowhere, IsFirst, Held, When, always, on, steps, ats, Prefix, Scope, lasts_at, node_scope}
 use Rattle.hp_flattened.specs.Timely.{Timely, scope_clocks}
@@ -37,9 +37,6 @@ abbrev mutual
   pub lifted_holds : List (Now FlatName) → Names → Instant → Instant → When → Bool
   lifted_holds G names free now always = true
   lifted_holds G names free now (on v x w) = same_value (lifted G names free now x) v && lifted_holds G names free now w
-
-abbrev absent : Names
-absent x = Absent
 
 -- what is given for some declarations, in a row
 abbrev pub given_to : List Decl → Instant → List Value

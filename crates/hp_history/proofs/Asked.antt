@@ -39,7 +39,8 @@ use Rattle.hp_readied.specs.Laws.{IsWhole}
 use Rattle.hp_readied.specs.Sound.{SoundBehind}
 use Rattle.hp_readied.proofs.Whole.{ready_scoped}
 use Rattle.hp_begun.specs.Laws.{BodyReady}
-use Rattle.hp_fitting.specs.Fitting.{locals_of, NodeNamed}
+use Rattle.hp_made.specs.Blocks.{locals_of}
+use Rattle.hp_fitting.specs.Fitting.{NodeNamed}
 use Rattle.hp_apart.specs.Apart.{ScopedLaw, LoweredLaw}
 use Rattle.hp_suited.specs.Suited.{IsAsked, AreAsked}
 use Rattle.hp_history.proofs.Calls.{node_calls}

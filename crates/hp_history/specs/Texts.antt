@@ -28,7 +28,7 @@ use Rattle.hp_obc.specs.Steps.{machine_behaviour, run}
 use Rattle.hp_timely.specs.Kinds.{kinds_of_decls}
 use Rattle.hp_machines.specs.Machined.{AreMachinesOf}
 use Rattle.hp_machines.specs.NotBuilt.{HasNoMachines}
-use Rattle.hp_exec.specs.Bounds.{longest_chain, instance_count}
+use Rattle.hp_exec.specs.Bounds.{most_chained, most_instances, longest_chain, instance_count}
 
 -- The machine of a name runs a node of a program: it takes and gives the same kinds, and over each list of inputs of these kinds, oldest first, it gives the outputs of the node's one run.
 pub record RunsNode (program : List Item) (o : Obc) (f : List ℕ) (m : Machine) : Type 0 where
@@ -61,8 +61,8 @@ TextLaw =
 abbrev pub BuiltLaw : Type 0
 BuiltLaw = (text : List ℕ) (tokens : List Token) (program after : List Item) (ranks : List (List ℕ)) → IsAccepted text tokens program after ranks → HasNoMachines after → ⊥
 
--- and each of them is within the limits of what is executed: 70 machines on a chain of instances, and 250,000 instances.
+-- and each of them is within the limits of what is executed: so many machines on a chain of instances, and so many instances.
 abbrev pub WithinLaw : Type 0
 WithinLaw =
     (text : List ℕ) (tokens : List Token) (program after : List Item) (ranks : List (List ℕ)) (o : Obc) → IsAccepted text tokens program after ranks → AreMachinesOf after o
-    → (f : List ℕ) → (longest_chain o.machines f ≤ 70) × (instance_count o.machines f ≤ 250000)
+    → (f : List ℕ) → (longest_chain o.machines f ≤ most_chained) × (instance_count o.machines f ≤ most_instances)

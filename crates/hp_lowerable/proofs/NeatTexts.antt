@@ -13,7 +13,8 @@ use Rattle.hp_parser.specs.declared.mode.Mode.TheVariants.{Plain as Plainly}
 use Rattle.hp_print.proofs.Heights.{Good}
 use Rattle.hp_print.proofs.Readable.{Each, GoodTransition, SomeStates, GoodBlock, GoodEqns, GoodEqn, GoodArms, GoodStates, GoodOptional, GoodItem, nest_block, nest_eqns, nest_eqn, nest_arms, nest_states}
 use Rattle.hp_names.specs.Names.{has, with_name, with_names, state_names}
-use Rattle.hp_names.specs.Scopes.{with_variables, inside, inside_node, controls_of, behind as behind_item}
+use Rattle.hp_tree.specs.Meaning.{controls_of}
+use Rattle.hp_names.specs.Scopes.{with_variables, inside, inside_node, behind as behind_item}
 use Rattle.hp_names.specs.Rules.{TransitionsAreNamed, BlockIsNamed, EqnsAreNamed, EqnIsNamed, ArmsAreNamed, StatesAreNamed, ContractIsNamed, ItemsAreNamed}
 use Rattle.hp_named.specs.Scopes.{NameScope}
 use Rattle.hp_named.specs.Scoped.{EachNode}

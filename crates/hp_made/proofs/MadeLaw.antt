@@ -1,5 +1,5 @@
 -- The law on nodes.
-use Rattle.std.proofs.Common.{◌≡◌, ℕ, ◌+◌, Bool, true, false, ◌&&◌, not, List, [], ◌∷◌, ◌++◌, length, map, refl}
+use Rattle.std.proofs.Common.{◌≡◌, ℕ, ◌+◌, Bool, true, false, ◌||◌, ◌&&◌, not, List, [], ◌∷◌, ◌++◌, length, map, refl, ◌∙◌}
 use Rattle.std.specs.Prelude.{Option, None, Some, ⊤}
 use Rattle.hp_base.specs.declared.ty.Const.{Const}
 use Rattle.hp_base.specs.declared.value.Value.{Value}
@@ -7,46 +7,68 @@ use Rattle.hp_tree.specs.Expressions.{Expr, constant, variable, last_of, one, tw
 use Rattle.hp_tree.specs.Blocks.{Decl, Block, block, Eqns, no_eqn, more_eqns, Eqn, define, switch, reset, automaton, Arms, no_arm, more_arms}
 use Rattle.hp_tree.specs.Programs.{TypeDecl, Node}
 use Rattle.hp_tree.specs.Operators.{cons_of}
-use Rattle.hp_tree.specs.Instant.{Body as BodyOf, Equations, Head, Tail, Right as RightOf, Test, Arms as ArmsOf, First, Second, Third, Args, Place, Clock, without}
+use Rattle.hp_tree.specs.Instant.{Body as BodyOf, Named, Equations, Head, Tail, Right as RightOf, Test, Arms as ArmsOf, First, Second, Third, Args, Place, Clock, without}
 use Rattle.hp_tree.specs.Meaning.{declares, some_defines, block_defines, clock_of, controls_of}
 use Rattle.hp_flat.specs.Nodes.{FlatNode}
 use Rattle.hp_flattened.specs.Flatten.{FlatName, At, When, always, on, Prefix, below, Scope, constant_in, inside_at, within_at, restarts_at, lasts_at, under, node_scope, flatten}
 use Rattle.hp_flattened.specs.Lifted.{in_body, node_lasts}
 use Rattle.hp_made.specs.Making.{Known, Body, base_site, unknown, over, outputs_of, numbers_from, sketch_block, sketch_node}
-use Rattle.hp_made.specs.Standing.{Knows}
+use Rattle.hp_made.specs.Standing.{Knows, IsNamed}
 use Rattle.hp_made.specs.Keeping.{LastKept, LastsKept, FbyKeeps, ExprKeeps, ExprsKeep, PartsKeep, BlockKeeps, EqnsKeep, EqnKeeps, ArmsKeep, NodeKeeps, IsKept}
-use Rattle.hp_made.specs.Blocks.{IsPlain, ReadyBlock}
-use Rattle.hp_made.specs.Laws.{around_body, names, unplaced, NodeReady, Stands, MadeLaw}
+use Rattle.hp_made.specs.Blocks.{locals_of, IsPlain, ReadyBlock}
+use Rattle.hp_made.specs.Laws.{around_body, names, unplaced, body_name, NodeReady, Stands, MadeLaw}
 use Rattle.hp_made.proofs.UnplacedLaws.{equations-alike}
-use Rattle.hp_made.proofs.StandsLaws.{promise, nth, node-keeps, node-stands, outputs-stand}
+use Rattle.hp_made.proofs.StandsLaws.{promise, nth, facts, node-keeps, node-stands, outputs-stand}
 
 both_true : (a b : Bool) → (a && not b) ≡ true → (a ≡ true) × (b ≡ false)
 both_true true false h = (refl, refl)
 both_true true true h = absurd cc
 both_true false b h = absurd cc
 
--- a node whose remembered names are of K; so are those that variables stand for
+-- what stands for a flat name that has a value is a variable
+has_variable : (means : ℕ → FlatName) (o : Option ℕ) (p : Place) → IsNamed means o (At p) → (v : ℕ) × (o ≡ Some v) × (means v ≡ At p)
+has_variable means None p h = absurd cc
+has_variable means (Some v) p h = (v, refl, h)
+
+-- what outputs are and what a body declares is defined in the body
+body_defines : (n : Node) (ds : List Decl) (es : Eqns) → ((x : List ℕ) → declares n.outputs x ≡ true → some_defines es x ≡ true) → ((x : List ℕ) → declares ds x ≡ true → some_defines es x ≡ true)
+    → (x : List ℕ) → (declares n.outputs x || declares ds x) ≡ true → some_defines es x ≡ true
+body_defines n ds es outs locals x h = by (declares n.outputs x) (declares ds x) refl refl h
+  where
+    by : (a b : Bool) → declares n.outputs x ≡ a → declares ds x ≡ b → (a || b) ≡ true → some_defines es x ≡ true
+    by true b e g h = outs x e
+    by false b e g h = locals x (g ∙ h)
+
+-- What a name is seen as in a body stands for it, where it is an output or the body declares it.
+abbrev pub NamesStand : Known → Node → Block → (ℕ → FlatName) → Type 0
+NamesStand k n b means =
+    (x : List ℕ) → (declares n.outputs x || declares (locals_of b) x) ≡ true
+    → (v : ℕ) × ((over (sketch_block k Body (over (around_body k n).0 unknown) base_site b (around_body k n).1).0 (over (around_body k n).0 unknown) x).value ≡ Some v) × (means v ≡ body_name x)
+
+-- A node whose remembered names are of K: so are those that variables stand for. The variables of the names of its body stand for these.
 pub stands-kept : (K : FlatName → Type 0) (types : List TypeDecl) (outputs : List ℕ → List (List ℕ)) (k : Known) (fill : Place → Value) (n : Node) (f : FlatNode) → Knows types outputs k → NodeReady k fill n → NodeKeeps K types fill n
     → f.inputs ≡ length n.inputs + length (controls_of n.contract) → f.outputs ≡ numbers_from (length n.inputs + length (controls_of n.contract)) n.outputs
-    → map unplaced f.eqns ≡ map unplaced (sketch_node k n).eqns → (s : Stands types outputs k fill n f) × ((x : ℕ) → IsKept K (s.means x))
+    → map unplaced f.eqns ≡ map unplaced (sketch_node k n).eqns → (s : Stands types outputs k fill n f) × ((x : ℕ) → IsKept K (s.means x)) × NamesStand k n n.body s.means
 stands-kept K types outputs k fill n f knows r keeps inputs_are outputs_are eqns_are = by n.body refl r.plain r.defined r.nothing_else r.first_values eqns_are keeps.1
   where
     by : (b : Block) → n.body ≡ b → IsPlain b → ((x : List ℕ) → declares n.outputs x ≡ true → block_defines b x ≡ true) → ((x : List ℕ) → block_defines b x ≡ true → declares n.outputs x ≡ true)
         → ReadyBlock k fill Body (over (around_body k n).0 unknown) base_site b in_body (around_body k n).1 → map unplaced f.eqns ≡ map unplaced (sketch_block k Body (over (around_body k n).0 unknown) base_site b (around_body k n).1).1.eqns
-        → BlockKeeps K types fill b (node_scope n) (node_lasts types n) in_body always [] → (s : Stands types outputs k fill n f) × ((x : ℕ) → IsKept K (s.means x))
+        → BlockKeeps K types fill b (node_scope n) (node_lasts types n) in_body always [] → (s : Stands types outputs k fill n f) × ((x : ℕ) → IsKept K (s.means x)) × NamesStand k n b s.means
     by (block ds es) body_is plain defined others ready eqns body_keeps =
         let keep : LastsKept K types n.outputs in_body always [] × BlockKeeps K types fill (block ds es) (node_scope n) (node_lasts types n) in_body always [] = (keeps.0, body_keeps) in
-        let d : (x : List ℕ) → declares n.outputs x ≡ true → (some_defines es x ≡ true) × (declares ds x ≡ false) = λ x q. both_true (some_defines es x) (declares ds x) (defined x q) in (
+        let d : (x : List ℕ) → declares n.outputs x ≡ true → (some_defines es x ≡ true) × (declares ds x ≡ false) = λ x q. both_true (some_defines es x) (declares ds x) (defined x q) in
+        let told = facts types outputs k knows fill K n r.inputs r.controls r.outputs ds es body_is plain d others ready keep in
+        let means = nth (promise types outputs k knows fill K n r.inputs r.controls r.outputs ds es body_is plain d others ready keep).names in (
           record {
-            means = nth (promise types outputs k knows fill K n r.inputs r.controls r.outputs ds es body_is plain d others ready keep).names;
+            means = means;
             equations =
                 let g : FlatNode = record f { eqns = (sketch_block k Body (over (around_body k n).0 unknown) base_site (block ds es) (around_body k n).1).1.eqns } in
-                let means = nth (promise types outputs k knows fill K n r.inputs r.controls r.outputs ds es body_is plain d others ready keep).names in
                 equations-alike means (flatten types outputs fill n) (names n.inputs ++ names (controls_of n.contract)) (λ g. length (outputs_of (k.nodes g))) g f refl eqns
                 (node-stands types outputs k knows fill K n r.inputs r.controls r.outputs ds es body_is plain d others ready keep g inputs_are refl);
             outputs_are = outputs-stand types outputs k knows fill K n r.inputs r.controls r.outputs ds es body_is plain d others ready keep f outputs_are;
           },
           node-keeps types outputs k knows fill K n r.inputs r.controls r.outputs ds es body_is plain d others ready keep,
+          λ x h. has_variable means _ (BodyOf ∷ Named x ∷ []) (told.named x (body_defines n ds es (λ x q. (d x q).0) plain.1 x h)),
         )
 
 -- ---- of any kind

@@ -154,14 +154,20 @@ module _ (types : List TypeDecl) (outputs : List ℕ → List (List ℕ)) (k : K
         let l = f.below in let g = outs.grown in
         omega (arith, same', l, g)
 
-    -- What is promised of a node: behind its inputs and controllable variables each variable is done.
+    -- what names stand for in the body
+    abbrev pub inside : Sight
+    inside = over (sketch_block k Body out base_site (block ds es) with_lasts.1).0 out
+
+    -- What is promised of a node: behind its inputs and controllable variables each variable is done, and the names that the body defines have variables.
     pub record NodeMade (means : ℕ → FlatName) : Type 0 where
       pub signs : Signs means
       pub done : (y : ℕ) → next with_controls.1 ≤ y → y < next made → IsDone F means made y
       pub inputs : (y : ℕ) → y < next with_controls.1 → defs made y ≡ []
       pub bounded : IsBounded made
+      pub named : (x : List ℕ) → some_defines es x ≡ true → IsNamed means (inside x).value (At (BodyOf ∷ Named x ∷ []))
 
-    module _ (means : ℕ → FlatName) (s : Signs means) (l : Steps F means with_outputs.1 with_lasts.1) (m : EqnsMade F means out (Outer Body ds es) rows with_lasts.1 made always []) where
+    module _ (means : ℕ → FlatName) (s : Signs means) (l : Steps F means with_outputs.1 with_lasts.1) (m : EqnsMade F means out (Outer Body ds es) rows with_lasts.1 made always [])
+        (sees : (x : List ℕ) → IsNamed means (inside x).value (inside_at es (node_scope n) in_body x)) where
       none_before : (y : ℕ) → y < next with_outputs.1 → defs with_lasts.1 y ≡ []
       none_before y q = l.kept y q ∙ defs_none y
 
@@ -203,6 +209,7 @@ module _ (types : List TypeDecl) (outputs : List ℕ → List (List ℕ)) (k : K
                 let g = outs.grown in let h = l.grown in
                 m.kept y (omega (arith, q, g, h)) (λ x o v. outer_above x y q o v) ∙ none_before y (omega (arith, q, g));
             bounded = m.bounded;
+            named = λ x q. subst (IsNamed means (inside x).value) (ap (λ b. if b then At (BodyOf ∷ Named x ∷ []) else node_scope n x) q) (sees x);
           }
 
     pub node-made : Promised memory.keeps nothing_made made NodeMade
@@ -225,7 +232,8 @@ module _ (types : List TypeDecl) (outputs : List ℕ → List (List ℕ)) (k : K
         })
         (subst (λ f. IsFlagged means f always []) (sym flag_none) tt)
         (λ x y q v. let t = outer_low x y q v in omega (arith, t, low)) in
-        node_done means s l.0 m.1))
+        let layer = m.0 in
+        node_done means s l.0 m.1 (λ x. (layer.sees x).0)))
         (λ means s g. g s)
       where
         flag_none : with_lasts.1.flag ≡ None

@@ -123,7 +123,7 @@ module _ (types : List TypeDecl) (outputs : List ℕ → List (List ℕ)) (k : K
   pub stands : ℕ → FlatName
   stands = nth promise.names
 
-  facts : NodeMade types outputs k knows fill K n inputs_once controls_once outputs_once ds es body_is plain defined others ready keep (nth promise.names)
+  pub facts : NodeMade types outputs k knows fill K n inputs_once controls_once outputs_once ds es body_is plain defined others ready keep (nth promise.names)
   facts = promise.facts (nth promise.names) (nth_agrees promise.names)
 
   low : next (with_controls types outputs k knows fill K n inputs_once controls_once outputs_once).1 ≡ length n.inputs + length (controls_of n.contract)

@@ -10,6 +10,10 @@ use Rattle.hp_made.specs.Making.{Known, Sketch, Site, Sight, Layer, Standing, In
 use Rattle.hp_made.specs.Sights.{Entry}
 use Rattle.hp_made.specs.Standing.{Ready, ReadyRight}
 
+-- what a block declares
+abbrev pub locals_of : Block → List Decl
+locals_of (block ds es) = ds
+
 -- each name once on a left side
 abbrev pub LeftsOnce : List (List ℕ × Span) → Type 0
 LeftsOnce [] = ⊤

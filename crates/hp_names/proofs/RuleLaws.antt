@@ -18,7 +18,8 @@ use Rattle.hp_tree.specs.Expressions.{Expr, constant, variable, last_of, one, tw
 use Rattle.hp_tree.specs.Blocks.{Decl, Block, block, Eqns, no_eqn, more_eqns, Eqn, define, switch, reset, automaton, Arms, no_arm, more_arms, States, no_state, more_states}
 use Rattle.hp_tree.specs.Programs.{Contract, Node}
 use Rattle.hp_names.specs.Names.{Placed, has, with_name, with_names, declared_names, state_names, names_at}
-use Rattle.hp_names.specs.Scopes.{Scope, nothing, with_variables, inside, inside_node, controls_of, behind}
+use Rattle.hp_tree.specs.Meaning.{controls_of}
+use Rattle.hp_names.specs.Scopes.{Scope, nothing, with_variables, inside, inside_node, behind}
 use Rattle.hp_names.specs.Rules.{AreNew, ConstantIsNamed, ConsIsNamed, ExprIsNamed, ExprsAreNamed, PartsAreNamed, TyIsNamed, FirstIsNamed, PathIsNamed, ClockIsNamed, DeclsAreNamed, VariablesAreNamed, LeftIsNamed, TransitionsAreNamed, BlockIsNamed, EqnsAreNamed, EqnIsNamed, ArmsAreNamed, StatesAreNamed, ConditionIsNamed, ContractIsNamed, BodyIsNamed, NodeIsNamed, ItemIsNamed, ItemsAreNamed, WellNamed}
 use Rattle.hp_names.specs.Claims.{Claim, uses, declares, new_names, in_constant, in_cons, in_expr, in_exprs, in_parts, in_type, in_first, in_path, in_clock, in_decl, in_decls, in_variables, in_left, in_transitions, in_block, in_eqns, in_eqn, in_arms, in_states, in_condition, in_contract, in_body, in_node, in_item, in_items, claims}
 use Rattle.hp_names.specs.Breaches.{breaches}

@@ -15,7 +15,8 @@ use Rattle.hp_tree.specs.Expressions.{Expr, constant, variable, last_of, one, tw
 use Rattle.hp_tree.specs.Blocks.{Decl, Block, block, Eqns, no_eqn, more_eqns, Eqn, define, switch, reset, automaton, Arms, no_arm, more_arms, States, no_state, more_states}
 use Rattle.hp_tree.specs.Programs.{Contract, Node}
 use Rattle.hp_names.specs.Names.{Placed, with_name, with_names, declared_names, state_names, names_at}
-use Rattle.hp_names.specs.Scopes.{Scope, nothing, with_variables, inside, inside_node, controls_of, behind}
+use Rattle.hp_tree.specs.Meaning.{controls_of}
+use Rattle.hp_names.specs.Scopes.{Scope, nothing, with_variables, inside, inside_node, behind}
 
 -- a name at a place: where it is used it is among those that are known there, where it is declared it is none of them
 pub data Claim : Type 0 where

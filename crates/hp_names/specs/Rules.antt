@@ -14,7 +14,8 @@ use Rattle.hp_tree.specs.Expressions.{Expr, constant, variable, last_of, one, tw
 use Rattle.hp_tree.specs.Blocks.{Decl, Block, block, Eqns, no_eqn, more_eqns, Eqn, define, switch, reset, automaton, Arms, no_arm, more_arms, States, no_state, more_states}
 use Rattle.hp_tree.specs.Programs.{Contract, Node}
 use Rattle.hp_names.specs.Names.{Placed, with_name, with_names, declared_names, state_names, names_at}
-use Rattle.hp_names.specs.Scopes.{Scope, nothing, with_variables, inside, inside_node, controls_of, behind}
+use Rattle.hp_tree.specs.Meaning.{controls_of}
+use Rattle.hp_names.specs.Scopes.{Scope, nothing, with_variables, inside, inside_node, behind}
 
 -- Names that are declared one after another: none is among the names that are known before it.
 abbrev pub AreNew : List (List ℕ) → List Placed → Type 0

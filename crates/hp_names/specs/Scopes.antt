@@ -4,7 +4,7 @@ use Rattle.hp_tree.specs.declared.program.Item.{Item}
 use Rattle.hp_tree.specs.declared.program.Item.TheVariants.{TypeItem, NodeItem}
 use Rattle.hp_base.specs.declared.ty.Const.{Const}
 use Rattle.hp_tree.specs.Blocks.{Decl, Block, block}
-use Rattle.hp_tree.specs.Programs.{Node, Contract}
+use Rattle.hp_tree.specs.Programs.{Node}
 use Rattle.hp_names.specs.Names.{with_name, with_names, names_at}
 pub use Rattle.hp_names.specs.declared.scope.Scope.{Scope}
 
@@ -28,11 +28,6 @@ inside s (block ds es) = with_variables s ds
 -- inside a node its inputs and outputs are in scope
 abbrev pub inside_node : Scope → Node → Scope
 inside_node s n = with_variables (with_variables s n.inputs) n.outputs
-
--- the controllable variables
-abbrev pub controls_of : Option Contract → List Decl
-controls_of None = []
-controls_of (Some c) = c.controls
 
 -- what is known behind an item
 abbrev pub behind : Scope → Item → Scope

@@ -2,7 +2,8 @@
 ghost use Rattle.std.specs.Prelude.{◌≡◌, None, OnOk, IfOk};
 ghost use Rattle.hp_names.specs.Breaches.{found_after};
 ghost use Rattle.hp_names.specs.Names.{with_names, names_at};
-ghost use Rattle.hp_names.specs.Scopes.{controls_of, behind};
+ghost use Rattle.hp_tree.specs.Meaning.{controls_of};
+ghost use Rattle.hp_names.specs.Scopes.{behind};
 ghost use Rattle.hp_names.specs.Claims.{new_names, in_condition, in_contract, in_body, in_node, in_item, claims};
 
 use crate::blocks::{check_block, enter_block};
@@ -12,7 +13,7 @@ use crate::expressions::check_expr;
 use crate::names::Names;
 use crate::scope::Scope;
 use hp_base::{Name, Span};
-use hp_tree::{Block, Contract, Decl, Expr, Item, Node};
+use hp_tree::{Block, Contract, Decl, Expr, Item, Node, controls_of};
 use std::alloc::{AllocError, Global};
 
 #[tactic(auto, using(crate::proofs::Rules::found))]
@@ -50,16 +51,6 @@ fn check_contract<'a>(
             scope.leave(mark);
             Ok(())
         }
-    }
-}
-
-/// The controllable variables of a contract.
-fn controls_of<'a>(contract: &'a Option<Contract>) -> &'a [Decl]
-    ensures { result.now ≡ controls_of contract.now }
-{
-    match contract {
-        None => &[],
-        Some(contract) => &contract.controls,
     }
 }
 

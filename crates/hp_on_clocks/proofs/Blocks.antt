@@ -21,7 +21,7 @@ use Rattle.hp_flat.specs.Nodes.{FlatNode}
 use Rattle.hp_flattened.specs.Flatten.{is_false}
 use Rattle.hp_timely.specs.Tested.{ConsAre, BlockTested, EqnsTested, EqnTested, ArmsTested}
 use Rattle.hp_made.specs.Sights.{Entry}
-use Rattle.hp_made.specs.Blocks.{IsPlain, ArePlain, OnePlain, ArmsPlain}
+use Rattle.hp_made.specs.Blocks.{IsPlain, ArePlain, OnePlain, ArmsPlain, locals_of}
 use Rattle.hp_made.specs.Making.{Known, Sketch, Site, Sight, Layer, Seen, Standing, Inner, flat_type, cons_number, on_site, in_block, restart_site, with_flag, over, or_entry, hidden, is_in, names_of_eqns, names_of_arms, names_of_block, each_once, block_layer, given_by, link_all, sketch_expr, sketch_block, sketch_eqns, sketch_eqn, sketch_arms}
 use Rattle.hp_made.proofs.LayerLaws.{in-arms, in-block, once-in}
 use Rattle.hp_begun.proofs.Keeping.{HasType, Keeps, moved}
@@ -30,7 +30,7 @@ use Rattle.hp_begun.proofs.BlockRegisters.{declared_types, grounded_more}
 use Rattle.hp_wellmade.proofs.Good.{SiteGood, site_moved, on_good, restart_good}
 use Rattle.hp_wellmade.proofs.Expressions.{TypeFacts, HaveFirsts, sees_moved}
 use Rattle.hp_wellmade.proofs.Layers.{SaysLocal}
-use Rattle.hp_wellmade.proofs.Entering.{firsts_inside, locals_of, Sees, SeesAround, layer_made}
+use Rattle.hp_wellmade.proofs.Entering.{firsts_inside, Sees, SeesAround, layer_made}
 use Rattle.hp_wellmade.proofs.Links.{hidden_sees, Completed, around_inner}
 use Rattle.hp_closed.specs.Clocking.{IsFrontOf, StepsStand, IsSplit}
 use Rattle.hp_on_clocks.proofs.Steps.{front_itself, front_further, DefinedOn, Step, then_step, weaker, no_step, enclosed}

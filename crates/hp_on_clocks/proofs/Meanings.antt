@@ -91,7 +91,7 @@ module _ (a b : Answers) (takes : Names (List KindData)) (names : List (List ℕ
       none (e ∷ es) = (tt, none es)
   was_taken es (i ∷ past) h = each_both (EqnFits takes i) (λ (e : FlatEqn). AllByRecursion (Taken e) past) (λ (e : FlatEqn). AllByRecursion (Taken e) (i ∷ past)) (λ e f ts. (f.args_taken, ts)) es h.0 (was_taken es past h.1)
 
-  reaction_alike : (n : FlatNode) → CallsOnly names n.eqns → (inputs : List (List Value)) (instants : List Instant) → AllByRecursion (Fits takes n) instants → Reaction b n inputs instants → Reaction a n inputs instants
+  pub reaction_alike : (n : FlatNode) → CallsOnly names n.eqns → (inputs : List (List Value)) (instants : List Instant) → AllByRecursion (Fits takes n) instants → Reaction b n inputs instants → Reaction a n inputs instants
   reaction_alike n calls [] [] fit r = tt
   reaction_alike n calls [] (now ∷ past) fit r = absurd r
   reaction_alike n calls (inputs ∷ earlier) [] fit r = absurd r

@@ -13,7 +13,8 @@ use Rattle.hp_known.specs.Known.{lookup, with_entry}
 use Rattle.hp_names.specs.Names.{with_name}
 use Rattle.hp_names.specs.Scopes as names
 use Rattle.hp_names.specs.Rules.{ItemsAreNamed}
-use Rattle.hp_typing.specs.Scopes.{nothing, with_variables, inside, inside_node, controls_of, behind}
+use Rattle.hp_tree.specs.Meaning.{controls_of}
+use Rattle.hp_typing.specs.Scopes.{nothing, with_variables, inside, inside_node, behind}
 use Rattle.hp_typing.specs.Types.{type_of, types_in, outputs_in, single, args_fit, agrees}
 use Rattle.hp_typed.specs.Scopes.{Scope, NameScope}
 use Rattle.hp_typed.specs.Typed.{ExprHasType, ExprsHaveTypes, PartsHaveTypes, RightHasTypes, BlockHasTypes, EqnsHaveTypes, EqnHasTypes, ArmsHaveTypes, StatesHaveTypes, ConditionHasType, ContractHasTypes, NodeHasTypes, ItemsHaveTypes}

@@ -6,7 +6,8 @@ use Rattle.hp_tree.specs.declared.program.Item.TheVariants.{TypeItem, NodeItem}
 use Rattle.hp_tree.specs.Blocks.{Decl, Block, block, Eqns, no_eqn, more_eqns, Eqn, define, switch, reset, automaton, Arms, no_arm, more_arms, States, no_state, more_states}
 use Rattle.hp_tree.specs.Programs.{Contract, Node}
 use Rattle.hp_names.specs.Names.{has, with_name, declared_names}
-use Rattle.hp_names.specs.Scopes.{nothing, with_variables, inside_node, controls_of, behind}
+use Rattle.hp_tree.specs.Meaning.{controls_of}
+use Rattle.hp_names.specs.Scopes.{nothing, with_variables, inside_node, behind}
 use Rattle.hp_names.specs.Rules.{AreNew, BlockIsNamed, EqnsAreNamed, EqnIsNamed, ArmsAreNamed, StatesAreNamed, ContractIsNamed, NodeIsNamed, ItemsAreNamed, WellNamed}
 use Rattle.hp_names.proofs.RuleLaws.{Contains-has}
 use Rattle.hp_slotted.proofs.Declaring.{BlockDeclares, EqnsDeclare, EqnDeclares, ArmsDeclare, StatesDeclare, ContractDeclares, NodeDeclares, NodesDeclare, Lacks, DeclaresApart}

@@ -182,6 +182,10 @@ abbrev pub only_output : List (List ℕ) → Instant → Value
 only_output [] i = Absent
 only_output (o ∷ os) i = i (Named o ∷ [])
 
+-- where no name has a value
+abbrev pub absent : Names
+absent x = Absent
+
 -- the controllable variables of a contract
 abbrev pub controls_of : Option Contract → List Decl
 controls_of None = []
@@ -383,9 +387,6 @@ module _ (types : List TypeDecl) (R : Reading) (N : Nodes) where
   abbrev pub given_to : List Decl → Instant → List Value
   given_to [] free = []
   given_to (d ∷ ds) free = free (Head ∷ []) ∷ given_to ds (part Tail free)
-
-  abbrev absent : Names
-  absent x = Absent
 
   -- a node, with the values that are given for its controllable variables
   abbrev pub node : Node → List Value → Given → Instant → Instant

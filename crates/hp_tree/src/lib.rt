@@ -11,4 +11,4 @@ pub use block::{Arm, Block, Eqn, State, Trans, copy_left, copy_transitions};
 pub use decl::{Cons, Decl, copy_clock, copy_decls, copy_last, same_decls};
 pub use expr::{Expr, ExprKind, Op1, Op2};
 pub use hp_base::{Const, Ty};
-pub use program::{Contract, Item, Node, Program, TypeDecl};
+pub use program::{Contract, Item, Node, Program, TypeDecl, controls_of};

@@ -1,4 +1,5 @@
 ghost use Rattle.std.specs.Prelude.{◌≡◌, ◌↔◌, IsTrue, IfOk};
+ghost use Rattle.hp_tree.specs.Meaning.{controls_of};
 
 use crate::block::Block;
 use crate::decl::{Decl, same_decls};
@@ -177,6 +178,16 @@ impl Contract {
             && same_condition(&self.enforce, &other.enforce)
             && same_decls(&self.controls, &other.controls)
             && self.span == other.span
+    }
+}
+
+/// The controllable variables of a contract.
+pub fn controls_of(contract: &Option<Contract>) -> &[Decl]
+    ensures { result.now ≡ controls_of contract.now }
+{
+    match contract {
+        None => &[],
+        Some(contract) => &contract.controls,
     }
 }
 

@@ -6,7 +6,8 @@ use Rattle.hp_tree.specs.Expressions.{Expr}
 use Rattle.hp_tree.specs.Programs.{Contract}
 use Rattle.hp_names.specs.Scopes as names
 use Rattle.hp_names.specs.Rules.{ConditionIsNamed, ContractIsNamed, ItemIsNamed, ItemsAreNamed}
-use Rattle.hp_typing.specs.Scopes.{nothing, with_variables, inside, inside_node, controls_of, behind}
+use Rattle.hp_tree.specs.Meaning.{controls_of}
+use Rattle.hp_typing.specs.Scopes.{nothing, with_variables, inside, inside_node, behind}
 use Rattle.hp_typing.specs.Rules.{ConditionIsTyped, ContractIsTyped, ItemIsTyped, ItemsAreTyped}
 use Rattle.hp_typed.specs.Scopes.{Scope, NameScope}
 use Rattle.hp_typed.specs.Merges.{ConditionIsFull, ContractIsFull, ItemIsFull, MergesHaveParts}

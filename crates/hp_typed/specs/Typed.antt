@@ -15,7 +15,8 @@ use Rattle.hp_tree.specs.Programs.{Contract, Node}
 use Rattle.hp_names.specs.Rules.{WellNamed}
 use Rattle.hp_typing.specs.Rules.{WellTyped}
 use Rattle.hp_known.specs.Known.{lookup}
-use Rattle.hp_typing.specs.Scopes.{nothing, with_variables, inside, inside_node, controls_of, behind}
+use Rattle.hp_tree.specs.Meaning.{controls_of}
+use Rattle.hp_typing.specs.Scopes.{nothing, with_variables, inside, inside_node, behind}
 use Rattle.hp_typing.specs.Types.{type_of, types_in, outputs_in, constant_type, cons_type}
 use Rattle.hp_typed.specs.Scopes.{Scope}
 use Rattle.hp_typed.specs.Merges.{MergesHaveParts}

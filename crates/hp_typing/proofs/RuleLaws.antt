@@ -17,7 +17,8 @@ use Rattle.hp_tree.specs.Programs.{Contract, Node}
 use Rattle.hp_typing.specs.declared.error.Is.{Is}
 use Rattle.hp_typing.specs.declared.error.Is.TheVariants.{Bool as is_bool, Int as is_int, Enum as is_enum, Row as is_row}
 use Rattle.hp_known.specs.Known.{lookup}
-use Rattle.hp_typing.specs.Scopes.{Scope, nothing, with_variables, inside, inside_node, controls_of, behind}
+use Rattle.hp_tree.specs.Meaning.{controls_of}
+use Rattle.hp_typing.specs.Scopes.{Scope, nothing, with_variables, inside, inside_node, behind}
 use Rattle.hp_typing.specs.Types.{type_of, types_in, outputs_in, all_typed, constant_type, cons_type, type_of_one, operand, place}
 use Rattle.hp_typing.specs.Rules.{Fits, Chooses, PairsFit, ArgsFit, AreOutputs, ExprIsTyped, ExprsAreTyped, OperandsAreTyped, PartsAreTyped, TestIsTyped, FirstIsTyped, PathIsTyped, ClockIsTyped, DeclsAreTyped, NamesFit, RowFits, SingleFits, RightIsTyped, TransitionsAreTyped, BlockIsTyped, EqnsAreTyped, EqnIsTyped, ArmsAreTyped, StatesAreTyped, ConditionIsTyped, ContractIsTyped, BodyIsTyped, NodeIsTyped, ItemIsTyped, ItemsAreTyped, WellTyped}
 use Rattle.hp_typing.specs.Claims.{Claim, wants, is_of, tested, in_choice, in_pairs, in_inputs, in_known, in_outputs, in_expr, in_exprs, in_operands, in_parts, in_test, in_first, in_path, in_clock, in_decl, in_decls, in_names, in_row, in_single, in_right, in_transitions, in_block, in_eqns, in_eqn, in_arms, in_states, in_condition, in_contract, in_body, in_node, in_item, in_items, claims}

@@ -11,7 +11,8 @@ use Rattle.hp_tree.specs.Expressions.{Expr, constant, variable, last_of, one, tw
 use Rattle.hp_tree.specs.Blocks.{Decl, Block, block, Eqns, no_eqn, more_eqns, Eqn, define, switch, reset, automaton, Arms, no_arm, more_arms, States, no_state, more_states}
 use Rattle.hp_tree.specs.Programs.{Contract, Node}
 use Rattle.hp_known.specs.Known.{lookup}
-use Rattle.hp_typing.specs.Scopes.{Scope, nothing, with_variables, inside, inside_node, controls_of, behind}
+use Rattle.hp_tree.specs.Meaning.{controls_of}
+use Rattle.hp_typing.specs.Scopes.{Scope, nothing, with_variables, inside, inside_node, behind}
 use Rattle.hp_typing.specs.Types.{type_of, constructors_of}
 use Rattle.hp_typing.specs.Claims.{Claim, has_equation, has_none, stands_once}
 

@@ -1,10 +1,10 @@
 -- What is known of the names at a place of a program: the declaration of a type, the type of a constructor and of a variable, and
 -- the node of a name.
-use Rattle.std.specs.Prelude.{ℕ, take, List, [], ◌∷◌, Option, None, Some}
+use Rattle.std.specs.Prelude.{ℕ, take, List, [], ◌∷◌}
 use Rattle.hp_tree.specs.declared.program.Item.{Item}
 use Rattle.hp_tree.specs.declared.program.Item.TheVariants.{TypeItem, NodeItem}
 use Rattle.hp_tree.specs.Blocks.{Decl, Block, block}
-use Rattle.hp_tree.specs.Programs.{Node, Contract, TypeDecl}
+use Rattle.hp_tree.specs.Programs.{Node, TypeDecl}
 use Rattle.hp_known.specs.Known.{with_entry}
 pub use Rattle.hp_typing.specs.declared.scope.Scope.{Scope}
 
@@ -24,11 +24,6 @@ inside s (block ds es) = with_variables s ds
 -- inside a node its inputs and outputs are known
 abbrev pub inside_node : Scope → Node → Scope
 inside_node s n = with_variables (with_variables s n.inputs) n.outputs
-
--- the controllable variables
-abbrev pub controls_of : Option Contract → List Decl
-controls_of None = []
-controls_of (Some c) = c.controls
 
 -- constructors are known by the name of their type
 abbrev pub with_constructors : List (List ℕ × List ℕ) → List ℕ → List (List ℕ) → List (List ℕ × List ℕ)

@@ -1,6 +1,7 @@
 //! The definitions of nodes and programs.
 ghost use Rattle.std.specs.Prelude.{◌≡◌, None, OnOk, IfOk};
-ghost use Rattle.hp_typing.specs.Scopes.{behind, controls_of};
+ghost use Rattle.hp_tree.specs.Meaning.{controls_of};
+ghost use Rattle.hp_typing.specs.Scopes.{behind};
 ghost use Rattle.hp_typing.specs.Definedness.{in_contract, in_body, in_node, in_item, in_items, definition_claims};
 ghost use Rattle.hp_typing.specs.Breaches.{found_after};
 
@@ -8,9 +9,9 @@ use crate::breach::Breach;
 use crate::declarations::add_variables;
 use crate::definitions::{check_block, check_others, check_variables, enter_block};
 use crate::merges::check_condition;
-use crate::programs::{add_type, controls_of};
+use crate::programs::add_type;
 use crate::scope::Scope;
-use hp_tree::{Item, Node};
+use hp_tree::{Item, Node, controls_of};
 use std::alloc::{AllocError, Global};
 
 /// The equations of a contract define neither inputs nor outputs.

@@ -1,6 +1,7 @@
 //! The types of nodes and programs.
 ghost use Rattle.std.specs.Prelude.{◌≡◌, ◌++◌, None, OnOk, IfOk};
-ghost use Rattle.hp_typing.specs.Scopes.{controls_of, behind, inside_node, with_constructors, with_type};
+ghost use Rattle.hp_tree.specs.Meaning.{controls_of};
+ghost use Rattle.hp_typing.specs.Scopes.{behind, inside_node, with_constructors, with_type};
 ghost use Rattle.hp_typing.specs.Claims.{in_condition, in_contract, in_body, in_node, in_item, in_items, in_decls, claims};
 ghost use Rattle.hp_typing.specs.Breaches.{found_after};
 
@@ -11,7 +12,7 @@ use crate::expressions::check_test;
 use crate::scope::Scope;
 use hp_base::Name;
 use hp_known::Known;
-use hp_tree::{Block, Contract, Decl, Expr, Item, Node, TypeDecl};
+use hp_tree::{Block, Contract, Decl, Expr, Item, Node, TypeDecl, controls_of};
 use std::alloc::{AllocError, Global};
 
 #[tactic(auto, using(crate::proofs::Rules::found))]
@@ -48,16 +49,6 @@ fn check_contract<'a>(
             scope.leave(mark);
             Ok(())
         }
-    }
-}
-
-/// The controllable variables of a contract.
-pub fn controls_of<'a>(contract: &'a Option<Contract>) -> &'a [Decl]
-    ensures { result.now ≡ controls_of contract.now }
-{
-    match contract {
-        None => &[],
-        Some(contract) => &contract.controls,
     }
 }
 

@@ -19,7 +19,7 @@ use Rattle.hp_valued.proofs.Scoped.{not_declared, still_known}
 use Rattle.hp_filled.specs.Firsts.{HasFirst, DeclsHaveFirsts}
 use Rattle.hp_flows.specs.Kinding.{HasValue}
 use Rattle.hp_made.specs.Sights.{Entry}
-use Rattle.hp_made.specs.Blocks.{ArePlain}
+use Rattle.hp_made.specs.Blocks.{locals_of, ArePlain}
 use Rattle.hp_made.specs.Making.{Known, Sketch, Site, Sight, Seen, Standing, Body, Inner, flat_type, constant_value, over, or_entry, is_in, names_of_eqns, each_once, own_names, type_declared, declared, remember_all, block_layer}
 use Rattle.hp_made.proofs.LayerLaws.{in-eqns, once-in, is_owned}
 use Rattle.hp_begun.proofs.Typing.{SeesTypes}
@@ -113,9 +113,6 @@ module _ (k : Known) where
       by false = (refl, refl, refl)
 
 -- ---- blocks
-
-abbrev pub locals_of : Block → List Decl
-locals_of (block ds es) = ds
 
 -- whether the variable that is seen around is hidden: in a block of a control equation that of a name which it defines
 abbrev pub hides : Standing → Block → List ℕ → Bool

@@ -20,7 +20,8 @@ use Rattle.hp_begun.proofs.Typing.{SeesTypes}
 use Rattle.hp_wellmade.proofs.Good.{IsSeen, seen_moved, SiteGood, site_moved, Moves, still, then_moves}
 use Rattle.hp_wellmade.proofs.Expressions.{TypeFacts, bind_moves}
 use Rattle.hp_wellmade.proofs.Layers.{SaysLocal}
-use Rattle.hp_wellmade.proofs.Entering.{all_named, locals_of, Sees, SeesAround, BlockMade}
+use Rattle.hp_made.specs.Blocks.{locals_of}
+use Rattle.hp_wellmade.proofs.Entering.{all_named, Sees, SeesAround, BlockMade}
 
 -- what is seen of a name that is hidden, and of another
 abbrev shown : Bool → Entry → Entry

@@ -13,12 +13,12 @@ use Rattle.hp_tree.specs.Blocks.{Decl, Block, block, Eqns, no_eqn, more_eqns, Eq
 use Rattle.hp_tree.specs.Programs.{TypeDecl, Contract, Node}
 use Rattle.hp_tree.specs.Operators.{is_cons, is_true}
 use Rattle.hp_tree.specs.Instant.{Step, Controls, Body, Observer, Assume, Enforce, Named, Fresh, Active, Equations, Head, Tail, Right, Test, Arms as ArmsOf, States as StatesOf, Until, Unless, First, Second, Third, Args, Instance, Place, Instant, part, top, nothing, in_row, Clock, holds, without}
-use Rattle.hp_tree.specs.Meaning.{Names, defines, within, inside, clock_of, names_of, state_of, controls_of, Jump, node_among}
+use Rattle.hp_tree.specs.Meaning.{Names, defines, within, inside, clock_of, names_of, state_of, controls_of, Jump, node_among, absent}
 use Rattle.hp_causal.specs.Sources.{below}
 use Rattle.hp_causal.specs.declared.point.PointKind.TheVariants as kind
 use Rattle.hp_causal.specs.Points.{Placed, Whereabouts, calls, calls_in_all, calls_in_parts, conditions, lefts, defined_by, points_of, points_of_all, points_of_one, points_of_arms, points_of_states, calls_told, points_of_contract, controls, points, point_at}
 use Rattle.hp_contract.specs.FreePlaces.{is_call, instance_at, calls_of}
-use Rattle.hp_wires.specs.Wired.{Held, held_at, absent, Callees, lasts_in, values_of, wired, wired_all, wired_parts, shown, shown_all, shown_parts}
+use Rattle.hp_wires.specs.Wired.{Held, held_at, Callees, lasts_in, values_of, wired, wired_all, wired_parts, shown, shown_all, shown_parts}
 use Rattle.hp_wires.specs.WiredBlocks.{read_of, lasts_of, anew, selected_in, wired_conditions, strong_in, wired_block, wired_equations, wired_equation, wired_arms, wired_states, shown_conditions, shown_block, shown_equations, shown_equation, shown_arms, shown_states}
 use Rattle.hp_wires.specs.WiredNodes.{wired_told, shown_told, wired_observer, shown_observer, body_names, contract_names, wired_node, shown_node}
 use Rattle.hp_causal.specs.Abstract.{given_outputs}

@@ -9,11 +9,11 @@ use Rattle.hp_tree.specs.declared.program.Item.TheVariants.{TypeItem, NodeItem}
 use Rattle.hp_tree.specs.Blocks.{Decl}
 use Rattle.hp_tree.specs.Programs.{TypeDecl, Contract, Node}
 use Rattle.hp_tree.specs.Instant.{Named, Fresh, Instant, Past, Given, nothing, in_node}
-use Rattle.hp_tree.specs.Meaning.{Names, lasts, names_of, observer, no_nodes, node_among}
+use Rattle.hp_tree.specs.Meaning.{Names, lasts, names_of, observer, no_nodes, node_among, absent}
 use Rattle.hp_causal.specs.Abstract.{given_outputs}
 use Rattle.hp_causal.specs.Clocked.{Standing, ContractRight, ClocksRight}
 use Rattle.hp_contract.specs.Memory.{is_last, in_memory, remembers_contract, remembers_callee}
-use Rattle.hp_wires.specs.Wired.{filled_abstraction, absent, Held, held, lasts_in, value}
+use Rattle.hp_wires.specs.Wired.{filled_abstraction, Held, held, lasts_in, value}
 use Rattle.hp_wires.specs.WiredNodes.{wired_observer, shown_observer, SoundObserver, FillsObserver, last_outputs}
 use Rattle.hp_wires.specs.WiredCallees.{no_callees, alone_names, alone_in, filled_callees, wired_alone, shown_alone, next_told_of, next_alone, SoundAlone, outputs_by, alone_by, wired_by, shown_by, next_by, SoundBy, FillsBy, callee_wires}
 use Rattle.hp_wires.specs.Laws.{AllClocksRight}

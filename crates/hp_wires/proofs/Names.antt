@@ -11,10 +11,10 @@ use Rattle.hp_tree.specs.Blocks.{Decl, Block, block, Eqns, Eqn, Arms, no_arm, mo
 use Rattle.hp_tree.specs.Programs.{TypeDecl}
 use Rattle.hp_tree.specs.Operators.{Reading, is_cons}
 use Rattle.hp_tree.specs.Instant.{Named, Head, Tail, Instant, Past, part, nothing, Clock, holds}
-use Rattle.hp_tree.specs.Meaning.{Names, Nodes, defines, some_defines, block_defines, declares, is_among, inside, within, previous, lasts, clock_in, written, output_for, from_block, from_arm}
+use Rattle.hp_tree.specs.Meaning.{Names, Nodes, defines, some_defines, block_defines, declares, is_among, inside, within, previous, lasts, clock_in, written, output_for, from_block, from_arm, absent}
 use Rattle.hp_causal.specs.Clocked.{Standing, base_alone, standing_in, DeclarationsRight, LeftsOn}
 use Rattle.hp_contract.specs.Memory.{is_last, remembers_block}
-use Rattle.hp_wires.specs.Wired.{absent, Held, held_at, blank, lasts_in, Callees, value}
+use Rattle.hp_wires.specs.Wired.{Held, held_at, blank, lasts_in, Callees, value}
 use Rattle.hp_wires.specs.WiredBlocks.{arm_value, has_arm, anew_memory, shown_block, shown_arms}
 use Rattle.hp_wires.proofs.Exprs.{if_true, where_true, Seen}
 

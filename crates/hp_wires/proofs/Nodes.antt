@@ -7,10 +7,10 @@ use Rattle.hp_tree.specs.Expressions.{Expr}
 use Rattle.hp_tree.specs.Blocks.{Decl, Block, block}
 use Rattle.hp_tree.specs.Programs.{TypeDecl, Contract, Node}
 use Rattle.hp_tree.specs.Instant.{Body, Observer, Assume, Enforce, Named, Fresh, Instant, Past, Given, part, parts, own, nothing, in_observer, in_node, holds}
-use Rattle.hp_tree.specs.Meaning.{Names, Nodes, declares, some_defines, lasts, inside, clock_in, expr, read_in, last_in, scope, observer, node}
+use Rattle.hp_tree.specs.Meaning.{Names, Nodes, declares, some_defines, lasts, inside, clock_in, expr, read_in, last_in, scope, observer, node, absent}
 use Rattle.hp_causal.specs.Clocked.{Standing, standing_of, TellsOnBase, ContractRight, own_clock, ClocksRight}
 use Rattle.hp_contract.specs.Memory.{is_last, remembers, remembers_block, remembers_contract, in_memory}
-use Rattle.hp_wires.specs.Wired.{filled_abstraction, absent, Held, held, held_at, lasts_in, Callees, value}
+use Rattle.hp_wires.specs.Wired.{filled_abstraction, Held, held, held_at, lasts_in, Callees, value}
 use Rattle.hp_wires.specs.WiredBlocks.{read_of, lasts_of, wired_block, shown_block}
 use Rattle.hp_wires.specs.WiredNodes.{wired_told, shown_told, next_told, SoundTold, FillsTold, wired_observer, shown_observer, next_observer, SoundObserver, FillsObserver, last_outputs, remembers_in, controls_in, body_names, contract_names, wired_node, shown_node, next_node, SoundNode, FillsNode}
 use Rattle.hp_wires.proofs.Exprs.{if_true, where_true, CallsMirror, given, Seen, shown_top, met, kept}

@@ -10,10 +10,9 @@ use Rattle.hp_tree.specs.Blocks.{Block, block, Eqns, no_eqn, more_eqns, Eqn, def
 use Rattle.hp_tree.specs.Programs.{TypeDecl, Contract, Node}
 use Rattle.hp_tree.specs.Operators.{abstraction, is_cons, is_true, if_of}
 use Rattle.hp_tree.specs.Instant.{Body, Named, Fresh, Equations, Head, Tail, Right, Test, Arms as ArmsOf, States as StatesOf, Observer, Assume, Enforce, Until, Unless, First, with_one, with_two, with_three, with_row, with_instance, of_two, in_block, in_right, with_arms, with_body, in_state, with_words, in_observer, in_node, Second, Third, Args, Instance, Instant, part, top, in_row}
-use Rattle.hp_tree.specs.Meaning.{Names, defines, some_defines, within, only_output, from_block, inside, declares, Jump, state_word, first_true}
+use Rattle.hp_tree.specs.Meaning.{Names, defines, some_defines, within, only_output, from_block, inside, declares, Jump, state_word, first_true, absent}
 use Rattle.hp_wires.specs.Wired.{Held, held_at, Callees, blank, lasts_in, picked, wired, wired_all, wired_parts}
 use Rattle.hp_wires.specs.WiredBlocks.{selected_in, read_of, lasts_of, state_value, right_in, arm_value, anew, wired_conditions, strong_in, weak_of, wired_gives, wired_defined, wired_block, wired_equations, wired_equation, wired_arms, wired_states}
-use Rattle.hp_wires.specs.Wired.{absent}
 use Rattle.hp_wires.specs.WiredNodes.{controls_in, body_names, contract_names, wired_told, wired_observer, wired_node}
 
 abbrev pub Wires : Type 0

@@ -9,10 +9,10 @@ use Rattle.hp_tree.specs.declared.program.Item.TheVariants.{TypeItem, NodeItem}
 use Rattle.hp_tree.specs.Blocks.{Decl}
 use Rattle.hp_tree.specs.Programs.{TypeDecl, Contract, Node}
 use Rattle.hp_tree.specs.Instant.{Named, Instant, Given, nothing, in_node}
-use Rattle.hp_tree.specs.Meaning.{Names, Nodes, lasts, input_of, names_of, observer, no_nodes, node_among}
+use Rattle.hp_tree.specs.Meaning.{Names, Nodes, lasts, input_of, names_of, observer, no_nodes, node_among, absent}
 use Rattle.hp_causal.specs.Abstract.{given_outputs}
 use Rattle.hp_contract.specs.Memory.{is_last, in_memory, remembers_callee}
-use Rattle.hp_wires.specs.Wired.{absent, filled_abstraction, Held, Callees, lasts_in, value}
+use Rattle.hp_wires.specs.Wired.{filled_abstraction, Held, Callees, lasts_in, value}
 use Rattle.hp_wires.specs.WiredNodes.{wired_observer, shown_observer, next_observer, SoundObserver, FillsObserver}
 
 -- of an instance whose node is not known its outputs alone are there

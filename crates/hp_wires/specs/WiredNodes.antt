@@ -8,10 +8,10 @@ use Rattle.hp_tree.specs.Blocks.{Decl}
 use Rattle.hp_tree.specs.Programs.{TypeDecl, Contract, Node}
 use Rattle.hp_tree.specs.Operators.{abstraction}
 use Rattle.hp_tree.specs.Instant.{Controls, Body, Observer, Assume, Enforce, Named, Instant, Past, part, parts, own, nothing, in_observer, in_node}
-use Rattle.hp_tree.specs.Meaning.{Names, declares, lasts, input_of, given_to, no_nodes}
+use Rattle.hp_tree.specs.Meaning.{Names, declares, lasts, input_of, given_to, no_nodes, absent}
 use Rattle.hp_tree.specs.Meaning.{controls_of}
 use Rattle.hp_contract.specs.Memory.{is_last, remembers_block, remembers_contract, in_memory}
-use Rattle.hp_wires.specs.Wired.{absent, Held, held_at, lasts_in, Callees, value, wired, shown, next, Sound, Fills}
+use Rattle.hp_wires.specs.Wired.{Held, held_at, lasts_in, Callees, value, wired, shown, next, Sound, Fills}
 use Rattle.hp_wires.specs.WiredBlocks.{read_of, lasts_of, wired_block, shown_block, next_block, SoundBlock, FillsBlock}
 
 module _ (types : List TypeDecl) (C : Callees) where

@@ -7,14 +7,14 @@ use Rattle.hp_base.specs.declared.value.Value.TheVariants.{Absent}
 use Rattle.hp_tree.specs.Blocks.{Decl, Block, block, Eqns, no_eqn, more_eqns, Eqn, define, switch, reset, automaton, Arms, no_arm, more_arms, States, no_state, more_states}
 use Rattle.hp_tree.specs.Programs.{TypeDecl, Node}
 use Rattle.hp_tree.specs.Instant.{Body, Equations, Head, Tail, Right, Test, Arms as ArmsOf, States as StatesOf, Until, Unless, Instant, part}
-use Rattle.hp_tree.specs.Meaning.{Names, lasts as meant_lasts}
+use Rattle.hp_tree.specs.Meaning.{Names, lasts as meant_lasts, absent}
 use Rattle.hp_known.specs.Known.{lookup}
 use Rattle.hp_typing.specs.Scopes.{with_variables, inside}
 use Rattle.hp_typed.specs.Scopes.{Scope}
 use Rattle.hp_causal.specs.Clocked.{Standing, standing_of}
 use Rattle.hp_contract.specs.Memory.{is_last, remembers_block, remembers_equations, remembers_equation, remembers_arms, remembers_states}
 use Rattle.hp_valued.specs.Judged.{Lasts, lasts_in as known_lasts, lasts_of as known_of, BlockSound, EqnsSound, EqnSound, ArmsSound, StatesSound, DeclsSound}
-use Rattle.hp_wires.specs.Wired.{Held, Callees, absent, value}
+use Rattle.hp_wires.specs.Wired.{Held, Callees, value}
 use Rattle.hp_wires.specs.WiredBlocks.{read_of, lasts_of, anew}
 use Rattle.hp_wiretyped.specs.Typed.{IsWire, BlockTyped}
 use Rattle.hp_wiretyped.specs.Kept.{BlockKept, EqnsKept, EqnKept, ArmsKept, StatesKept}

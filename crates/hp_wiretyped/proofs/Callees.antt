@@ -9,7 +9,7 @@ use Rattle.hp_tree.specs.declared.program.Item.TheVariants.{TypeItem, NodeItem}
 use Rattle.hp_tree.specs.Blocks.{Decl}
 use Rattle.hp_tree.specs.Programs.{TypeDecl, Contract, Node}
 use Rattle.hp_tree.specs.Instant.{Named, Instant, nothing}
-use Rattle.hp_tree.specs.Meaning.{Names, declares, input_of, names_of, node_among}
+use Rattle.hp_tree.specs.Meaning.{Names, declares, input_of, names_of, node_among, absent}
 use Rattle.hp_typing.specs.Scopes.{inside_node}
 use Rattle.hp_typed.specs.Scopes.{Scope}
 use Rattle.hp_causal.specs.Clocked.{Standing, on_base, ContractRight, ClocksRight}
@@ -19,7 +19,7 @@ use Rattle.hp_valued.specs.Judged.{no_lasts, lasts_in as known_lasts, NodeSound,
 use Rattle.hp_valued.specs.Values.{Classing, AreAccepted, scope_behind, either_of, class_behind}
 use Rattle.hp_valued.proofs.Laws.{not_both}
 use Rattle.hp_valued.proofs.Typed.{some_is}
-use Rattle.hp_wires.specs.Wired.{Held, absent}
+use Rattle.hp_wires.specs.Wired.{Held}
 use Rattle.hp_wires.specs.WiredNodes.{wired_observer, SoundObserver}
 use Rattle.hp_wires.specs.WiredCallees.{no_callees, alone_names, own_last, wired_alone, next_told_of, next_alone, SoundAlone, outputs_by, wired_by, next_by, SoundBy, callee_wires}
 use Rattle.hp_wires.proofs.Callees.{memory_alone}

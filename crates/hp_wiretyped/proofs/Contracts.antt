@@ -11,7 +11,7 @@ use Rattle.hp_tree.specs.Blocks.{Decl, Block}
 use Rattle.hp_tree.specs.Programs.{TypeDecl, Contract, Node}
 use Rattle.hp_tree.specs.Operators.{abstraction, marked}
 use Rattle.hp_tree.specs.Instant.{Observer, Assume, Enforce, Named, Tail, Instant, Past, part, nothing, in_node}
-use Rattle.hp_tree.specs.Meaning.{Names, declares, block_defines, input_of, given_to, no_nodes}
+use Rattle.hp_tree.specs.Meaning.{Names, declares, block_defines, input_of, given_to, no_nodes, absent}
 use Rattle.hp_known.specs.Known.{lookup}
 use Rattle.hp_typing.specs.Scopes.{inside}
 use Rattle.hp_typed.specs.Scopes.{Scope}
@@ -21,7 +21,7 @@ use Rattle.hp_contract.specs.Memory.{is_last, in_memory, remembers, remembers_co
 use Rattle.hp_valued.specs.Judged.{Lasts, no_lasts, lasts_in as known_lasts, lasts_of as known_of, HaveOwnTypes, HaveEquations, ToldSound, ContractSound}
 use Rattle.hp_valued.proofs.Laws.{or_either, or_left, or_right}
 use Rattle.hp_valued.proofs.Typed.{some_is}
-use Rattle.hp_wires.specs.Wired.{Held, held_at, Callees, absent, lasts_in}
+use Rattle.hp_wires.specs.Wired.{Held, held_at, Callees, lasts_in}
 use Rattle.hp_wires.specs.WiredBlocks.{read_of, lasts_of}
 use Rattle.hp_wires.specs.WiredNodes.{wired_told, next_told, SoundTold, wired_observer, next_observer, SoundObserver}
 use Rattle.hp_wiretyped.specs.Typed.{IsWire, AreWires, OutputsTyped, ToldTyped, ContractTyped}

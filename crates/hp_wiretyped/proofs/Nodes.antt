@@ -6,7 +6,7 @@ use Rattle.hp_base.specs.declared.value.Value.TheVariants.{Absent}
 use Rattle.hp_tree.specs.Blocks.{Decl}
 use Rattle.hp_tree.specs.Programs.{TypeDecl, Node}
 use Rattle.hp_tree.specs.Instant.{Controls, Body, Named, Instant, part}
-use Rattle.hp_tree.specs.Meaning.{declares, block_defines, input_of, controls_of}
+use Rattle.hp_tree.specs.Meaning.{declares, block_defines, input_of, controls_of, absent}
 use Rattle.hp_known.specs.Known.{lookup}
 use Rattle.hp_typing.specs.Scopes.{inside_node}
 use Rattle.hp_typed.specs.Scopes.{Scope}
@@ -15,7 +15,7 @@ use Rattle.hp_contract.specs.Memory.{remembers_contract}
 use Rattle.hp_valued.specs.Judged.{no_lasts, lasts_in as known_lasts, body_scope, HaveOwnTypes, HaveEquations, NodeSound}
 use Rattle.hp_valued.proofs.Laws.{not_both}
 use Rattle.hp_valued.proofs.Scoped.{still_known}
-use Rattle.hp_wires.specs.Wired.{Held, held_at, Callees, absent, lasts_in}
+use Rattle.hp_wires.specs.Wired.{Held, held_at, Callees, lasts_in}
 use Rattle.hp_wires.specs.WiredNodes.{remembers_in, controls_in, body_names, contract_names, wired_observer, wired_node, next_observer, next_node, SoundNode as SoundWires}
 use Rattle.hp_wiretyped.specs.Typed.{IsWire, AreWires, OutputsTyped, BlockTyped, NodeTyped}
 use Rattle.hp_wiretyped.specs.Kept.{LastsKept, NodeKept, NodeGiven}

@@ -9,7 +9,7 @@ use Rattle.hp_tree.specs.Expressions.{Expr, constant, variable, last_of, one, tw
 use Rattle.hp_tree.specs.Blocks.{Decl, Block, block, Eqns, no_eqn, more_eqns, Eqn, define, switch, reset, automaton, Arms, no_arm, more_arms, States, no_state, more_states}
 use Rattle.hp_tree.specs.Programs.{TypeDecl, Contract, Node}
 use Rattle.hp_tree.specs.Instant.{Body, Observer, Assume, Enforce, Equations, Head, Tail, Right, Test, Arms as ArmsOf, States as StatesOf, Until, Unless, First, Second, Third, Args, Instance, Instant, Past, part, parts, top, own, newest, at_first, nothing, with_one, with_two, with_three, with_row, with_instance, in_row, of_two, in_block, in_right, with_arms, with_body, in_state, with_words, in_observer}
-use Rattle.hp_tree.specs.Meaning.{lasts, selected, state_word, node_among, types_of}
+use Rattle.hp_tree.specs.Meaning.{lasts, selected, state_word, node_among, types_of, absent}
 use Rattle.hp_known.specs.Known.{lookup}
 use Rattle.hp_typing.specs.Scopes.{with_variables, inside, inside_node}
 use Rattle.hp_typing.specs.Types.{type_of, types_in, type_of_one, args_fit}
@@ -18,7 +18,7 @@ use Rattle.hp_contract.specs.Memory.{remembering, has_past, is_last, in_memory, 
 use Rattle.hp_valued.specs.Judged.{Lasts, no_lasts, lasts_in as known_lasts, lasts_of as known_of, body_scope, ExprSound, ExprsSound, PartsSound, TestsSound, ToldSound, ContractSound, NodeSound, BlockSound, EqnsSound, EqnSound, ArmsSound, StatesSound}
 use Rattle.hp_valued.specs.Values.{scope_behind}
 use Rattle.hp_valued.proofs.Typed.{one_typed, two_typed, if_typed, pair_typed, when_typed, merge_typed, PartsHave, arg_typed}
-use Rattle.hp_wires.specs.Wired.{absent, value}
+use Rattle.hp_wires.specs.Wired.{value}
 use Rattle.hp_wires.specs.WiredNodes.{last_outputs}
 use Rattle.hp_wires.specs.WiredCallees.{no_callees}
 use Rattle.hp_wiretyped.specs.Laws.{MemoryLaw}

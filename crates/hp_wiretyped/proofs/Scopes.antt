@@ -14,7 +14,7 @@ use Rattle.hp_tree.specs.Blocks.{Decl, Block, block, Eqns, Eqn, reset, States, n
 use Rattle.hp_tree.specs.Programs.{TypeDecl, Node}
 use Rattle.hp_tree.specs.Operators.{constant_of, is_true}
 use Rattle.hp_tree.specs.Instant.{Named, Instant, Clock}
-use Rattle.hp_tree.specs.Meaning.{Names, declares, defines, some_defines, block_defines, inside as inside_names, within, lasts as lasts_of, clock_in, from_block, is_among, output_for, names_of, number_of, first_true, Jump}
+use Rattle.hp_tree.specs.Meaning.{Names, declares, defines, some_defines, block_defines, inside as inside_names, within, lasts as lasts_of, clock_in, from_block, is_among, output_for, names_of, number_of, first_true, Jump, absent}
 use Rattle.hp_known.specs.Known.{lookup}
 use Rattle.hp_typing.specs.Scopes.{with_variables}
 use Rattle.hp_typed.specs.Scopes.{Scope}
@@ -25,7 +25,7 @@ use Rattle.hp_valued.specs.Fitting.{count}
 use Rattle.hp_valued.proofs.Laws.{and_left, and_right, not_both, or_either, true_or_false}
 use Rattle.hp_valued.proofs.Scoped.{still_known, not_declared}
 use Rattle.hp_valued.proofs.Typed.{some_is}
-use Rattle.hp_wires.specs.Wired.{absent, lasts_in, value}
+use Rattle.hp_wires.specs.Wired.{lasts_in, value}
 use Rattle.hp_wires.specs.WiredBlocks.{has_state}
 use Rattle.hp_wiretyped.specs.Typed.{IsWire, HasWire, OutputsTyped, NamesTyped, BlockTyped}
 use Rattle.hp_wiretyped.specs.Kept.{LastsKept}

@@ -1,0 +1,2 @@
+pub mod RenamingLaws
+pub mod Rules
