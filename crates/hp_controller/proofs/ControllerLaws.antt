@@ -41,7 +41,7 @@ abbrev pub rest_of : List Value → List Value
 rest_of [] = []
 rest_of (v ∷ vs) = vs
 
-bit_mapped : (bits : List Bool) (x : ℕ) → x < length bits → get_or (map (λ b. B b) bits) x Absent ≡ B (bit_at bits x)
+pub bit_mapped : (bits : List Bool) (x : ℕ) → x < length bits → get_or (map (λ b. B b) bits) x Absent ≡ B (bit_at bits x)
 bit_mapped [] x h = absurd (omega (arith, h))
 bit_mapped (b ∷ bits) zero h = refl
 bit_mapped (b ∷ bits) (suc x) h = bit_mapped bits x (omega (arith, h))

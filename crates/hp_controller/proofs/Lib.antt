@@ -5,4 +5,8 @@ pub mod ControlLaws
 pub mod GateLaws
 pub mod StepLaws
 pub mod AddLaws
+pub mod ExtendingLaws
+pub mod DecodingLaws
+pub mod ValueLaws
+pub mod ControlledLaws
 pub mod Rules

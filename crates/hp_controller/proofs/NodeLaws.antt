@@ -7,9 +7,13 @@ use Rattle.hp_boolx.specs.declared.gate.Gate.{Gate}
 use Rattle.hp_flat.specs.Equations.{FlatEqn}
 use Rattle.hp_quant.specs.declared.line.Line.{Line}
 use Rattle.hp_controller.specs.Gates.{gate_at, gate_op, gate_args, gate_eqns}
+use Rattle.hp_flat.specs.declared.node.FlatTy.TheVariants.{Bool as Truth}
+use Rattle.hp_flat.specs.declared.node.Variable.{Variable}
+use Rattle.hp_controller.specs.declared.decoding.Control.{Control}
+use Rattle.hp_controller.specs.Decoding.{control_eqns, controls_eqns}
 use Rattle.hp_controller.specs.Steps.{register_eqn, register_eqns}
 use Rattle.hp_controller.proofs.ControllerLaws.{split_at}
-use Rattle.hp_controller.specs.Controllers.{equation, bit_variable, line_eqn, line_eqns, output_eqn, output_eqns}
+use Rattle.hp_controller.specs.Controllers.{equation, added_variable, bit_variable, line_eqn, line_eqns, output_eqn, output_eqns}
 
 drop-next : {A : Type 0} (xs : List A) (i : ℕ) (x : A) → i < length xs → x ≡ get_or xs i x → drop i xs ≡ x ∷ drop (i + 1) xs
 drop-next xs i x h p = drop_more xs i x h ∙ ap (λ y. y ∷ drop (i + 1) xs) (sym p)
@@ -70,6 +74,36 @@ registers-end es first gates count init next i h = ap (λ rest. es ++ rest) (non
     by : (i < length init) ⊎ (length init ≤ i) → (length (drop i init) ≡ 0) ⊎ (length (drop i next) ≡ 0)
     by (inr l) = inl (ap length (drop_all i init l))
     by (inl l) = inr (ap length (drop_all i next (omega (arith, h, l))))
+
+-- control variables, one by one
+module _ (at from next : ℕ) (cs : List Control) (i : ℕ) (c : Control) (h : i < length cs) (p : c ≡ get_or cs i c) where
+  pub controls-next : (es : List FlatEqn) → (es ++ (control_eqns at from next c.width c.kind).eqns) ++ (controls_eqns (at + 1) (from + c.width) (control_eqns at from next c.width c.kind).next (drop (i + 1) cs)).eqns ≡ es ++ (controls_eqns at from next (drop i cs)).eqns
+  controls-next es =
+      let one = control_eqns at from next c.width c.kind in
+      append_assoc es one.eqns (controls_eqns (at + 1) (from + c.width) one.next (drop (i + 1) cs)).eqns ∙ ap (λ rest. es ++ (controls_eqns at from next rest).eqns) (sym (drop-next cs i c h p))
+
+  pub controls-named : (vs : List Variable) → (vs ++ (control_eqns at from next c.width c.kind).variables) ++ (controls_eqns (at + 1) (from + c.width) (control_eqns at from next c.width c.kind).next (drop (i + 1) cs)).variables ≡ vs ++ (controls_eqns at from next (drop i cs)).variables
+  controls-named vs =
+      let one = control_eqns at from next c.width c.kind in
+      append_assoc vs one.variables (controls_eqns (at + 1) (from + c.width) one.next (drop (i + 1) cs)).variables ∙ ap (λ rest. vs ++ (controls_eqns at from next rest).variables) (sym (drop-next cs i c h p))
+
+  pub controls-free : (controls_eqns (at + 1) (from + c.width) (control_eqns at from next c.width c.kind).next (drop (i + 1) cs)).next ≡ (controls_eqns at from next (drop i cs)).next
+  controls-free = ap (λ rest. (controls_eqns at from next rest).next) (sym (drop-next cs i c h p))
+
+pub controls-end : (es : List FlatEqn) (at from next : ℕ) (cs : List Control) (i : ℕ) → length cs ≤ i → es ++ (controls_eqns at from next (drop i cs)).eqns ≡ es
+controls-end es at from next cs i h = ap (λ rest. es ++ (controls_eqns at from next rest).eqns) (drop_all i cs h) ∙ append-nil es
+
+pub controls-all : (vs : List Variable) (at from next : ℕ) (cs : List Control) (i : ℕ) → length cs ≤ i → vs ++ (controls_eqns at from next (drop i cs)).variables ≡ vs
+controls-all vs at from next cs i h = ap (λ rest. vs ++ (controls_eqns at from next rest).variables) (drop_all i cs h) ∙ append-nil vs
+
+pub controls-last : (at from next : ℕ) (cs : List Control) (i : ℕ) → length cs ≤ i → (controls_eqns at from next (drop i cs)).next ≡ next
+controls-last at from next cs i h = ap (λ rest. (controls_eqns at from next rest).next) (drop_all i cs h)
+
+-- variables that are added, and the next one
+pub added-next : (vs : List Variable) (first n : ℕ) → vs ++ map (λ x. added_variable x Truth) (range_with_len first (n + 1)) ≡ (vs ++ map (λ x. added_variable x Truth) (range_with_len first n)) ++ added_variable (first + n) Truth ∷ []
+added-next vs first n =
+    ap (λ more. vs ++ more) (map-range_with_len_more (λ x. added_variable x Truth) first n (first + n) refl)
+    ∙ sym (append_assoc vs (map (λ x. added_variable x Truth) (range_with_len first n)) (added_variable (first + n) Truth ∷ []))
 
 -- variables, and the next one
 pub variables-next : (n : ℕ) → map bit_variable (range_with_len 0 (n + 1)) ≡ map bit_variable (range_with_len 0 n) ++ bit_variable n ∷ []

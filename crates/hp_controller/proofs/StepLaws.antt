@@ -1,16 +1,17 @@
 -- Registers follow their machine.
 use Rattle.std.proofs.Common.{◌≡◌, ℕ, zero, suc, ◌+◌, Bool, List, [], ◌∷◌, ◌++◌, length, map, refl, sym, ap, ap₂, ◌∙◌, arith}
 use Rattle.std.specs.List.{AllByRecursion, range_with_len}
+use Rattle.std.proofs.lemmas.List.{length-append}
 use Rattle.hp_base.specs.declared.value.Value.{Value}
 use Rattle.hp_base.specs.declared.value.Value.TheVariants.{B}
 use Rattle.hp_boolx.specs.Machine.{Machine, IsMachine, game, at_gate}
 use Rattle.hp_boolx.specs.Search.{Bits}
 use Rattle.hp_boolx.specs.Game.{joined}
 use Rattle.hp_flat.specs.declared.equation.Atom.TheVariants.{Variable as Read}
-use Rattle.hp_flows.specs.Instants.{Instant, atom, atoms, since, is_true}
+use Rattle.hp_flows.specs.Instants.{Instant, atom, atoms, history, since, is_true}
 use Rattle.hp_flows.specs.Reactions.{Answers, Holds}
 use Rattle.hp_controller.specs.Gates.{gate_at, gate_eqns, HaveBits}
-use Rattle.hp_controller.specs.Steps.{register_eqns, asking_eqn, Placing, register_places, control_places, places, step_eqns, bits_of, AreBits, AlwaysHold, state_after, StepsLaw, AnswersAsController, IsSteered, AlwaysSteered, SteeredLaw}
+use Rattle.hp_controller.specs.Steps.{register_eqns, asking_eqn, Placing, register_places, control_places, places, step_eqns, bits_of, AreBits, AlwaysHold, state_after, StepsLaw, IsRow, AnswersAsController, AnswersLaw, IsSteered, AlwaysSteered, SteeredLaw}
 use Rattle.hp_controller.proofs.ControllerLaws.{first_of, rest_of, in_front, behind}
 use Rattle.hp_controller.proofs.GateLaws.{gate_read}
 
@@ -128,20 +129,41 @@ module _ (m : Machine) (p : Placing) (name : List ℕ) (answers : Answers) (mach
       let rest = behind (Holds answers past now) (register_eqns p.registers p.gates (length m.gates) m.init m.next) (asking_eqn name (register_places m p ++ p.early) p.control m.control ∷ gate_eqns (places m p) p.gates 0 m.gates) h in
       rest.0
 
+  -- what is asked at an instant
+  given : (past : List Instant) (now : Instant) → map now (register_places m p) ≡ map (λ b. B b) (state_after m p past) → AreBits now p.early → atoms now (map (λ x. Read x) (register_places m p ++ p.early)) ≡ map (λ b. B b) (state_after m p past ++ bits_of now p.early)
+  given past now registers early =
+      asked now (register_places m p ++ p.early) ∙ mapped_both now (register_places m p) p.early
+      ∙ ap₂ (λ vs ws. vs ++ ws) registers (read_bits now p.early early)
+      ∙ sym (values_both (state_after m p past) (bits_of now p.early))
+
+  row_is : (past : List Instant) (now : Instant) → map now (register_places m p) ≡ map (λ b. B b) (state_after m p past) → AreBits now p.early → IsRow m (atoms now (map (λ x. Read x) (register_places m p ++ p.early)))
+  row_is past now registers early = (
+    state_after m p past ++ bits_of now p.early,
+    length-append (state_after m p past) (bits_of now p.early) ∙ ap₂ (λ a b. a + b) (state_many past) (bits_many now p.early ∙ as_many),
+    given past now registers early,
+  )
+
+  rows : (past : List Instant) → AlwaysSteered m p past → AllByRecursion (λ (i : Instant). AreBits i p.early × AreBits i p.late) past → AllByRecursion (IsRow m) (history [] [] (λ (i : Instant). atoms i (map (λ x. Read x) (register_places m p ++ p.early))) past)
+  rows [] s b = tt
+  rows (now ∷ past) s b = let here = s.0 in (row_is past now here.registers b.0.0, rows past s.1 b.1)
+
   steered : (instants : List Instant) → AlwaysHold answers (step_eqns m p name) instants → AllByRecursion (λ (i : Instant). AreBits i p.early × AreBits i p.late) instants → AlwaysSteered m p instants
   steered [] h b = tt
   steered (now ∷ past) h b =
       let before = steered past h.1 b.1 in
       let registers = steps m p name answers now past machine h (each_bits past before b.1) in
       let earlier = since [] [] (λ (i : Instant). atoms i (map (λ x. Read x) (register_places m p ++ p.early))) past now in
-      let given : atoms now (map (λ x. Read x) (register_places m p ++ p.early)) ≡ map (λ b. B b) (state_after m p past ++ bits_of now p.early) =
-      asked now (register_places m p ++ p.early) ∙ mapped_both now (register_places m p) p.early
-      ∙ ap₂ (λ vs ws. vs ++ ws) registers (read_bits now p.early b.0.0)
-      ∙ sym (values_both (state_after m p past) (bits_of now p.early)) in
-      let told = controller (state_after m p past) (bits_of now p.early) earlier (state_many past) (bits_many now p.early ∙ as_many) in (
-        record { registers = registers; choice = told.0; chosen = told.1; controls = asking past now h.0 refl ∙ ap (λ vs. answers name vs earlier) given ∙ told.2 },
+      let told = controller (state_after m p past) (bits_of now p.early) earlier (state_many past) (bits_many now p.early ∙ as_many) (rows past before b.1) in (
+        record { registers = registers; choice = told.0; chosen = told.1; controls = asking past now h.0 refl ∙ ap (λ vs. answers name vs earlier) (given past now registers b.0.0) ∙ told.2 },
         before,
       )
 
 pub steered_law : SteeredLaw
 steered_law m p name answers instants machine as_many controller hold bits = steered m p name answers machine as_many controller instants hold bits
+
+pub controllers_answer : AnswersLaw
+controllers_answer m node answers controller gives r u earlier lr lu rows =
+    let size : length (r ++ u) ≡ m.registers + m.early = length-append r u ∙ ap₂ (λ a b. a + b) lr lu in
+    let answer = gives (map (λ b. B b) (r ++ u)) earlier (r ++ u, size, refl) rows in
+    let told = controller.gives answers answer.1 r u answer.0 lr lu (answer.2.1) in
+    (told.0, told.1, answer.3 ∙ told.2)

@@ -7,6 +7,7 @@ use Rattle.hp_obc.specs.declared.command.ObcOp.{ObcOp}
 use Rattle.hp_obc.specs.declared.command.ObcOp.TheVariants.{Copy, Mux}
 use Rattle.hp_flat.specs.declared.equation.Atom.{Atom}
 use Rattle.hp_flat.specs.declared.equation.Atom.TheVariants.{Variable as Read, Value as Fixed}
+use Rattle.hp_flat.specs.declared.node.FlatTy.{FlatTy}
 use Rattle.hp_flat.specs.declared.node.FlatTy.TheVariants.{Bool}
 use Rattle.hp_flat.specs.declared.node.Variable.{Variable}
 use Rattle.hp_flat.specs.Equations.{operator, FlatEqn}
@@ -42,6 +43,10 @@ output_eqn inputs lines i number = equation i (inputs + i) Copy (atom_at inputs 
 abbrev pub output_eqns : ℕ → ℕ → ℕ → List ℕ → List FlatEqn
 output_eqns inputs lines i [] = []
 output_eqns inputs lines i (n ∷ ns) = output_eqn inputs lines i n ∷ output_eqns inputs lines (i + 1) ns
+
+-- a variable that is added to a node, named by its number; no name of a source text holds the sign
+abbrev pub added_variable : ℕ → FlatTy → Variable
+added_variable x ty = record { name = codes "b$x" ++ decimal x; ty = ty }
 
 -- a variable, named by its number
 abbrev pub bit_variable : ℕ → Variable

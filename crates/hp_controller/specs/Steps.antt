@@ -10,10 +10,12 @@ use Rattle.hp_boolx.specs.Game.{joined}
 use Rattle.hp_boolx.specs.Solved.{IsChoice}
 use Rattle.hp_flat.specs.declared.equation.Atom.{Atom}
 use Rattle.hp_flat.specs.declared.equation.Atom.TheVariants.{Variable as Read}
+use Rattle.hp_flat.specs.Nodes.{FlatNode}
 use Rattle.hp_flat.specs.Equations.{register, called, FlatEqn}
 use Rattle.hp_flows.specs.Instants.{Instant, is_true}
-use Rattle.hp_flows.specs.Reactions.{Answers, Holds}
+use Rattle.hp_flows.specs.Reactions.{Answers, Holds, Reaction, outputs_at}
 use Rattle.hp_controller.specs.declared.steps.Placing as held
+use Rattle.hp_controller.specs.Controlling.{IsController}
 use Rattle.hp_controller.specs.Gates.{gate_at, gate_eqns}
 
 -- a register: it has its first value, and then what was read before
@@ -81,10 +83,21 @@ StepsLaw =
 
 -- ---- with a controller
 
--- A node of a name answers as the machine's controller: over registers and early bits, whatever was before, with the choice.
+-- the registers and the early bits, in a row
+abbrev pub IsRow : Machine → List Value → Type 0
+IsRow m row = (bits : Bits) × (length bits ≡ m.registers + m.early) × (row ≡ map (λ b. B b) bits)
+
+-- A node of a name answers as the machine's controller: over registers and early bits, after others, with the choice.
 abbrev pub AnswersAsController : Answers → Machine → List ℕ → Type 0
 AnswersAsController answers m name =
-    (r u : Bits) (earlier : List (List Value)) → length r ≡ m.registers → length u ≡ m.early → (c : Bits) × IsChoice (game m) r u c × (answers name (map (λ b. B b) (r ++ u)) earlier ≡ map (λ b. B b) c)
+    (r u : Bits) (earlier : List (List Value)) → length r ≡ m.registers → length u ≡ m.early → AllByRecursion (IsRow m) earlier → (c : Bits) × IsChoice (game m) r u c × (answers name (map (λ b. B b) (r ++ u)) earlier ≡ map (λ b. B b) c)
+
+-- So it is where the controller is a node that answers, over such rows, with the outputs of a reaction at its newest instant.
+abbrev pub AnswersLaw : Type 0
+AnswersLaw =
+    (m : Machine) (node : FlatNode) (answers : Answers) → IsController m node
+    → ((args : List Value) (earlier : List (List Value)) → IsRow m args → AllByRecursion (IsRow m) earlier → (now : Instant) × (past : List Instant) × Reaction answers node (args ∷ earlier) (now ∷ past) × (answers node.name args earlier ≡ outputs_at node now))
+    → AnswersAsController answers m node.name
 
 -- At an instant after some others the registers are those of the machine, and the controls are the choice at these and the early bits.
 pub record IsSteered (m : Machine) (p : Placing) (past : List Instant) (now : Instant) : Type 0 where

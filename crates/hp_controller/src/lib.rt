@@ -1,16 +1,22 @@
-//! The node of a controller, made of the functions of its outputs.
+//! The controller of a machine as a node of clocked equations, and nodes that ask it.
 #![tactic(auto)]
 
 mod controlling;
+mod decoding;
 mod gates;
 mod laws;
 mod node;
+mod steering;
 mod steps;
 
 pub use controlling::controller;
+pub use decoding::{Added, Control, ControlKind, Enumeration, add_controls};
 pub use gates::add_gates;
 pub use laws::{
-    gates_have_their_values, lines_give_their_functions, registers_follow_their_machine,
+    added_equations_give_inputs, codes_are_decoded, controlled_nodes_follow_their_controller,
+    controllers_answer_with_the_choice, gates_have_their_values, lines_give_their_functions,
+    registers_follow_their_machine,
 };
 pub use node::node_of_lines;
+pub use steering::controlled;
 pub use steps::{Placing, add_steps};
