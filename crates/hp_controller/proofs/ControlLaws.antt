@@ -1,6 +1,6 @@
 -- The node of the lines of a machine's functions is its controller.
 use Rattle.std.proofs.Common.{◌≡◌, ℕ, zero, suc, ◌+◌, ◌<◌, Bool, false, List, [], ◌∷◌, ◌++◌, length, map, slice_index_or, codes, refl, sym, ap, ap₂, subst, ◌∙◌, arith}
-use Rattle.std.specs.List.{AllByRecursion}
+use Rattle.std.specs.List.{AllByRecursion, range_with_len}
 use Rattle.std.proofs.lemmas.List.{length-append}
 use Rattle.hp_base.specs.declared.value.Value.TheVariants.{B}
 use Rattle.hp_boolx.specs.Machine.{Machine, game}
@@ -11,13 +11,15 @@ use Rattle.hp_certmade.specs.Placed.{RefersBack}
 use Rattle.hp_control.specs.Controlling.{AreFunctions}
 use Rattle.hp_diagram.specs.Diagrams.{Diagrams, function}
 use Rattle.hp_diagram.specs.declared.reference.Ref.{Ref}
+use Rattle.hp_flat.specs.declared.node.FlatTy.TheVariants.{Bool as Truth}
+use Rattle.hp_flat.specs.declared.node.Variable.{Variable}
 use Rattle.hp_flat.specs.Equations.{FlatEqn}
 use Rattle.hp_quant.specs.declared.line.Line.{Line}
 use Rattle.hp_quant.specs.Lines.{line_function}
 use Rattle.hp_synth.specs.Building.{functions_at}
 use Rattle.hp_synth.specs.Valued.{Valued, states, earlies, read}
 use Rattle.hp_synth.proofs.Ranges.{read-list}
-use Rattle.hp_controller.specs.Controllers.{line_eqns, output_eqns, node_of_lines}
+use Rattle.hp_controller.specs.Controllers.{bit_variable, line_eqns, output_eqns, node_of_lines}
 use Rattle.hp_controller.specs.Controlling.{IsOperator, IsController}
 use Rattle.hp_controller.specs.Laws.{bit_at}
 use Rattle.hp_controller.proofs.ControllerLaws.{gives}
@@ -55,12 +57,17 @@ lines_stateless : (inputs i : ℕ) (ls : List Line) (rest : List FlatEqn) → Al
 lines_stateless inputs i [] rest h = h
 lines_stateless inputs i (l ∷ ls) rest h = (tt, lines_stateless inputs (i + 1) ls rest h)
 
+all_bits : (from count : ℕ) → AllByRecursion (λ (x : Variable). x.ty ≡ Truth) (map bit_variable (range_with_len from count))
+all_bits from zero = tt
+all_bits from (suc n) = (refl, all_bits (from + 1) n)
+
 -- ---- the controller
 
 pub controls : (m : Machine) (t : Diagrams) (funs : List Ref) (name : List ℕ) (lines : List Line) (numbers : List ℕ) → AreFunctions (game m) t funs → HaveFunctions t funs lines numbers → RefersBack lines → name ≡ m.name ++ codes "$ctl"
     → IsController m (node_of_lines name (m.registers + m.early) lines numbers)
 controls m t funs name lines numbers are have back named = record {
   name = named;
+  bits = all_bits 0 (m.registers + m.early + length lines + length numbers);
   inputs = refl;
   stateless = lines_stateless (m.registers + m.early) 0 lines (output_eqns (m.registers + m.early) (length lines) (length lines) numbers) (outputs_stateless (m.registers + m.early) (length lines) (length lines) numbers);
   well_made = λ types callees. well_made types callees name (m.registers + m.early) lines numbers;

@@ -7,6 +7,8 @@ use Rattle.hp_boolx.specs.Search.{Bits}
 use Rattle.hp_boolx.specs.Solved.{IsChoice}
 use Rattle.hp_obc.specs.Machines.{ObcType}
 use Rattle.hp_flat.specs.Equations.{Right, operator, register, called, FlatEqn}
+use Rattle.hp_flat.specs.declared.node.FlatTy.TheVariants.{Bool}
+use Rattle.hp_flat.specs.declared.node.Variable.{Variable}
 use Rattle.hp_flat.specs.Nodes.{FlatNode}
 use Rattle.hp_flows.specs.Instants.{Instant}
 use Rattle.hp_flows.specs.Reactions.{Answers, Continues, outputs_at}
@@ -18,9 +20,10 @@ IsOperator (operator op args) = ⊤
 IsOperator (register first next) = ⊥
 IsOperator (called f args) = ⊥
 
--- The node is the controller of the machine: it is named after it, takes the registers and the early bits, remembers nothing, and gives its choice at each state and all early values.
+-- The node is the controller of the machine: it is named after it, has truth values alone, takes the registers and the early bits, remembers nothing, and gives its choice at each state and all early values.
 pub record IsController (m : Machine) (node : FlatNode) : Type 0 where
   pub name : node.name ≡ m.name ++ codes "$ctl"
+  pub bits : AllByRecursion (λ (x : Variable). x.ty ≡ Bool) node.variables
   pub inputs : node.inputs ≡ m.registers + m.early
   pub stateless : AllByRecursion (λ (e : FlatEqn). IsOperator e.right) node.eqns
   pub well_made : (types : List ObcType) (callees : Callees) → IsWellMade types callees node
