@@ -21,8 +21,7 @@ sys.dont_write_bytecode = True
 LOGS = '/tmp/libraries'
 # seconds of a processor that the dearest proofs take
 SECONDS = dict(
-    hp_driver=1500, hp_rows=1200, hp_main=900, hp_expand=790, hp_abstract=700, hp_automata=633, hp_cause=628, hp_obctext=600, hp_parser=560, hp_complete=540, hp_exec=520, hp_typing=505,
-    hp_clocks=458, hp_formed=360, hp_init=317, hp_circuit=250, hp_tree=240, hp_certtext=200, hp_names=190, hp_replaced=180, hp_toobc=180, hp_io=170, hp_print=164)
+    hp_driver=1500, hp_rows=1200, hp_main=900, hp_expand=790, hp_abstract=700, hp_automata=633, hp_cause=628, hp_obctext=600, hp_parser=560, hp_complete=540, hp_exec=520, hp_typing=505, hp_clocks=458, hp_form=360, hp_init=317, hp_circuit=250, hp_tree=240, hp_cert=200, hp_names=190, law_judged=180, hp_toobc=180, hp_io=170, hp_print=164)
 
 
 def kit():

@@ -6,9 +6,9 @@ use Rattle.hp_boolx.specs.Search.{Bits}
 use Rattle.hp_tree.specs.declared.program.Item.{Item}
 use Rattle.hp_tree.specs.Meaning.{types_of}
 use Rattle.hp_tree.specs.Programs.{TypeDecl, Node}
-use Rattle.hp_contract.specs.Forgetting.{ContractsCallNothing}
-use Rattle.hp_contract.specs.Slots as slots
-use Rattle.hp_contract.specs.Slots.{width_of, shape_of, slots_of_node, registers_among, free_among}
+use Rattle.hp_meaning.specs.Contract.Forgetting.{ContractsCallNothing}
+use Rattle.hp_meaning.specs.Contract.Slots as slots
+use Rattle.hp_meaning.specs.Contract.Slots.{width_of, shape_of, slots_of_node, registers_among, free_among}
 use Rattle.hp_circuit.specs.declared.circuit.Circuit.{Circuit}
 use Rattle.hp_circuit.specs.declared.circuit.Role.{Role}
 use Rattle.hp_circuit.specs.declared.circuit.Role.TheVariants as role
@@ -21,7 +21,7 @@ use Rattle.hp_circuit.specs.Machines.{is_truth, joined, slot_widths, slot_prefer
 use Rattle.hp_circuit.specs.Shapes.{shape_width}
 use Rattle.hp_drawing.specs.Kept.{Kept, register, input, control, free, kept_of, kept_slots}
 use Rattle.hp_abstract.specs.Machines.{controls_among, widths_at, preferred_bits, preferred_at, HasSlots, IsMachineOf}
-use Rattle.hp_slotted.specs.Slotted.{shape_as, slots_as}
+use Rattle.hp_drawing.specs.Slotted.Slotted.{shape_as, slots_as}
 use Rattle.hp_drawing.specs.Told.{told_of}
 use Rattle.hp_drawing.specs.DrawnNodes.{drawn_node}
 use Rattle.hp_drawing.specs.Planned.{planned_node}
@@ -29,17 +29,17 @@ use Rattle.hp_drawing.specs.Seen.{IsOf}
 use Rattle.hp_drawing.proofs.NodeDrawn.{node-planned}
 use Rattle.hp_names.specs.Rules.{WellNamed}
 use Rattle.hp_tree.specs.declared.program.Item.TheVariants.{NodeItem}
-use Rattle.hp_slotted.proofs.NamedLaws.{all_apart, one_apart}
-use Rattle.hp_slotted.proofs.AllDeclare.{Any, any_node, any_nodes}
-use Rattle.hp_slotted.proofs.StartLaws.{node_starts}
-use Rattle.hp_slotted.proofs.SlotLaws.{Look, LastStarts, AllStart, viewed, all_viewed, remembered}
+use Rattle.hp_drawing.proofs.SlottedLemmas.NamedLaws.{all_apart, one_apart}
+use Rattle.hp_drawing.proofs.SlottedLemmas.AllDeclare.{Any, any_node, any_nodes}
+use Rattle.hp_drawing.proofs.SlottedLemmas.StartLaws.{node_starts}
+use Rattle.hp_drawing.proofs.SlottedLemmas.SlotLaws.{Look, LastStarts, AllStart, viewed, all_viewed, remembered}
 use Rattle.hp_circuit.specs.Numbers.{to_bits}
 use Rattle.hp_base.specs.declared.ty.Const.{Const}
 use Rattle.hp_base.specs.declared.value.Value.{Value}
-use Rattle.hp_contract.specs.Memory.{number_in, memory, bits_in, bits}
+use Rattle.hp_meaning.specs.Contract.Memory.{number_in, memory, bits_in, bits}
 use Rattle.hp_tree.specs.Blocks.{Decl}
 use Rattle.hp_tree.specs.Instant.{Instant, nothing as no_memory}
-use Rattle.hp_slotted.proofs.SlotNodes.{node_brings}
+use Rattle.hp_drawing.proofs.SlottedLemmas.SlotNodes.{node_brings}
 
 -- numbers are not looked at
 abbrev bare_look : Look

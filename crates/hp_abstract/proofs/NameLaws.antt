@@ -6,7 +6,7 @@ use Rattle.hp_tree.specs.declared.block.State.{State}
 use Rattle.hp_tree.specs.Blocks.{Decl, Block, block, Eqns, no_eqn, more_eqns, Eqn, define, switch, reset, automaton, Arms, no_arm, more_arms, States, no_state, more_states, states_of}
 use Rattle.hp_tree.specs.BlockView.{state_seen}
 use Rattle.hp_tree.specs.Meaning.{declares}
-use Rattle.hp_defining.specs.Names as defining
+use Rattle.hp_tables.specs.Defining.Names as defining
 use Rattle.hp_drawing.specs.Planned.{count_states}
 use Rattle.hp_drawing.specs.Scopes.{is_declared, left_names, names_of_arms, names_of_eqn, names_of_eqns, names_of_states, outer_names, unknown_names}
 

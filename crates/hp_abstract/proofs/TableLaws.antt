@@ -4,7 +4,7 @@ use Rattle.std.specs.Str.{bytes_eq}
 use Rattle.hp_tree.specs.declared.program.Item.{Item}
 use Rattle.hp_tree.specs.declared.program.Item.TheVariants.{TypeItem, NodeItem}
 use Rattle.hp_tree.specs.Programs.{Node}
-use Rattle.hp_declared.specs.Items as declared
+use Rattle.hp_tables.specs.Declarations.Items as declared
 use Rattle.hp_drawing.specs.declared.parts.Constructor.{Constructor}
 use Rattle.hp_drawing.specs.Told.{none_of, or_none, with_type, counts_of, with_constructors, with_type_constructors, constructors_of, with_node, with_nodes}
 use Rattle.hp_drawing.proofs.ListLaws.{drop-next, drop-end}

@@ -2,8 +2,8 @@
 use Rattle.std.proofs.Common.{◌≡◌, ℕ, List, [], ◌∷◌, Option, None, Some, refl, ◌∙◌}
 use Rattle.hp_base.specs.declared.span.Span.{Span}
 use Rattle.hp_tree.specs.Expressions.{Expr, constant, variable, last_of, one, two, choose, pre, fby, arrow, when_is, merge, call, Exprs, no_expr, more_exprs}
-use Rattle.hp_telling.specs.Tellings as told
-use Rattle.hp_telling.specs.Tellings.{Told, as_of, one_more, or_else, tells_in_all, tells_of}
+use Rattle.hp_tables.specs.Telling.Tellings as told
+use Rattle.hp_tables.specs.Telling.Tellings.{Told, as_of, one_more, or_else, tells_in_all, tells_of}
 use Rattle.hp_drawing.specs.DrawnBlocks.{or_telling, tells, tells_all, told_by}
 use Rattle.hp_abstract.specs.Telling.{as_drawn}
 

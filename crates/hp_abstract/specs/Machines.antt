@@ -9,11 +9,11 @@ use Rattle.hp_tree.specs.declared.program.Item.{Item}
 use Rattle.hp_tree.specs.Meaning.{types_of}
 use Rattle.hp_tree.specs.Expressions.{Expr}
 use Rattle.hp_tree.specs.Programs.{Contract, TypeDecl, Node}
-use Rattle.hp_causal.specs.Points.{span_of}
-use Rattle.hp_contract.specs.Codes.{width}
-use Rattle.hp_contract.specs.Forgetting.{ContractsCallNothing}
-use Rattle.hp_contract.specs.Memory.{bits}
-use Rattle.hp_contract.specs.Slots.{Shape, truth, mark, cons, Slot, control, FreePlace, width_of, shape_of, slots_of_node, free_places, registers}
+use Rattle.hp_meaning.specs.Causal.Points.{span_of}
+use Rattle.hp_meaning.specs.Contract.Codes.{width}
+use Rattle.hp_meaning.specs.Contract.Forgetting.{ContractsCallNothing}
+use Rattle.hp_meaning.specs.Contract.Memory.{bits}
+use Rattle.hp_meaning.specs.Contract.Slots.{Shape, truth, mark, cons, Slot, control, FreePlace, width_of, shape_of, slots_of_node, free_places, registers}
 use Rattle.hp_circuit.specs.declared.circuit.Circuit.{Circuit}
 use Rattle.hp_circuit.specs.Machines as circuit
 use Rattle.hp_circuit.specs.declared.error.CircuitErr.{CircuitErr}

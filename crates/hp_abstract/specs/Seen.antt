@@ -2,8 +2,8 @@
 -- Source: own.
 use Rattle.std.specs.Prelude.{ℕ, [], List, map, reverse, Option, None, Some, option_map}
 use Rattle.std.specs.Borrow.{Bor}
-use Rattle.hp_declared.specs.Seen.{node_in}
-use Rattle.hp_declared.specs.Tables.{said_in}
+use Rattle.hp_tables.specs.Declarations.Seen.{node_in}
+use Rattle.hp_tables.specs.Declarations.Tables.{said_in}
 use Rattle.hp_drawing.specs.declared.parts.Constructor.{Constructor}
 use Rattle.hp_drawing.specs.declared.parts.Entry.{Entry}
 use Rattle.hp_drawing.specs.DrawnBlocks.{Words, words_of}

@@ -1,8 +1,8 @@
 -- How the clock of a definition is told, as it is drawn.
 -- Source: own.
 use Rattle.std.specs.Prelude.{Option, None, Some}
-use Rattle.hp_telling.specs.Tellings as told
-use Rattle.hp_telling.specs.Tellings.{as_of, one_more}
+use Rattle.hp_tables.specs.Telling.Tellings as told
+use Rattle.hp_tables.specs.Telling.Tellings.{as_of, one_more}
 use Rattle.hp_drawing.specs.DrawnBlocks.{Telling, untold, at_base, of_name, on_value}
 
 abbrev pub as_drawn : Option told.Told → Telling

@@ -1,6 +1,6 @@
 //! The clocks of definitions.
 ghost use Rattle.std.specs.Prelude.{◌≡◌, IfOk, OnOk};
-ghost use Rattle.hp_telling.specs.Seen.{told_seen};
+ghost use Rattle.hp_tables.specs.Telling.Seen.{told_seen};
 ghost use Rattle.hp_drawing.specs.DrawnBlocks as drawn;
 ghost use Rattle.hp_drawing.specs.DrawnExpressions.{step_clock};
 ghost use Rattle.hp_drawing.specs.Seen.{sketch_of};
@@ -11,7 +11,7 @@ use crate::scope::Scope;
 use crate::table::Tables;
 use hp_base::{Name, Span};
 use hp_drawing::{BASE, Draft};
-use hp_telling::{Telling, told_by};
+use hp_tables::telling::{Telling, told_by};
 use hp_tree::{Cons, Decl, Expr};
 use std::alloc::AllocError;
 

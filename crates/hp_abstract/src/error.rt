@@ -11,7 +11,7 @@ pub enum AbsErr {
     /// The first limit that is passed, of the bits of registers, early values, controllable variables and late values.
     #[error("a limit is passed")]
     Limit(Limit),
-    /// What is drawn of the node is no circuit: numbers name no wire, shapes do not fit, or wires read each other in a circle. Of a node of an accepted program it never is so (`hp_drawn_form`, `hp_no_circle`).
+    /// What is drawn of the node is no circuit: numbers name no wire, shapes do not fit, or wires read each other in a circle. Of a node of an accepted program it never is so (`law_drawing::form`, `law_drawing::no_circle`).
     #[error("the circuit of the node is not built")]
     NotBuilt,
     #[error("out of memory")]

@@ -11,8 +11,8 @@ use crate::scope::{Layer, Scope, wire_or_false};
 use crate::shape::is_mark;
 use crate::table::Tables;
 use hp_base::Name;
-use hp_defining::{names_in, names_of};
 use hp_drawing::{Draft, Entry, Place, Value, chain};
+use hp_tables::defining::{names_in, names_of};
 use hp_tree::{Block, Decl, Eqn};
 use std::alloc::AllocError;
 

@@ -1,7 +1,7 @@
 //! What a program says of its types and nodes.
 ghost use Rattle.std.specs.Prelude.{◌≡◌, IfOk, OnOk};
-ghost use Rattle.hp_declared.specs.Seen.{node_seen};
-ghost use Rattle.hp_declared.specs.Tables.{said_in};
+ghost use Rattle.hp_tables.specs.Declarations.Seen.{node_seen};
+ghost use Rattle.hp_tables.specs.Declarations.Tables.{said_in};
 ghost use Rattle.hp_drawing.specs.DrawnExpressions as drawn;
 ghost use Rattle.hp_drawing.specs.Seen.{sketch_of};
 ghost use Rattle.hp_drawing.specs.Told.{constant_number, constant_shape, counts_of, or_none, told_of, type_shape, with_type};
@@ -9,8 +9,8 @@ ghost use Rattle.hp_abstract.specs.Seen.{told_in};
 
 use hp_base::{Const, Name, Ty};
 use hp_circuit::{Shape, Wire};
-use hp_declared::{Table, constructors_of, nodes_of};
 use hp_drawing::{Constructor, Draft, Value};
+use hp_tables::declarations::{Table, constructors_of, nodes_of};
 use hp_tree::{Cons, Item, Node, Program};
 use std::alloc::{AllocError, Global};
 

@@ -2,7 +2,7 @@
 ghost use Rattle.std.specs.Prelude.{◌≡◌, map, IfOk, OnOk};
 ghost use Rattle.hp_tree.specs.Blocks.{states_of};
 ghost use Rattle.hp_tree.specs.BlockView.{state_seen};
-ghost use Rattle.hp_declared.specs.Tables.{said_in};
+ghost use Rattle.hp_tables.specs.Declarations.Tables.{said_in};
 ghost use Rattle.hp_drawing.specs.Places as places;
 ghost use Rattle.hp_drawing.specs.Planned.{count_states};
 ghost use Rattle.hp_drawing.specs.Seen.{sketch_of};
@@ -10,8 +10,8 @@ ghost use Rattle.hp_drawing.specs.Told.{or_none};
 ghost use Rattle.hp_abstract.specs.Seen.{numbers_in};
 
 use hp_base::Name;
-use hp_declared::Table;
 use hp_drawing::{Draft, FALSE, Jump, Lines, Place, TRUE};
+use hp_tables::declarations::Table;
 use hp_tree::{State, Trans};
 use std::alloc::{AllocError, Global};
 

@@ -6,7 +6,7 @@ use Rattle.hp_tree.specs.Blocks.{no_state, states_of}
 use Rattle.hp_tree.specs.BlockView.{state_seen}
 use Rattle.hp_tree.specs.declared.block.State.{State}
 use Rattle.hp_tree.specs.Meaning.{number_of}
-use Rattle.hp_defining.specs.Names.{names_of_states}
+use Rattle.hp_tables.specs.Defining.Names.{names_of_states}
 use Rattle.hp_automata.specs.Names.{once}
 use Rattle.hp_automata.specs.Lowering.{Frame, count_of, frame}
 use Rattle.hp_automata.specs.Held.{or_first, put_target}

@@ -4,7 +4,7 @@ use Rattle.std.proofs.lemmas.List.{take_all, length-append, take-append-le}
 use Rattle.std.proofs.Math.Seq.{take-suc}
 use Rattle.std.proofs.Math.Numerals.{add-one}
 use Rattle.hp_base.specs.declared.ty.Ty.{Ty}
-use Rattle.hp_known.specs.Known.{lookup, with_entry}
+use Rattle.hp_base.specs.Known.Known.{lookup, with_entry}
 use Rattle.hp_tree.specs.declared.program.Item.{Item}
 use Rattle.hp_tree.specs.Blocks.{Decl}
 use Rattle.hp_automata.specs.declared.around.Layer.{Layer}

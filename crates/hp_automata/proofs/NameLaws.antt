@@ -2,10 +2,10 @@
 use Rattle.std.proofs.Common.{◌≡◌, ℕ, ◌+◌, ◌<◌, get_or, length, drop, map, Bool, true, false, if◌then◌else◌, List, [], ◌∷◌, ◌++◌, Bor, is_some, Some, refl, sym, ap, ◌∙◌}
 use Rattle.std.specs.Str.{bytes_eq}
 use Rattle.std.proofs.lemmas.Slice.Eq.{bytes_eq-Decides}
-use Rattle.hp_known.specs.Known.{lookup, with_entry}
+use Rattle.hp_base.specs.Known.Known.{lookup, with_entry}
 use Rattle.hp_tree.specs.Blocks.{Decl}
 use Rattle.hp_tree.specs.Meaning.{declares}
-use Rattle.hp_defining.specs.Names.{undeclared}
+use Rattle.hp_tables.specs.Defining.Names.{undeclared}
 use Rattle.hp_automata.specs.Names.{is_name, missing, with_name, once_behind, once}
 use Rattle.hp_automata.specs.Lists.{names_seen, paired, with_more}
 use Rattle.hp_automata.proofs.ListLaws.{drop-next, more-append, map-one}

@@ -11,7 +11,7 @@ use Rattle.hp_base.specs.declared.ty.Ty.{Ty}
 use Rattle.hp_base.specs.declared.ty.Ty.TheVariants as ty
 use Rattle.hp_base.specs.declared.ty.Const.{Const}
 use Rattle.hp_base.specs.declared.ty.Const.TheVariants as const
-use Rattle.hp_known.specs.Known.{lookup, with_entry}
+use Rattle.hp_base.specs.Known.Known.{lookup, with_entry}
 use Rattle.hp_tree.specs.declared.block.Trans.{Trans}
 use Rattle.hp_tree.specs.declared.decl.Cons.TheVariants.{False, True}
 use Rattle.hp_tree.specs.declared.expr.Op2.TheVariants.{Or, Eq}
@@ -24,7 +24,7 @@ use Rattle.hp_tree.specs.Meaning.{number_of}
 use Rattle.hp_automata.specs.declared.new_names.Word.{Word}
 use Rattle.hp_automata.specs.declared.new_names.Word.TheVariants.{Jump, Next, From, On, Strong, Weak}
 use Rattle.hp_automata.specs.NewNames.{word_name, state_word, transition_word, value_name}
-use Rattle.hp_defining.specs.Names.{names_of_arms, names_of_states, outer_names}
+use Rattle.hp_tables.specs.Defining.Names.{names_of_arms, names_of_states, outer_names}
 use Rattle.hp_automata.specs.Names.{is_name, once, missing}
 use Rattle.hp_automata.specs.Renaming.{renamed, renamed_decls, renamed_left}
 

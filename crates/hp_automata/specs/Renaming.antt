@@ -4,7 +4,7 @@ use Rattle.hp_base.specs.declared.span.Span.{Span}
 use Rattle.hp_tree.specs.declared.decl.Cons.{Cons}
 use Rattle.hp_tree.specs.Expressions.{Expr, Exprs, Parts}
 use Rattle.hp_tree.specs.Blocks.{Decl}
-use Rattle.hp_renaming.specs.Renaming as parts
+use Rattle.hp_tables.specs.Renaming.Renaming as parts
 
 abbrev pub itself : List ℕ → List ℕ
 itself x = x

@@ -7,9 +7,9 @@ ghost use Rattle.hp_automata.specs.Lists.{names_seen};
 
 use crate::names::Names;
 use crate::new_names::value_name;
+use hp_base::known::Known;
 use hp_base::{Const, Name, Ty};
-use hp_known::Known;
-use hp_renaming::Renaming;
+use hp_tables::renaming::Renaming;
 use hp_tree::{Decl, TypeDecl};
 use std::alloc::{AllocError, Global};
 

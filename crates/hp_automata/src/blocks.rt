@@ -2,7 +2,7 @@
 ghost use Rattle.std.specs.Prelude.{◌≡◌, ◌+◌, ◌-◌, [], ◌∷◌, length, take, map, IfOk, OnOk};
 ghost use Rattle.hp_tree.specs.Blocks.{eqns_of, arms_of, states_of, automaton};
 ghost use Rattle.hp_tree.specs.BlockView.{eqn_seen, arm_seen, state_seen};
-ghost use Rattle.hp_defining.specs.Names.{names_of_arms};
+ghost use Rattle.hp_tables.specs.Defining.Names.{names_of_arms};
 ghost use Rattle.hp_automata.specs.Names.{once};
 ghost use Rattle.hp_automata.specs.Lowering.{transition_locals, inner, idle, state_eqns, lowered_block, lowered_eqns, lowered_eqn, lowered_arms, lowered_states, lowered_body};
 ghost use Rattle.hp_automata.specs.declared.new_names.Word.TheVariants.{Weak};
@@ -20,7 +20,7 @@ use crate::new_names::Word;
 use crate::states::{add_choosing, add_frame_eqns, add_switch, add_weak, frame_locals, idle};
 use crate::transitions::add_transition_locals;
 use hp_base::{Const, Name, Span};
-use hp_renaming::{rename_decls, rename_expr, rename_left};
+use hp_tables::renaming::{rename_decls, rename_expr, rename_left};
 use hp_tree::{Arm, Block, Decl, Eqn, State, Trans};
 use std::alloc::{AllocError, Global};
 

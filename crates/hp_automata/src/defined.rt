@@ -2,12 +2,14 @@
 ghost use Rattle.std.specs.Prelude.{◌≡◌, map, IfOk};
 ghost use Rattle.hp_tree.specs.BlockView.{arm_seen, state_seen};
 ghost use Rattle.hp_tree.specs.Blocks.{arms_of, states_of};
-ghost use Rattle.hp_defining.specs.Names.{names_of_arms, names_of_states, outer_names};
+ghost use Rattle.hp_tables.specs.Defining.Names.{names_of_arms, names_of_states, outer_names};
 ghost use Rattle.hp_automata.specs.Names.{is_name, once};
 ghost use Rattle.hp_automata.specs.Lists.{names_seen};
 
 use crate::names::Names;
-use hp_defining::{names_of_arms as all_of_arms, names_of_states as all_of_states, outer_names};
+use hp_tables::defining::{
+    names_of_arms as all_of_arms, names_of_states as all_of_states, outer_names,
+};
 use hp_tree::{Arm, Block, State};
 use std::alloc::{AllocError, Global};
 

@@ -4,7 +4,7 @@ ghost use Rattle.hp_automata.specs.Names.{is_name, missing, with_name, once};
 ghost use Rattle.hp_automata.specs.Lists.{names_seen, paired, with_more};
 
 use hp_base::Name;
-use hp_known::Known;
+use hp_base::known::Known;
 use std::alloc::{AllocError, Global};
 
 /// Some names, each once, in the order in which they came.

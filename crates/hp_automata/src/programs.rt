@@ -4,7 +4,7 @@ ghost use Rattle.hp_automata.specs.Lowering.{enumerations, with_item, lowered_co
 
 use crate::around::{Around, Enums, declare};
 use crate::blocks::lower_block;
-use hp_known::Known;
+use hp_base::known::Known;
 use hp_tree::{Contract, Expr, Item, Node, copy_decls};
 use std::alloc::{AllocError, Global};
 

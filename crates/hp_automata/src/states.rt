@@ -15,8 +15,8 @@ use crate::definitions::{
 use crate::frame::{Frame, value_handed};
 use crate::new_names::{Word, state_word, value_name, word_name};
 use crate::transitions::{Chain, add_choices, add_transition_locals, chosen};
+use hp_base::known::Known;
 use hp_base::{Const, Name, Span, Ty};
-use hp_known::Known;
 use hp_tree::{Arm, Block, Cons, Decl, Eqn, State, Trans};
 use std::alloc::{AllocError, Global};
 

@@ -13,7 +13,7 @@ use crate::around::{Layer, States};
 use crate::definitions::{add_definition, choose, code, following, number, on_base, variable};
 use crate::frame::Frame;
 use crate::new_names::{Word, transition_word};
-use hp_renaming::rename_expr;
+use hp_tables::renaming::rename_expr;
 use hp_tree::{Decl, Eqn, Expr, Trans, Ty};
 use std::alloc::{AllocError, Global};
 

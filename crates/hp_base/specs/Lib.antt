@@ -4,3 +4,5 @@ pub mod Coding
 pub mod Kinds
 pub mod Limits
 pub mod SignatureView
+pub mod First
+pub mod Known

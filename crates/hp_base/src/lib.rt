@@ -2,7 +2,9 @@
 #![tactic(auto)]
 
 mod byte;
+pub mod first;
 mod kind;
+pub mod known;
 mod limit;
 mod name;
 mod op;

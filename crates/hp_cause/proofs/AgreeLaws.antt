@@ -6,16 +6,16 @@ use Rattle.hp_tree.specs.Blocks.{Decl, Block, block, Eqns, Eqn}
 use Rattle.hp_tree.specs.Programs.{Contract, Node}
 use Rattle.hp_tree.specs.Instant.{Step, Controls, Body, Named, Head, Tail, Place, Clock, without}
 use Rattle.hp_tree.specs.Meaning.{declares, defines, some_defines, names_of as declared_names}
-use Rattle.hp_causal.specs.Points.{Whereabouts}
-use Rattle.hp_causal.specs.Sources.{Sources, none, only, both, also, NameSources}
-use Rattle.hp_causal.specs.WhatIsRead.{names_in as names_inside, names_within, control_in, has_equation, output_in, in_contract}
-use Rattle.hp_causal.specs.Causality.{sources}
+use Rattle.hp_meaning.specs.Causal.Points.{Whereabouts}
+use Rattle.hp_meaning.specs.Causal.Sources.{Sources, none, only, both, also, NameSources}
+use Rattle.hp_meaning.specs.Causal.WhatIsRead.{names_in as names_inside, names_within, control_in, has_equation, output_in, in_contract}
+use Rattle.hp_meaning.specs.Causal.Causality.{sources}
 use Rattle.hp_cause.specs.Walked.{control_of_contract, control_of_node}
-use Rattle.hp_defining.specs.Layers.{numbered}
-use Rattle.hp_defining.specs.Names.{listed, names_in}
+use Rattle.hp_tables.specs.Defining.Layers.{numbered}
+use Rattle.hp_tables.specs.Defining.Names.{listed, names_in}
 use Rattle.hp_cause.specs.Vertices.{own_of_test, Numbering, number_expr, number_block, number_test, number_contract, number_controls, first_of_contract, number_node}
 use Rattle.hp_cause.specs.Gathering.{Sight, names_of_clock, outer_clock, seen_in, seen_within, own_sight, seen_declared}
-use Rattle.hp_defining.proofs.ListedLaws.{listed_in}
+use Rattle.hp_tables.proofs.DefiningLemmas.ListedLaws.{listed_in}
 use Rattle.hp_cause.proofs.NumberLaws.{numbered_listed, over_there}
 
 -- one of some numbers

@@ -4,9 +4,9 @@ use Rattle.std.proofs.lemmas.List.{append_assoc, append-nil, map-append}
 use Rattle.hp_tree.specs.declared.program.Item.{Item}
 use Rattle.hp_tree.specs.declared.program.Item.TheVariants.{TypeItem, NodeItem}
 use Rattle.hp_tree.specs.Programs.{Node}
-use Rattle.hp_causal.specs.Causality.{IsCausal}
-use Rattle.hp_causal.specs.Points.{Placed}
-use Rattle.hp_causal.specs.RanksOfPoints.{AllFall}
+use Rattle.hp_meaning.specs.Causal.Causality.{IsCausal}
+use Rattle.hp_meaning.specs.Causal.Points.{Placed}
+use Rattle.hp_meaning.specs.Causal.RanksOfPoints.{AllFall}
 use Rattle.hp_cause.specs.declared.error.CauseErr.{CauseErr}
 use Rattle.hp_cause.specs.declared.error.CauseErr.TheVariants.{Cycle, OutOfMemory}
 use Rattle.hp_cause.specs.Answers.{lists, NamesCycle, NamesNode, ItemOrdered}

@@ -16,7 +16,7 @@ use Rattle.hp_base.specs.declared.span.Span.{Span}
 use Rattle.hp_cause.specs.Around.{places_from, first_places, of_place, of_places}
 use Rattle.hp_cause.specs.Facts.{Fact}
 use Rattle.hp_cause.specs.Gathering.{Sight, in_list, of_defined_name, of_defined}
-use Rattle.hp_defining.specs.Names.{listed}
+use Rattle.hp_tables.specs.Defining.Names.{listed}
 use Rattle.hp_cause.specs.Told.{names_seen, with_more}
 use Rattle.hp_cause.proofs.GrowLaws.{drop-next, more-append}
 

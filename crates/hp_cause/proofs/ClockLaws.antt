@@ -8,7 +8,7 @@ use Rattle.hp_tree.specs.Expressions.{Expr, constant, variable, last_of, one, tw
 use Rattle.hp_tree.specs.Blocks.{Decl}
 use Rattle.hp_tree.specs.Instant.{Clock}
 use Rattle.hp_tree.specs.Meaning.{written, clock_in, clock_told, clocks_told, or_clock, or_base, clock_of}
-use Rattle.hp_telling.specs.Tellings.{Told, or_else, tells, tells_in_all, tells_of}
+use Rattle.hp_tables.specs.Telling.Tellings.{Told, or_else, tells, tells_in_all, tells_of}
 use Rattle.hp_cause.specs.Clocks.{names_told}
 use Rattle.hp_cause.specs.Gathering.{names_of_clock}
 use Rattle.hp_cause.specs.Tables.{own_path, path_of}

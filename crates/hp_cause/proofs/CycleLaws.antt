@@ -6,10 +6,10 @@ use Rattle.hp_tree.specs.Programs.{Node}
 use Rattle.hp_tree.specs.Instant.{Place}
 use Rattle.std.specs.Prelude.{nat_eq}
 use Rattle.std.proofs.lemmas.Bool.Decides.{Decides-eqb}
-use Rattle.hp_causal.specs.Sources.{Sources, none, only, both, also, IsRead, IsSource}
-use Rattle.hp_causal.specs.Causality.{sources, Chain, DependsBy, IsCausal}
-use Rattle.hp_causal.specs.Clocked.{ClocksRight}
-use Rattle.hp_causal.proofs.Clocks.{clocks_make_no_cycle}
+use Rattle.hp_meaning.specs.Causal.Sources.{Sources, none, only, both, also, IsRead, IsSource}
+use Rattle.hp_meaning.specs.Causal.Causality.{sources, Chain, DependsBy, IsCausal}
+use Rattle.hp_meaning.specs.Causal.Clocked.{ClocksRight}
+use Rattle.hp_meaning.proofs.CausalLemmas.Clocks.{clocks_make_no_cycle}
 use Rattle.hp_graph.specs.Graphs.{IsEdge, Leads, IsCycle}
 use Rattle.hp_cause.specs.Ends.{nth, ends_of_node}
 use Rattle.hp_cause.specs.Facts.{Fact, stands, reads, depends, reads_in, dependences_in, vertices_in}

@@ -8,11 +8,11 @@ use Rattle.hp_tree.specs.Blocks.{Decl, Block, block, Eqns, no_eqn, more_eqns, Eq
 use Rattle.hp_tree.specs.Programs.{Contract, Node}
 use Rattle.hp_tree.specs.Instant.{Controls, Body, Observer, Assume, Enforce, Named, Equations, Head, Tail, Right, Test, Arms as ArmsOf, States as StatesOf, Until, Unless, Active, Next, First, Second, Third, Args, Place}
 use Rattle.hp_tree.specs.Meaning.{declares, defines, clock_of, controls_of, names_of as declared_names}
-use Rattle.hp_causal.specs.declared.point.PointKind.TheVariants as kind
-use Rattle.hp_causal.specs.Points.{span_of}
+use Rattle.hp_meaning.specs.declared.causal.point.PointKind.TheVariants as kind
+use Rattle.hp_meaning.specs.Causal.Points.{span_of}
 use Rattle.hp_cause.specs.Facts.{Fact, stands, reads, depends, stand, read, depend, read_by_all}
-use Rattle.hp_defining.specs.Layers.{numbered}
-use Rattle.hp_defining.specs.Names.{names_in, undeclared}
+use Rattle.hp_tables.specs.Defining.Layers.{numbered}
+use Rattle.hp_tables.specs.Defining.Names.{names_in, undeclared}
 use Rattle.hp_cause.specs.Walked.{is_fresh}
 use Rattle.hp_cause.specs.Vertices.{calls_in, own_of_test, size_of_tests, own_size, size_inside, size_of, size_of_told, Numbering, number_expr, number_exprs, number_parts, number_test, number_tests, number_block, number_eqns, number_eqn, number_arms, number_states, number_told, number_contract, number_controls, first_of_body, first_of_contract, first_inside, number_node}
 use Rattle.hp_cause.specs.Gathering.{Sight, on_clock, names_of_clock, outer_clock, of_call, of_expr, of_exprs, of_parts, readers_of_test, of_test, of_tests, of_left, of_lefts, vertices_of, of_defined_name, of_name_if, of_defined, of_control, of_words, of_links, seen_in, seen_within, links_of, of_inside, of_eqns, of_eqn, of_arms, of_states, of_told, of_contract, of_controls, seen_controls, own_sight, seen_declared, seen_outputs, of_node}

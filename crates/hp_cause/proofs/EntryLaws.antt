@@ -5,12 +5,12 @@ use Rattle.std.proofs.lemmas.List.{append-nil, length-append, take-append-le}
 use Rattle.std.proofs.Math.Seq.{take-length}
 use Rattle.hp_tree.specs.Blocks.{Eqn}
 use Rattle.hp_tree.specs.Meaning.{defines}
-use Rattle.hp_defining.specs.declared.layer.Layer.{Layer}
-use Rattle.hp_defining.specs.Names.{listed, names_of}
+use Rattle.hp_tables.specs.declared.defining.layer.Layer.{Layer}
+use Rattle.hp_tables.specs.Defining.Names.{listed, names_of}
 use Rattle.hp_cause.specs.Gathering.{seen_within}
 use Rattle.hp_cause.specs.Told.{front}
-use Rattle.hp_defining.specs.Layers.{says, says_seen, is_said, sight}
-use Rattle.hp_defining.proofs.ListedLaws.{listed_of}
+use Rattle.hp_tables.specs.Defining.Layers.{says, says_seen, is_said, sight}
+use Rattle.hp_tables.proofs.DefiningLemmas.ListedLaws.{listed_of}
 use Rattle.hp_cause.proofs.TableLaws.{says_listed, sight-seen}
 
 -- ---- all but the last

@@ -7,10 +7,10 @@ use Rattle.hp_tree.specs.BlockView.{eqn_seen, arm_seen, state_seen}
 use Rattle.hp_tree.specs.declared.block.Eqn as code_eqn
 use Rattle.hp_tree.specs.declared.block.Arm as code_arm
 use Rattle.hp_tree.specs.declared.block.State as code_state
-use Rattle.hp_defining.specs.declared.layer.Layer.{Layer}
+use Rattle.hp_tables.specs.declared.defining.layer.Layer.{Layer}
 use Rattle.hp_cause.specs.Facts.{Fact}
 use Rattle.hp_cause.specs.Gathering.{Sight, of_block, of_eqn, of_eqns, of_arms, of_state, of_states}
-use Rattle.hp_defining.specs.Layers.{sight}
+use Rattle.hp_tables.specs.Defining.Layers.{sight}
 use Rattle.hp_cause.specs.Told.{front, names_seen, with_more}
 use Rattle.hp_cause.specs.Vertices.{own_size, size_inside, size_of, size_of_all, size_of_arms, size_of_states, size_of_tests}
 use Rattle.hp_cause.proofs.GrowLaws.{drop-next, more-append, more-is}

@@ -9,7 +9,7 @@ use Rattle.hp_tree.specs.declared.block.Trans.{Trans}
 use Rattle.hp_tree.specs.Expressions.{Expr, exprs_of, parts_of}
 use Rattle.hp_tree.specs.Blocks.{Decl}
 use Rattle.hp_tree.specs.Meaning.{names_of as declared_names}
-use Rattle.hp_causal.specs.declared.point.PointKind.TheVariants as kind
+use Rattle.hp_meaning.specs.declared.causal.point.PointKind.TheVariants as kind
 use Rattle.hp_cause.specs.declared.fact.Fact as held
 use Rattle.hp_cause.specs.Facts.{Fact, stand, read, depend, read_by_all}
 use Rattle.hp_cause.specs.Told.{fact_seen, facts_seen, names_seen, with_more}

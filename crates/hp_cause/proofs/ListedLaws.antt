@@ -2,9 +2,9 @@
 use Rattle.std.proofs.Common.{◌≡◌, ℕ, ◌+◌, List, [], ◌∷◌, ◌++◌, map, filter, cond, Bool, true, false, IsTrue, if◌then◌else◌, Option, None, Some, codes, refl, sym, ap, ap₂, ◌∙◌, arith}
 use Rattle.std.proofs.lemmas.List.{append_assoc, append-nil, map-append}
 use Rattle.std.proofs.lemmas.Slice.Eq.{bytes_eq-Decides}
-use Rattle.hp_causal.proofs.Choices.{or_first, or_second}
+use Rattle.hp_meaning.proofs.CausalLemmas.Choices.{or_first, or_second}
 use Rattle.hp_cause.proofs.AgreeLaws.{observer_ties}
-use Rattle.hp_defining.proofs.ListedLaws.{listed_in}
+use Rattle.hp_tables.proofs.DefiningLemmas.ListedLaws.{listed_in}
 use Rattle.hp_cause.proofs.NumberLaws.{numbered_listed, over_there}
 use Rattle.std.specs.Str.{bytes_eq}
 use Rattle.hp_base.specs.declared.span.Span.{Span}
@@ -14,14 +14,14 @@ use Rattle.hp_tree.specs.Blocks.{Decl, Block, block, Eqns, no_eqn, more_eqns, Eq
 use Rattle.hp_tree.specs.Programs.{Contract, Node}
 use Rattle.hp_tree.specs.Instant.{Controls, Body, Observer, Assume, Enforce, Named, Equations, Head, Tail, Right, Test, Arms as ArmsOf, States as StatesOf, Until, Unless, Active, Next, First, Second, Third, Args, Place}
 use Rattle.hp_tree.specs.Meaning.{is_among, defines, some_defines, clock_of, controls_of, names_of as declared_names}
-use Rattle.hp_causal.specs.declared.point.Point.{Point}
-use Rattle.hp_causal.specs.declared.point.PointKind.TheVariants as kind
-use Rattle.hp_causal.specs.Sources.{below}
-use Rattle.hp_causal.specs.Points.{Placed, Whereabouts, point_at, span_of, calls, calls_in_all as calls_of_all, calls_in_parts as calls_of_parts, conditions, lefts, defined_by, points_of, points_of_all, points_of_one, points_of_arms, points_of_states, controls, calls_told, points_of_contract, points}
+use Rattle.hp_meaning.specs.declared.causal.point.Point.{Point}
+use Rattle.hp_meaning.specs.declared.causal.point.PointKind.TheVariants as kind
+use Rattle.hp_meaning.specs.Causal.Sources.{below}
+use Rattle.hp_meaning.specs.Causal.Points.{Placed, Whereabouts, point_at, span_of, calls, calls_in_all as calls_of_all, calls_in_parts as calls_of_parts, conditions, lefts, defined_by, points_of, points_of_all, points_of_one, points_of_arms, points_of_states, controls, calls_told, points_of_contract, points}
 use Rattle.hp_cause.specs.Facts.{Fact, stands, reads, depends, stand, read, depend, read_by_all}
 use Rattle.hp_cause.specs.Falling.{table_in}
-use Rattle.hp_defining.specs.Layers.{numbered}
-use Rattle.hp_defining.specs.Names.{names_in, undeclared}
+use Rattle.hp_tables.specs.Defining.Layers.{numbered}
+use Rattle.hp_tables.specs.Defining.Names.{names_in, undeclared}
 use Rattle.hp_cause.specs.Vertices.{calls_in, own_of_test, size_of_tests, own_size, size_inside, size_of, size_of_told, Numbering, number_expr, number_exprs, number_parts, number_test, number_tests, number_block, number_eqns, number_eqn, number_arms, number_states, number_told, number_contract, number_controls, first_of_body, first_of_contract, first_inside, number_node}
 use Rattle.hp_cause.specs.Gathering.{Sight, on_clock, names_of_clock, outer_clock, of_call, of_expr, of_exprs, of_parts, readers_of_test, of_test, of_tests, of_left, of_lefts, vertices_of, of_defined_name, of_defined, of_control, of_words, of_links, seen_in, seen_within, links_of, of_inside, of_eqns, of_eqn, of_arms, of_states, of_told, of_contract, of_controls, seen_controls, seen_outputs, of_node}
 

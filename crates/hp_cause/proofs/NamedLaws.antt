@@ -6,12 +6,12 @@ use Rattle.std.proofs.lemmas.List.{append_assoc, map-append, append-nil, get_or_
 use Rattle.std.proofs.lemmas.List.Elements.{All-head, All-tail, All-nil, All-cons, All-contains_itself}
 use Rattle.hp_tree.specs.Programs.{Node}
 use Rattle.hp_tree.specs.Instant.{Place}
-use Rattle.hp_causal.specs.declared.point.Point.{Point}
-use Rattle.hp_causal.specs.Causality.{Chain, sources}
-use Rattle.hp_causal.specs.Points.{Placed, points, places, NamesDeclared}
-use Rattle.hp_causal.specs.RanksOfPoints.{same_place}
-use Rattle.hp_causal.proofs.Choices.{or_cases}
-use Rattle.hp_causal.proofs.Ranking.{is_among, place_same, sources_are_points}
+use Rattle.hp_meaning.specs.declared.causal.point.Point.{Point}
+use Rattle.hp_meaning.specs.Causal.Causality.{Chain, sources}
+use Rattle.hp_meaning.specs.Causal.Points.{Placed, points, places, NamesDeclared}
+use Rattle.hp_meaning.specs.Causal.RanksOfPoints.{same_place}
+use Rattle.hp_meaning.proofs.CausalLemmas.Choices.{or_cases}
+use Rattle.hp_meaning.proofs.CausalLemmas.Ranking.{is_among, place_same, sources_are_points}
 use Rattle.hp_cause.proofs.AgreeLaws.{Is}
 use Rattle.hp_graph.specs.Graphs.{Leads, IsNone, AreDistinct, IsCycle}
 use Rattle.hp_cause.specs.Facts.{Fact, stands, reads, depends, reads_in, points_in, vertices_in}

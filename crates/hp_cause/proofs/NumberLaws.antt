@@ -1,8 +1,8 @@
 -- Names and their numbers.
 use Rattle.std.proofs.Common.{◌≡◌, ℕ, ◌+◌, Bool, true, false, IsTrue, ◌||◌, if◌then◌else◌, List, [], ◌∷◌, Option, None, Some, refl}
 use Rattle.std.specs.Str.{bytes_eq}
-use Rattle.hp_defining.specs.Layers.{numbered}
-use Rattle.hp_defining.specs.Names.{listed}
+use Rattle.hp_tables.specs.Defining.Layers.{numbered}
+use Rattle.hp_tables.specs.Defining.Names.{listed}
 
 pub numbered_listed : (j : ℕ) (names : List (List ℕ)) (x : List ℕ) → IsTrue (listed names x) → (v : ℕ) × (numbered j names x ≡ Some v)
 numbered_listed j [] x h = absurd cc

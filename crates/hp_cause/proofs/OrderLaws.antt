@@ -2,10 +2,10 @@
 use Rattle.std.proofs.Common.{◌≡◌, ℕ, ◌<◌, List, get_or, map, sym, ap, subst, ◌∙◌}
 use Rattle.std.specs.Prelude.{All}
 use Rattle.hp_tree.specs.Programs.{Node}
-use Rattle.hp_causal.specs.Causality.{IsCausal}
-use Rattle.hp_causal.specs.Clocked.{ClocksRight}
-use Rattle.hp_causal.specs.Points.{NamesDeclared}
-use Rattle.hp_causal.specs.RanksOfPoints.{RanksFall}
+use Rattle.hp_meaning.specs.Causal.Causality.{IsCausal}
+use Rattle.hp_meaning.specs.Causal.Clocked.{ClocksRight}
+use Rattle.hp_meaning.specs.Causal.Points.{NamesDeclared}
+use Rattle.hp_meaning.specs.Causal.RanksOfPoints.{RanksFall}
 use Rattle.hp_graph.specs.Graphs.{IsCycle}
 use Rattle.hp_cause.specs.Facts.{Fact, reads_in, dependences_in, vertices_in}
 use Rattle.hp_cause.specs.Gathering.{of_node}

@@ -9,8 +9,8 @@ use Rattle.hp_tree.specs.Blocks.{Decl, Block, block, Eqns, no_eqn, more_eqns, Eq
 use Rattle.hp_tree.specs.Programs.{Contract, Node}
 use Rattle.hp_tree.specs.Instant.{Step, Controls, Body, Observer, Assume, Enforce, Named, Fresh, Equations, Head, Tail, Right, Test, Arms as ArmsOf, States as StatesOf, Until, Unless, Active, Next, First, Second, Third, Args, Place}
 use Rattle.hp_tree.specs.Meaning.{controls_of}
-use Rattle.hp_defining.specs.Layers.{numbered}
-use Rattle.hp_defining.specs.Names.{names_in}
+use Rattle.hp_tables.specs.Defining.Layers.{numbered}
+use Rattle.hp_tables.specs.Defining.Names.{names_in}
 use Rattle.hp_cause.specs.Ends.{nth, step_in, ends_of_expr, ends_of_exprs, ends_of_parts, own_end, ends_of_test, ends_of_tests, ends_of_names, own_ends, ends_inside, ends_of_eqns, ends_of_eqn, ends_of_arms, ends_of_states, ends_of_told, ends_of_contract, ends_of_controls, ends_of_node}
 use Rattle.hp_cause.specs.Vertices.{calls_in, calls_in_all, calls_in_parts, own_of_test, is_call, size_of_tests, own_size, size_inside, size_of, size_of_all, size_of_arms, size_of_states, size_of_told, size_of_contract, number_expr, number_exprs, number_parts, number_test, number_tests, number_block, number_eqns, number_eqn, number_arms, number_states, number_told, number_contract, number_controls, first_of_body, first_of_contract, first_inside, number_node}
 

@@ -4,13 +4,13 @@ use Rattle.std.specs.Prelude.{⊤, All, Contains}
 use Rattle.std.proofs.lemmas.List.Elements.{All-head, All-tail, All-nil, All-cons, All-contains}
 use Rattle.hp_tree.specs.Programs.{Node}
 use Rattle.hp_tree.specs.Instant.{Place}
-use Rattle.hp_causal.specs.declared.point.Point.{Point}
-use Rattle.hp_causal.specs.Sources.{Sources, none, only, both, also, Within, IsRead, IsSource}
-use Rattle.hp_causal.specs.Causality.{sources, Reads, Chain, IsCausal}
-use Rattle.hp_causal.specs.Points.{Placed, points, places, NamesDeclared}
-use Rattle.hp_causal.specs.RanksOfPoints.{same_place, rank_among, above, rank_of, RanksFall}
-use Rattle.hp_causal.proofs.Choices.{or_cases, or_first, or_second}
-use Rattle.hp_causal.proofs.Ranking.{is_among, place_same, same_place_refl, sources_are_points}
+use Rattle.hp_meaning.specs.declared.causal.point.Point.{Point}
+use Rattle.hp_meaning.specs.Causal.Sources.{Sources, none, only, both, also, Within, IsRead, IsSource}
+use Rattle.hp_meaning.specs.Causal.Causality.{sources, Reads, Chain, IsCausal}
+use Rattle.hp_meaning.specs.Causal.Points.{Placed, points, places, NamesDeclared}
+use Rattle.hp_meaning.specs.Causal.RanksOfPoints.{same_place, rank_among, above, rank_of, RanksFall}
+use Rattle.hp_meaning.proofs.CausalLemmas.Choices.{or_cases, or_first, or_second}
+use Rattle.hp_meaning.proofs.CausalLemmas.Ranking.{is_among, place_same, same_place_refl, sources_are_points}
 use Rattle.hp_cause.specs.Facts.{Fact, stands, reads, depends, vertices_in, reads_in, dependences_in}
 use Rattle.hp_cause.specs.Falling.{table_in, Falls, WithinReads, rank_at}
 use Rattle.hp_cause.specs.Gathering.{of_node}

@@ -9,19 +9,19 @@ use Rattle.hp_tree.specs.Blocks.{Decl, Block, block, Eqns, no_eqn, more_eqns, Eq
 use Rattle.hp_tree.specs.Programs.{Contract, Node}
 use Rattle.hp_tree.specs.Instant.{Controls, Body, Observer, Assume, Enforce, Named, Fresh, Equations, Head, Tail, Right, Test, Arms as ArmsOf, States as StatesOf, Until, Unless, Active, Next, First, Second, Third, Args, Place, Clock, without}
 use Rattle.hp_tree.specs.Meaning.{declares, is_among, defines, some_defines, arms_define, states_define, block_defines, clock_of, controls_of, names_of as declared_names}
-use Rattle.hp_causal.specs.declared.point.PointKind.TheVariants as kind
-use Rattle.hp_causal.specs.Points.{span_of, Whereabouts}
-use Rattle.hp_causal.specs.Sources.{Sources, none, only, both, also, NameSources, PlaceSources, below}
-use Rattle.hp_causal.specs.WhatIsRead.{of_clock, of_expr as reads_of, of_exprs as reads_of_all, of_parts as reads_of_parts, names_in as names_inside, names_within, names_in_block, in_arms, in_states, of_conditions, strong_ones, weak_ones, control_in, has_equation, output_in, at_expr, at_exprs, at_parts, at_conditions, of_definition as reads_of_definition, of_definitions, in_block, in_equations, in_equation, in_each_arm, in_each_state, at_told, in_contract}
-use Rattle.hp_causal.specs.Causality.{sources}
-use Rattle.hp_causal.proofs.Choices.{or_first, or_second}
+use Rattle.hp_meaning.specs.declared.causal.point.PointKind.TheVariants as kind
+use Rattle.hp_meaning.specs.Causal.Points.{span_of, Whereabouts}
+use Rattle.hp_meaning.specs.Causal.Sources.{Sources, none, only, both, also, NameSources, PlaceSources, below}
+use Rattle.hp_meaning.specs.Causal.WhatIsRead.{of_clock, of_expr as reads_of, of_exprs as reads_of_all, of_parts as reads_of_parts, names_in as names_inside, names_within, names_in_block, in_arms, in_states, of_conditions, strong_ones, weak_ones, control_in, has_equation, output_in, at_expr, at_exprs, at_parts, at_conditions, of_definition as reads_of_definition, of_definitions, in_block, in_equations, in_equation, in_each_arm, in_each_state, at_told, in_contract}
+use Rattle.hp_meaning.specs.Causal.Causality.{sources}
+use Rattle.hp_meaning.proofs.CausalLemmas.Choices.{or_first, or_second}
 use Rattle.hp_cause.specs.Facts.{Fact, stands, reads, depends, stand, read, depend, read_by_all}
-use Rattle.hp_defining.specs.Layers.{numbered}
-use Rattle.hp_defining.specs.Names.{listed, names_in, undeclared}
+use Rattle.hp_tables.specs.Defining.Layers.{numbered}
+use Rattle.hp_tables.specs.Defining.Names.{listed, names_in, undeclared}
 use Rattle.hp_cause.specs.Walked.{is_fresh, control_of_block, control_of_eqns, control_of_eqn, control_of_arms, control_of_states, control_of_contract, control_of_node, DefinedOnce, DefinedOnceInAll, DefinedOnceInOne, DefinedOnceInArms, DefinedOnceInStates, DefinedOnceInContract, NamesDefinedOnce}
 use Rattle.hp_cause.specs.Vertices.{calls_in, own_of_test, is_call, size_of_tests, own_size, size_inside, size_of, size_of_told, Numbering, number_expr, number_exprs, number_parts, number_test, number_tests, number_block, number_eqns, number_eqn, number_arms, number_states, number_told, number_contract, number_controls, first_of_body, first_of_contract, first_inside, number_node}
 use Rattle.hp_cause.specs.Gathering.{Sight, on_clock, names_of_clock, outer_clock, of_call, of_expr, of_exprs, of_parts, readers_of_test, of_test, of_tests, of_left, of_lefts, in_list, vertices_of, of_defined_name, of_name_if, of_defined, of_control, of_words, of_links, seen_in, seen_within, links_of, of_inside, of_eqns, of_eqn, of_arms, of_states, of_told, of_contract, of_controls, seen_controls, own_sight, seen_declared, seen_outputs, of_node}
-use Rattle.hp_defining.proofs.ListedLaws.{listed_in, listed_outer}
+use Rattle.hp_tables.proofs.DefiningLemmas.ListedLaws.{listed_in, listed_outer}
 use Rattle.hp_cause.proofs.NumberLaws.{listed_numbered, numbered_listed, over_there}
 use Rattle.hp_cause.proofs.AgreeLaws.{Is, outer_is, one_number, observer_ties, observer_sources, observer_controls}
 

@@ -4,15 +4,15 @@ use Rattle.std.specs.Str.{bytes_eq}
 use Rattle.hp_tree.specs.declared.decl.Cons.{Cons}
 use Rattle.hp_tree.specs.Blocks.{Decl, Block, block}
 use Rattle.hp_tree.specs.Meaning.{declares, names_of as declared_names}
-use Rattle.hp_defining.specs.declared.layer.Layer.{Layer}
-use Rattle.hp_defining.specs.Layers.{numbered, put_at, no_entry, says, says_numbers, says_seen, said, or_none, sight, own_of}
-use Rattle.hp_defining.specs.Names.{listed, outer_names}
+use Rattle.hp_tables.specs.declared.defining.layer.Layer.{Layer}
+use Rattle.hp_tables.specs.Defining.Layers.{numbered, put_at, no_entry, says, says_numbers, says_seen, said, or_none, sight, own_of}
+use Rattle.hp_tables.specs.Defining.Names.{listed, outer_names}
 use Rattle.hp_cause.specs.Told.{names_seen}
 use Rattle.hp_cause.specs.Facts.{Fact}
 use Rattle.hp_cause.specs.Gathering.{Sight, over, seen_in, seen_declared, block_names, own_sight, links_of, of_links}
 use Rattle.hp_cause.specs.Tables.{own_path, path_at, path_of}
 use Rattle.hp_cause.proofs.GrowLaws.{drop-next, drop-end}
-use Rattle.hp_defining.proofs.LayerLaws.{first_said, said-last}
+use Rattle.hp_tables.proofs.DefiningLemmas.LayerLaws.{first_said, said-last}
 
 -- ---- declarations
 

@@ -2,7 +2,7 @@
 use Rattle.std.proofs.Common.{◌≡◌, ℕ, zero, suc, ◌+◌, ◌<◌, ◌≤◌, ◌-◌, get_or, length, drop, take, Bool, true, false, if◌then◌else◌, List, [], ◌∷◌, ◌++◌, Option, None, Some, refl, sym, ap, subst, ◌∙◌, arith}
 use Rattle.std.specs.Prelude.{nat_eq}
 use Rattle.std.proofs.lemmas.List.{get_or_default, length-drop, map-append, take_all}
-use Rattle.hp_causal.specs.declared.point.Point.{Point}
+use Rattle.hp_meaning.specs.declared.causal.point.Point.{Point}
 use Rattle.hp_cause.specs.declared.cycle.Described.{Described}
 use Rattle.hp_cause.specs.declared.fact.Fact as held
 use Rattle.hp_cause.specs.Describing.{first_or, AreFirsts, AllBelow, one_seen, points_seen, point_in}

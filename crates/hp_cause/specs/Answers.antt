@@ -5,9 +5,9 @@ use Rattle.std.specs.declared.vec.Vec.{Vec}
 use Rattle.hp_tree.specs.declared.program.Item.{Item}
 use Rattle.hp_tree.specs.declared.program.Item.TheVariants.{TypeItem, NodeItem}
 use Rattle.hp_tree.specs.Programs.{Node}
-use Rattle.hp_causal.specs.Causality.{IsCausal}
-use Rattle.hp_causal.specs.RanksOfPoints.{RanksFall}
-use Rattle.hp_causal.specs.Points.{NamesDeclared}
+use Rattle.hp_meaning.specs.Causal.Causality.{IsCausal}
+use Rattle.hp_meaning.specs.Causal.RanksOfPoints.{RanksFall}
+use Rattle.hp_meaning.specs.Causal.Points.{NamesDeclared}
 use Rattle.hp_cause.specs.declared.error.CauseErr.{CauseErr}
 use Rattle.hp_cause.specs.declared.error.CauseErr.TheVariants.{Cycle, OutOfMemory}
 use Rattle.hp_cause.specs.Ordering.{IsCycleOf, IsFirstCycle}

@@ -1,7 +1,7 @@
 -- The names of the clock that is told of a definition.
 use Rattle.std.specs.Prelude.{ℕ, List, [], ◌∷◌, ◌++◌, Option, None, Some, reverse}
 use Rattle.hp_tree.specs.Blocks.{Decl}
-use Rattle.hp_telling.specs.Tellings.{Told, at_base, as_of, one_more}
+use Rattle.hp_tables.specs.Telling.Tellings.{Told, at_base, as_of, one_more}
 use Rattle.hp_cause.specs.Gathering.{names_of_clock}
 use Rattle.hp_cause.specs.Tables.{path_of}
 

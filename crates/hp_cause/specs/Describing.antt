@@ -1,6 +1,6 @@
 -- Words for the contracts that name the points of a cycle.
 use Rattle.std.specs.Prelude.{ℕ, ◌≡◌, ◌<◌, ⊤, List, [], ◌∷◌, length, get_or, map, Option, None, Some}
-use Rattle.hp_causal.specs.declared.point.Point.{Point}
+use Rattle.hp_meaning.specs.declared.causal.point.Point.{Point}
 use Rattle.hp_cause.specs.declared.cycle.Described.{Described}
 use Rattle.hp_cause.specs.Facts.{Fact, stands, reads, depends}
 use Rattle.hp_cause.specs.Naming.{first_at}

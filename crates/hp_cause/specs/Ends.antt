@@ -6,7 +6,7 @@ use Rattle.hp_tree.specs.Blocks.{Decl, Block, block, Eqns, no_eqn, more_eqns, Eq
 use Rattle.hp_tree.specs.Programs.{Contract, Node}
 use Rattle.hp_tree.specs.Instant.{Step, Controls, Body, Observer, Assume, Enforce, Named, Fresh, Equations, Head, Tail, Right, Test, Arms as ArmsOf, States as StatesOf, Until, Unless, Active, Next, First, Second, Third, Args, Place}
 use Rattle.hp_tree.specs.Meaning.{controls_of}
-use Rattle.hp_defining.specs.Names.{names_in}
+use Rattle.hp_tables.specs.Defining.Names.{names_in}
 use Rattle.hp_cause.specs.Vertices.{is_call}
 
 -- the place of a number

@@ -1,8 +1,8 @@
 -- What is gathered from a node, in the order of its text: its points with their vertices, and which vertex reads which, or depends on it besides.
 use Rattle.std.specs.Prelude.{ℕ, List, [], ◌∷◌, ◌++◌, Option, None, Some}
 use Rattle.hp_base.specs.declared.span.Span.{Span}
-use Rattle.hp_causal.specs.declared.point.Point.{Point}
-use Rattle.hp_causal.specs.declared.point.PointKind.{PointKind}
+use Rattle.hp_meaning.specs.declared.causal.point.Point.{Point}
+use Rattle.hp_meaning.specs.declared.causal.point.PointKind.{PointKind}
 
 pub data Fact : Type 0 where
   -- the next point is this vertex

@@ -1,7 +1,7 @@
 -- The points that stand in some facts, and ranks that fall along edges.
 use Rattle.std.specs.Prelude.{ℕ, ◌<◌, ⊤, List, [], ◌∷◌, Option, None, Some}
-use Rattle.hp_causal.specs.declared.point.Point.{Point}
-use Rattle.hp_causal.specs.Sources.{Sources, none, only, both, also}
+use Rattle.hp_meaning.specs.declared.causal.point.Point.{Point}
+use Rattle.hp_meaning.specs.Causal.Sources.{Sources, none, only, both, also}
 use Rattle.hp_tree.specs.Instant.{Place}
 use Rattle.hp_cause.specs.Facts.{Fact, stands, reads, depends}
 

@@ -7,10 +7,10 @@ use Rattle.hp_tree.specs.Blocks.{Decl, Block, block, Eqns, no_eqn, more_eqns, Eq
 use Rattle.hp_tree.specs.Programs.{Contract, Node}
 use Rattle.hp_tree.specs.Instant.{Clock}
 use Rattle.hp_tree.specs.Meaning.{declares, defines, clock_of, controls_of, names_of}
-use Rattle.hp_causal.specs.declared.point.PointKind.TheVariants as kind
-use Rattle.hp_causal.specs.Points.{span_of}
-use Rattle.hp_defining.specs.Layers.{numbered}
-use Rattle.hp_defining.specs.Names.{names_in, undeclared}
+use Rattle.hp_meaning.specs.declared.causal.point.PointKind.TheVariants as kind
+use Rattle.hp_meaning.specs.Causal.Points.{span_of}
+use Rattle.hp_tables.specs.Defining.Layers.{numbered}
+use Rattle.hp_tables.specs.Defining.Names.{names_in, undeclared}
 use Rattle.hp_cause.specs.Facts.{Fact, stand, read, depend, read_by_all}
 use Rattle.hp_cause.specs.Vertices.{calls_in, own_of_test, is_call, size_of_tests, own_size, size_inside, size_of, size_of_told, first_of_body, first_of_contract, first_inside}
 

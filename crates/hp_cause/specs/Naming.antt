@@ -1,6 +1,6 @@
 -- The points of a cycle of vertices: by their numbers, turned, and named.
 use Rattle.std.specs.Prelude.{ℕ, zero, suc, ◌+◌, ◌≤◌, nat_eq, if◌then◌else◌, ⊤, List, [], ◌∷◌, ◌++◌, Option, None, Some}
-use Rattle.hp_causal.specs.declared.point.Point.{Point}
+use Rattle.hp_meaning.specs.declared.causal.point.Point.{Point}
 use Rattle.hp_cause.specs.Gathering.{in_list}
 
 -- where a vertex stands first among the vertices of points, which are numbered from k on

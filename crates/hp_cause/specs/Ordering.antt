@@ -4,11 +4,11 @@ use Rattle.hp_tree.specs.declared.program.Item.{Item}
 use Rattle.hp_tree.specs.declared.program.Item.TheVariants.{TypeItem, NodeItem}
 use Rattle.hp_tree.specs.Programs.{Node}
 use Rattle.hp_tree.specs.Instant.{Place}
-use Rattle.hp_causal.specs.declared.point.Point.{Point}
-use Rattle.hp_causal.specs.Causality.{Chain, IsCausal}
-use Rattle.hp_causal.specs.Clocked.{ClocksRight}
-use Rattle.hp_causal.specs.Points.{Placed, points, NamesDeclared}
-use Rattle.hp_causal.specs.RanksOfPoints.{RanksFall}
+use Rattle.hp_meaning.specs.declared.causal.point.Point.{Point}
+use Rattle.hp_meaning.specs.Causal.Causality.{Chain, IsCausal}
+use Rattle.hp_meaning.specs.Causal.Clocked.{ClocksRight}
+use Rattle.hp_meaning.specs.Causal.Points.{Placed, points, NamesDeclared}
+use Rattle.hp_meaning.specs.Causal.RanksOfPoints.{RanksFall}
 use Rattle.hp_graph.specs.Graphs.{IsCycle}
 use Rattle.hp_cause.specs.declared.sorting.Order.{Order}
 use Rattle.hp_cause.specs.declared.sorting.Order.TheVariants.{Ranks, Cycle}

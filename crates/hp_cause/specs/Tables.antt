@@ -4,8 +4,8 @@ use Rattle.std.specs.Str.{bytes_eq}
 use Rattle.indexmap.specs.IndexMap.{get_by}
 use Rattle.hp_tree.specs.declared.decl.Cons.{Cons}
 use Rattle.hp_tree.specs.Blocks.{Decl}
-use Rattle.hp_defining.specs.declared.layer.Layer.{Layer}
-use Rattle.hp_defining.specs.Layers.{numbered}
+use Rattle.hp_tables.specs.declared.defining.layer.Layer.{Layer}
+use Rattle.hp_tables.specs.Defining.Layers.{numbered}
 use Rattle.hp_cause.specs.Gathering.{Sight}
 
 -- ---- the clock of a variable that a block declares, as it is written: outermost first

@@ -4,8 +4,8 @@ use Rattle.hp_tree.specs.Blocks.{Block, block, Eqns, no_eqn, more_eqns, Eqn, def
 use Rattle.hp_tree.specs.Programs.{Contract, Node}
 use Rattle.hp_tree.specs.Instant.{Controls, Body, Observer, Fresh, Equations, Head, Tail, Test, Arms as ArmsOf, States as StatesOf, Active, Place}
 use Rattle.hp_tree.specs.Meaning.{defines, some_defines, controls_of}
-use Rattle.hp_causal.specs.Sources.{Sources, none, only, both, NameSources, PlaceSources, below}
-use Rattle.hp_causal.specs.WhatIsRead.{of_expr, names_in, names_within, control_in, output_in}
+use Rattle.hp_meaning.specs.Causal.Sources.{Sources, none, only, both, NameSources, PlaceSources, below}
+use Rattle.hp_meaning.specs.Causal.WhatIsRead.{of_expr, names_in, names_within, control_in, output_in}
 
 -- the place of a control
 abbrev pub is_fresh : Place → Bool

@@ -5,7 +5,7 @@ ghost use Rattle.std.proofs.Props.{props};
 ghost use Rattle.hp_tree.specs.Meaning.{names_of};
 ghost use Rattle.hp_cause.specs.Around.{places_from, first_places};
 ghost use Rattle.hp_cause.specs.Gathering.{in_list};
-ghost use Rattle.hp_defining.specs.Names.{listed};
+ghost use Rattle.hp_tables.specs.Defining.Names.{listed};
 ghost use Rattle.hp_cause.specs.Told.{names_seen, with_more};
 
 use hp_base::Name;

@@ -1,14 +1,14 @@
 //! The names of clocks.
 ghost use Rattle.std.specs.Prelude.{◌≡◌, [], ◌∷◌, reverse, OnOk, IfOk};
 ghost use Rattle.hp_tree.specs.Meaning.{clock_of};
-ghost use Rattle.hp_telling.specs.Seen.{told_seen};
+ghost use Rattle.hp_tables.specs.Telling.Seen.{told_seen};
 ghost use Rattle.hp_cause.specs.Clocks.{names_told};
 ghost use Rattle.hp_cause.specs.Gathering.{names_of_clock};
 ghost use Rattle.hp_cause.specs.Told.{names_seen, with_more};
 
 use crate::table::Locals;
 use hp_base::{Name, Span};
-use hp_telling::{Telling, told_by};
+use hp_tables::telling::{Telling, told_by};
 use hp_tree::{Cons, Expr};
 use std::alloc::{AllocError, Global};
 

@@ -1,7 +1,7 @@
 //! The points of a cycle.
 ghost use Rattle.std.specs.Prelude.{◌≡◌, ◌<◌, ◌≤◌, ◌+◌, ℕ, [], ◌∷◌, ◌++◌, drop, take, length, get_or, OnOk, IfOk};
 ghost use Rattle.hp_graph.specs.Graphs.{IsCycle};
-ghost use Rattle.hp_causal.specs.Points.{NamesDeclared};
+ghost use Rattle.hp_meaning.specs.Causal.Points.{NamesDeclared};
 ghost use Rattle.hp_cause.specs.Describing.{AreFirsts, AllBelow, one_seen, points_seen, point_in};
 ghost use Rattle.hp_cause.specs.Facts.{points_in, reads_in};
 ghost use Rattle.hp_cause.specs.Gathering.{in_list, of_node};
@@ -13,8 +13,8 @@ ghost use Rattle.hp_cause.specs.Walked.{NamesDefinedOnce};
 use crate::edges::vertices;
 use crate::fact::Fact;
 use hp_base::{MAX_NAME, Name, Span};
-use hp_causal::{Point, PointKind};
 use hp_graph::above;
+use hp_meaning::causal::{Point, PointKind};
 use hp_tree::Node;
 use std::alloc::{AllocError, Global};
 

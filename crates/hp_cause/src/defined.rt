@@ -2,15 +2,15 @@
 ghost use Rattle.std.specs.Prelude.{◌≡◌, Some, slice_get, drop, OnOk};
 ghost use Rattle.hp_cause.specs.Around.{of_place, of_places};
 ghost use Rattle.hp_cause.specs.Gathering.{of_defined_name, of_name_if, of_defined};
-ghost use Rattle.hp_defining.specs.Names.{listed};
-ghost use Rattle.hp_defining.specs.Layers.{is_said, sight};
+ghost use Rattle.hp_tables.specs.Defining.Names.{listed};
+ghost use Rattle.hp_tables.specs.Defining.Layers.{is_said, sight};
 ghost use Rattle.hp_cause.specs.Told.{facts_seen, names_seen, with_more};
 
 use crate::around::Around;
 use crate::fact::{Fact, read, stand};
 use hp_base::{Name, Span};
-use hp_causal::PointKind;
-use hp_defining::{Layer, sight};
+use hp_meaning::causal::PointKind;
+use hp_tables::defining::{Layer, sight};
 use std::alloc::{AllocError, Global};
 
 /// A name that a control equation defines: it reads the vertex, and the control around.

@@ -1,5 +1,5 @@
 use hp_base::Name;
-use hp_causal::Point;
+use hp_meaning::causal::Point;
 use std::alloc::AllocError;
 use thiserror::Error;
 

@@ -1,17 +1,17 @@
 //! What expressions read.
 ghost use Rattle.std.specs.Prelude.{◌≡◌, ◌+◌, ◌<◌, ◌^◌, ◌++◌, [], ◌∷◌, Some, codes, map, IfOk, OnOk};
 ghost use Rattle.hp_tree.specs.Expressions.{exprs_of, parts_of};
-ghost use Rattle.hp_causal.specs.declared.point.PointKind.TheVariants.{Cond};
+ghost use Rattle.hp_meaning.specs.declared.causal.point.PointKind.TheVariants.{Cond};
 ghost use Rattle.hp_cause.specs.Facts.{stand, read};
 ghost use Rattle.hp_cause.specs.Gathering.{on_clock, outer_clock, of_call, of_expr, of_exprs, of_parts, of_test, of_tests};
-ghost use Rattle.hp_defining.specs.Layers.{sight};
+ghost use Rattle.hp_tables.specs.Defining.Layers.{sight};
 ghost use Rattle.hp_cause.specs.Told.{facts_seen, names_seen, with_more};
 ghost use Rattle.hp_cause.specs.Vertices.{calls_in, calls_in_all, calls_in_parts, is_call, own_of_test, size_of_tests};
 
 use crate::fact::{Fact, depend, read, read_by_all, stand};
 use hp_base::Span;
-use hp_causal::PointKind;
-use hp_defining::{Layer, sight};
+use hp_meaning::causal::PointKind;
+use hp_tables::defining::{Layer, sight};
 use hp_tree::{Cons, Expr, ExprKind, Trans};
 use std::alloc::{AllocError, Global};
 

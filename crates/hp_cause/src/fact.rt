@@ -4,7 +4,7 @@ ghost use Rattle.hp_cause.specs.Facts.{stand, read, depend, read_by_all};
 ghost use Rattle.hp_cause.specs.Told.{facts_seen, with_more};
 
 use hp_base::Span;
-use hp_causal::PointKind;
+use hp_meaning::causal::PointKind;
 use std::alloc::AllocError;
 
 /// What the text of a node says of its graph.

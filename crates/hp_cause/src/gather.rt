@@ -3,10 +3,10 @@ ghost use Rattle.std.specs.Prelude.{◌≡◌, ◌+◌, ◌≤◌, slice_get, ta
 ghost use Rattle.hp_tree.specs.BlockView.{eqn_seen, arm_seen, state_seen};
 ghost use Rattle.hp_tree.specs.Blocks.{eqns_of, arms_of, states_of};
 ghost use Rattle.hp_tree.specs.Meaning.{defines, controls_of, names_of as declared_names};
-ghost use Rattle.hp_causal.specs.declared.point.PointKind.TheVariants.{Active, Next};
+ghost use Rattle.hp_meaning.specs.declared.causal.point.PointKind.TheVariants.{Active, Next};
 ghost use Rattle.hp_cause.specs.Facts.{stand, read, depend};
-ghost use Rattle.hp_defining.specs.Layers.{numbered, says, says_numbers, says_seen, is_said, own_of, or_none, sight};
-ghost use Rattle.hp_defining.specs.Names.{listed, names_in, names_of, outer_names};
+ghost use Rattle.hp_tables.specs.Defining.Layers.{numbered, says, says_numbers, says_seen, is_said, own_of, or_none, sight};
+ghost use Rattle.hp_tables.specs.Defining.Names.{listed, names_in, names_of, outer_names};
 ghost use Rattle.hp_cause.specs.Told.{facts_seen, names_seen, with_more, front};
 ghost use Rattle.hp_cause.specs.Vertices.{calls_in, own_size, size_inside, size_of, size_of_all, size_of_arms, size_of_states, size_of_told, size_of_contract, size_of_tests, first_of_body, first_of_contract, size_of_node};
 ghost use Rattle.hp_cause.specs.Gathering.{block_names, of_expr, of_left, of_lefts, vertices_of, in_list, of_definition, of_defined_name, of_name_if, of_defined, of_control, of_words, of_links, seen_in, seen_within, links_of, declared_with, of_inside, of_eqns, of_eqn, of_block, of_arms, of_state, of_states, of_told, of_contract, of_controls, seen_controls, own_sight, seen_declared, behind_controls, of_node};
@@ -18,8 +18,8 @@ use crate::expression::{Notes, add_clock, gather_expr, gather_tests, take_number
 use crate::fact::{Fact, depend, read, stand};
 use crate::table::Locals;
 use hp_base::{Name, Span};
-use hp_causal::PointKind;
-use hp_defining::{Layer, declared_names, names_in, names_of, outer_names, sight};
+use hp_meaning::causal::PointKind;
+use hp_tables::defining::{Layer, declared_names, names_in, names_of, outer_names, sight};
 use hp_tree::{Arm, Block, Contract, Decl, Eqn, Expr, Node, State, controls_of};
 use std::alloc::{AllocError, Global};
 

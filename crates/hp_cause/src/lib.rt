@@ -2,10 +2,10 @@
 #![tactic(auto)]
 
 ghost use Rattle.std.specs.Prelude.{◌≡◌, OnOk, IfOk, IfErr, [], ◌∷◌, ◌++◌};
-ghost use Rattle.hp_causal.specs.Clocked.{ClocksRight};
-ghost use Rattle.hp_causal.specs.Causality.{IsCausal};
-ghost use Rattle.hp_causal.specs.Points.{NamesDeclared};
-ghost use Rattle.hp_causal.specs.RanksOfPoints.{RanksFall, AllFall};
+ghost use Rattle.hp_meaning.specs.Causal.Clocked.{ClocksRight};
+ghost use Rattle.hp_meaning.specs.Causal.Causality.{IsCausal};
+ghost use Rattle.hp_meaning.specs.Causal.Points.{NamesDeclared};
+ghost use Rattle.hp_meaning.specs.Causal.RanksOfPoints.{RanksFall, AllFall};
 ghost use Rattle.hp_cause.specs.Answers.{NamesCycle, NamesNode, ItemOrdered, lists};
 ghost use Rattle.hp_cause.specs.Facts.{reads_in};
 ghost use Rattle.hp_cause.specs.Gathering.{of_node};

@@ -1,9 +1,9 @@
 //! The order of one node.
 ghost use Rattle.std.specs.Prelude.{◌≡◌, get_or, map, IfOk};
-ghost use Rattle.hp_causal.specs.Causality.{IsCausal};
-ghost use Rattle.hp_causal.specs.RanksOfPoints.{RanksFall};
-ghost use Rattle.hp_causal.specs.Clocked.{ClocksRight};
-ghost use Rattle.hp_causal.specs.Points.{NamesDeclared};
+ghost use Rattle.hp_meaning.specs.Causal.Causality.{IsCausal};
+ghost use Rattle.hp_meaning.specs.Causal.RanksOfPoints.{RanksFall};
+ghost use Rattle.hp_meaning.specs.Causal.Clocked.{ClocksRight};
+ghost use Rattle.hp_meaning.specs.Causal.Points.{NamesDeclared};
 ghost use Rattle.hp_graph.specs.Graphs.{IsSortedBy, RanksAlong};
 ghost use Rattle.hp_cause.specs.Facts.{reads_in, dependences_in, vertices_in};
 ghost use Rattle.hp_cause.specs.Gathering.{of_node};

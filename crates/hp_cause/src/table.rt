@@ -1,11 +1,11 @@
 //! How a block declares names.
 ghost use Rattle.std.specs.Prelude.{◌≡◌, [], IfOk};
 ghost use Rattle.hp_cause.specs.Tables.{own_path, path_at, path_of};
-ghost use Rattle.hp_defining.specs.Layers.{says, says_numbers};
+ghost use Rattle.hp_tables.specs.Defining.Layers.{says, says_numbers};
 ghost use Rattle.hp_tree.specs.Meaning.{declares, names_of};
 
 use hp_base::Name;
-use hp_defining::Layer;
+use hp_tables::defining::Layer;
 use hp_tree::{Cons, Decl};
 use std::alloc::{AllocError, Global};
 

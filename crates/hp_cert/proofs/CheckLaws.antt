@@ -8,11 +8,11 @@ use Rattle.hp_boolx.specs.Machine.{Machine, IsMachine, game}
 use Rattle.hp_boolx.specs.Solved.{rank, win_step}
 use Rattle.hp_boolx.proofs.GateLaws.{game-form}
 use Rattle.hp_boolx.proofs.SolvedLaws.{win-proves, lose-proves, win-step-told, rank-step-told}
-use Rattle.hp_certtext.specs.Certificates.{Claim, win, lose, Certificate}
-use Rattle.hp_certtext.specs.declared.error.CertErr.{CertErr}
-use Rattle.hp_certtext.specs.declared.error.CertErr.TheVariants as error
-use Rattle.hp_certtext.specs.declared.error.Cond.TheVariants as cond
-use Rattle.hp_certtext.specs.declared.error.Misfit.TheVariants as misfit
+use Rattle.hp_cert.specs.Certtext.Certificates.{Claim, win, lose, Certificate}
+use Rattle.hp_cert.specs.declared.certtext.error.CertErr.{CertErr}
+use Rattle.hp_cert.specs.declared.certtext.error.CertErr.TheVariants as error
+use Rattle.hp_cert.specs.declared.certtext.error.Cond.TheVariants as cond
+use Rattle.hp_cert.specs.declared.certtext.error.Misfit.TheVariants as misfit
 use Rattle.hp_quant.specs.declared.line.Line.{Line}
 use Rattle.hp_cert.specs.declared.checking.Proved.{Proved}
 use Rattle.hp_cert.specs.declared.checking.Proved.TheVariants as proved

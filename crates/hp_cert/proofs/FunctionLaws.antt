@@ -5,7 +5,7 @@ use Rattle.std.proofs.lemmas.Bool.{cases_lt}
 use Rattle.std.proofs.lemmas.List.{length_push, get_or_append_left, get_or_push}
 use Rattle.std.proofs.lemmas.List.Elements.{All-nil}
 use Rattle.std.proofs.lemmas.Option.{slice_get_within, slice_get-get_or, get_or_from_slice_get}
-use Rattle.hp_certtext.specs.Certificates.{AreLines}
+use Rattle.hp_cert.specs.Certtext.Certificates.{AreLines}
 use Rattle.hp_diagram.specs.declared.reference.Ref.{Ref}
 use Rattle.hp_diagram.specs.Diagrams.{Diagrams, function, Has, Means, Keeps, zero_ref, one_ref}
 use Rattle.hp_diagram.proofs.Choices.{Means-keeps}

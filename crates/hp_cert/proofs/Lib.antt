@@ -4,3 +4,5 @@ pub mod FunctionLaws
 pub mod StepLaws
 pub mod ReadyLaws
 pub mod CheckLaws
+pub mod CertmadeLemmas
+pub mod CerttextLemmas

@@ -4,7 +4,7 @@ use Rattle.std.specs.Option.{option_map}
 use Rattle.std.proofs.lemmas.Option.{slice_get-map, slice_get-get_or, slice_get_within, get_or_from_slice_get}
 use Rattle.hp_boolx.specs.Search.{Bits}
 use Rattle.hp_boolx.specs.Solved.{rank}
-use Rattle.hp_certtext.specs.Certificates.{IsShort, AreLines}
+use Rattle.hp_cert.specs.Certtext.Certificates.{IsShort, AreLines}
 use Rattle.hp_diagram.specs.Diagrams.{Diagrams, branch_at, path_end, valuation}
 use Rattle.hp_diagram.specs.declared.reference.Branch.{Branch}
 use Rattle.hp_diagram.proofs.Paths.{AreBelow, path_end-child, path_end-leaf}

@@ -3,7 +3,7 @@ use Rattle.std.proofs.Common.{◌≡◌, ◌≢◌, ◌↔◌, ◌⊎◌, inl, i
 use Rattle.std.proofs.lemmas.Bool.{cases_lt}
 use Rattle.std.proofs.lemmas.Bool.Decides.{eqb_tells}
 use Rattle.std.proofs.lemmas.Option.{slice_get_within}
-use Rattle.hp_certtext.specs.Certificates.{AreLines}
+use Rattle.hp_cert.specs.Certtext.Certificates.{AreLines}
 use Rattle.hp_quant.specs.declared.line.Line.{Line}
 use Rattle.hp_cert.specs.Proving.{Reaches, ReadsBelow}
 use Rattle.hp_cert.specs.Marks.{ReachedBy, Marked, IsMarked, marked, AreSound, AreClosed, AreReached, AreBelow}

@@ -4,7 +4,7 @@ use Rattle.std.proofs.lemmas.List.Elements.{All-nil, All-cons}
 use Rattle.hp_boolx.specs.Search.{Bits}
 use Rattle.hp_boolx.specs.Game.{Game}
 use Rattle.hp_boolx.specs.Machine.{Machine, game}
-use Rattle.hp_certtext.specs.Certificates.{IsRef, AreLines}
+use Rattle.hp_cert.specs.Certtext.Certificates.{IsRef, AreLines}
 use Rattle.hp_diagram.specs.declared.reference.Ref.{Ref}
 use Rattle.hp_diagram.specs.Diagrams.{Diagrams, Has, Means, valuation}
 use Rattle.hp_quant.specs.declared.line.Line.{Line}

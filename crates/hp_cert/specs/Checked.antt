@@ -3,13 +3,13 @@ use Rattle.std.specs.Prelude.{◌≡◌, ℕ, zero, suc, ◌<◌, length}
 use Rattle.hp_boolx.specs.Machine.{Machine}
 use Rattle.hp_cert.specs.declared.checking.Proved.{Proved}
 use Rattle.hp_cert.specs.declared.checking.Proved.TheVariants as proved
-use Rattle.hp_certtext.specs.Certificates.{Claim, win, lose, Certificate}
-use Rattle.hp_certtext.specs.declared.error.CertErr.{CertErr}
-use Rattle.hp_certtext.specs.declared.error.CertErr.TheVariants as error
-use Rattle.hp_certtext.specs.declared.error.Cond.{Cond}
-use Rattle.hp_certtext.specs.declared.error.Cond.TheVariants as cond
-use Rattle.hp_certtext.specs.declared.error.Misfit.{Misfit}
-use Rattle.hp_certtext.specs.declared.error.Misfit.TheVariants as misfit
+use Rattle.hp_cert.specs.Certtext.Certificates.{Claim, win, lose, Certificate}
+use Rattle.hp_cert.specs.declared.certtext.error.CertErr.{CertErr}
+use Rattle.hp_cert.specs.declared.certtext.error.CertErr.TheVariants as error
+use Rattle.hp_cert.specs.declared.certtext.error.Cond.{Cond}
+use Rattle.hp_cert.specs.declared.certtext.error.Cond.TheVariants as cond
+use Rattle.hp_cert.specs.declared.certtext.error.Misfit.{Misfit}
+use Rattle.hp_cert.specs.declared.certtext.error.Misfit.TheVariants as misfit
 use Rattle.hp_cert.specs.Proving.{HasName, HasVars, HasCount, InScope, Fits, HoldsAtFirst, Keeps, ForcesNext}
 
 module _ (m : Machine) (c : Certificate) where

@@ -5,7 +5,7 @@ use Rattle.hp_boolx.specs.Game.{joined, IsState, ValidLate, ValidChoice, ValidEa
 use Rattle.hp_boolx.specs.Machine.{Machine, variables, game}
 use Rattle.hp_boolx.specs.Search.{Bits, Set}
 use Rattle.hp_boolx.specs.Solved.{rank}
-use Rattle.hp_certtext.specs.Certificates.{Claim, win, lose, Certificate}
+use Rattle.hp_cert.specs.Certtext.Certificates.{Claim, win, lose, Certificate}
 use Rattle.hp_diagram.specs.Diagrams.{valuation}
 use Rattle.hp_quant.specs.declared.line.Line.{Line}
 use Rattle.hp_quant.specs.Lines.{line_function}

@@ -4,13 +4,13 @@ ghost use Rattle.hp_boolx.specs.Game.{Safe, Forced};
 ghost use Rattle.hp_boolx.specs.Machine.{game};
 ghost use Rattle.hp_cert.specs.Checked.{Proves, Refuses};
 ghost use Rattle.hp_cert.specs.Proving.{Fits, HoldsAtFirst};
-ghost use Rattle.hp_certtext.specs.Certificates.{AreLines, IsClaim};
-ghost use Rattle.hp_certtext.specs.declared.error.CertErr as refusal;
+ghost use Rattle.hp_cert.specs.Certtext.Certificates.{AreLines, IsClaim};
+ghost use Rattle.hp_cert.specs.declared.certtext.error.CertErr as refusal;
 
+use crate::certtext::{Cert, CertErr, CertKind, Cond};
 use crate::conditions::{first_failing, holds_at_first, keeps};
 use crate::fits::fits;
 use hp_boolx::BoolMachine;
-use hp_certtext::{Cert, CertErr, CertKind, Cond};
 use std::alloc::Global;
 
 /// What a certificate proves.

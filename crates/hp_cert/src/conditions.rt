@@ -3,20 +3,20 @@ ghost use Rattle.std.specs.Prelude.{◌≡◌, ◌+◌, ◌<◌, ◌≤◌, ◌�
 ghost use Rattle.hp_boolx.specs.Game.{IsForm};
 ghost use Rattle.hp_boolx.specs.Machine.{game, variables};
 ghost use Rattle.hp_cert.specs.Proving.{set_of, functions_of, ReadsBelow, HoldsAt, HoldsAtFirst, Keeps, ForcesNext};
-ghost use Rattle.hp_certtext.specs.Certificates.{AreLines, IsClaim, IsRef};
-ghost use Rattle.hp_certtext.specs.CertView.{claim_seen};
+ghost use Rattle.hp_cert.specs.Certtext.Certificates.{AreLines, IsClaim, IsRef};
+ghost use Rattle.hp_cert.specs.Certtext.CertView.{claim_seen};
 ghost use Rattle.hp_cert.specs.Conditions.{FirstFailing, IsReady};
 ghost use Rattle.hp_quant.specs.declared.line.Line as plain;
 ghost use Rattle.hp_synth.specs.Kept.{AllMean};
 ghost use Rattle.hp_synth.specs.Sought.{base};
 ghost use Rattle.hp_synth.specs.Valued.{OfState};
 
+use crate::certtext::{Cert, CertKind};
 use crate::functions::{functions, references};
 use crate::marks::reached;
 use crate::steps::{first_weak, win_holds};
 use crate::value::value;
 use hp_boolx::BoolMachine;
-use hp_certtext::{Cert, CertKind};
 use hp_diagram::{Ref, Table};
 use hp_quant::{Line, reference};
 use hp_synth::prepare;

@@ -3,13 +3,13 @@ ghost use Rattle.std.specs.Prelude.{◌≡◌, ◌+◌, ◌<◌, ◌^◌, ◌↔
 ghost use Rattle.hp_boolx.specs.Machine.{variables};
 ghost use Rattle.hp_cert.specs.Checked.{Refuses};
 ghost use Rattle.hp_cert.specs.Proving.{HasName, HasVars, HasWidths, HasCount, ReadsBelow, InScope, Fits};
-ghost use Rattle.hp_certtext.specs.Certificates.{AreLines, IsRef, IsClaim};
-ghost use Rattle.hp_certtext.specs.CertView.{claim_seen};
+ghost use Rattle.hp_cert.specs.Certtext.Certificates.{AreLines, IsRef, IsClaim};
+ghost use Rattle.hp_cert.specs.Certtext.CertView.{claim_seen};
 ghost use Rattle.hp_quant.specs.declared.line.Line as plain;
 
+use crate::certtext::{Cert, CertErr, CertKind, Misfit};
 use crate::marks::read_below;
 use hp_boolx::{BoolMachine, Counts};
-use hp_certtext::{Cert, CertErr, CertKind, Misfit};
 use hp_quant::Line;
 use std::alloc::{AllocError, Global};
 

@@ -1,6 +1,6 @@
 //! The functions of lines.
 ghost use Rattle.std.specs.Prelude.{◌≡◌, ◌+◌, ◌<◌, ◌++◌, ◌∷◌, [], length, All, map, IfOk};
-ghost use Rattle.hp_certtext.specs.Certificates.{AreLines, IsRef};
+ghost use Rattle.hp_cert.specs.Certtext.Certificates.{AreLines, IsRef};
 ghost use Rattle.hp_cert.specs.Marks.{AreClosed};
 ghost use Rattle.hp_cert.specs.Steps.{AreOfMarked};
 ghost use Rattle.hp_diagram.specs.Diagrams.{Keeps};

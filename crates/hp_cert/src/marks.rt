@@ -1,6 +1,6 @@
 //! Which lines are reached.
 ghost use Rattle.std.specs.Prelude.{◌≡◌, ◌+◌, ◌<◌, ◌≤◌, ◌↔◌, ℕ, List, Bool, length, All, IsTrue, IfOk};
-ghost use Rattle.hp_certtext.specs.Certificates.{IsRef, AreLines};
+ghost use Rattle.hp_cert.specs.Certtext.Certificates.{IsRef, AreLines};
 ghost use Rattle.hp_cert.specs.Marks.{Marked, marked, AreSound, AreClosed, AreReached, AreBelow};
 ghost use Rattle.hp_cert.specs.Proving.{ReadsBelow};
 

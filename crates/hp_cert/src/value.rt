@@ -1,6 +1,6 @@
 //! The value of a reference.
 ghost use Rattle.std.specs.Prelude.{◌≡◌, ◌+◌, ◌<◌, false, length, slice_index_or};
-ghost use Rattle.hp_certtext.specs.Certificates.{AreLines};
+ghost use Rattle.hp_cert.specs.Certtext.Certificates.{AreLines};
 ghost use Rattle.hp_cert.specs.Proving.{set_of};
 
 use hp_quant::Line;

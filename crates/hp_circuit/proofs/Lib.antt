@@ -9,3 +9,4 @@ pub mod SteeredLaws
 pub mod OrderLaws
 pub mod EndLaws
 pub mod PartLaws
+pub mod PlacedLemmas

@@ -10,3 +10,4 @@ pub mod Ordering
 pub mod Placing
 pub mod Machines
 pub mod Finishing
+pub mod Placed

@@ -9,6 +9,7 @@ mod gates;
 mod kind;
 mod machine;
 mod order;
+pub mod placed;
 mod places;
 mod registers;
 mod steered;

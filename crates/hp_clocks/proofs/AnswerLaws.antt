@@ -9,10 +9,10 @@ use Rattle.hp_base.specs.declared.limit.Limit.{Limit}
 use Rattle.hp_tree.specs.declared.program.Item.{Item}
 use Rattle.hp_tree.specs.declared.program.Item.TheVariants.{TypeItem, NodeItem}
 use Rattle.hp_tree.specs.Programs.{Node}
-use Rattle.hp_clocking.specs.Clocking.{Assignment, AllAllow, IsAllowed, AreClocks, node_sights, node_units, NodeNamed}
-use Rattle.hp_clocking.specs.Solving.{FirstClash}
-use Rattle.hp_clocking.proofs.Judging.{one}
-use Rattle.hp_clocking.proofs.Units.{all_allow}
+use Rattle.hp_meaning.specs.Clocking.Clocking.{Assignment, AllAllow, IsAllowed, AreClocks, node_sights, node_units, NodeNamed}
+use Rattle.hp_meaning.specs.Clocking.Solving.{FirstClash}
+use Rattle.hp_meaning.proofs.ClockingLemmas.Judging.{one}
+use Rattle.hp_meaning.proofs.ClockingLemmas.Units.{all_allow}
 use Rattle.hp_clocks.specs.declared.error.ClockErr.{ClockErr}
 use Rattle.hp_clocks.specs.declared.error.ClockErr.TheVariants as error
 use Rattle.hp_clocks.specs.declared.solve.Solution.{Solution}

@@ -2,7 +2,7 @@
 use Rattle.std.proofs.Common.{◌≡◌, ℕ, zero, suc, ◌<◌, ◌≤◌, List, [], ◌∷◌, ◌++◌, length, slice_set, refl, sym, ap, ◌∙◌, subst, arith}
 use Rattle.std.specs.Prelude.{Bool, true, false, if◌then◌else◌, ⊤}
 use Rattle.std.specs.Bool.{Decides}
-use Rattle.hp_clocking.specs.Clocking.{On}
+use Rattle.hp_meaning.specs.Clocking.Clocking.{On}
 use Rattle.hp_clocks.specs.declared.cell.Cell.{Cell}
 use Rattle.hp_clocks.specs.declared.cell.Cell.TheVariants as cell
 use Rattle.hp_clocks.specs.Cells.{is_cell, Told, unknown, same_as, on_base, step_on, told, told_at, Says, Fits, with_told, IsLess, Falls, end_of, end_by, end_at, IsWithin, AreCells, Tells}

@@ -9,7 +9,7 @@ use Rattle.hp_tree.specs.Expressions.{Expr}
 use Rattle.hp_tree.specs.Blocks.{Decl, Block, block, Eqns, no_eqn, more_eqns, Eqn, define, switch, reset, automaton, Arms, no_arm, more_arms, States, no_state, more_states}
 use Rattle.hp_tree.specs.Programs.{Contract, Node}
 use Rattle.hp_tree.specs.Meaning.{declares, some_defines}
-use Rattle.hp_clocking.specs.Clocking.{controls_define}
+use Rattle.hp_meaning.specs.Clocking.Clocking.{controls_define}
 use Rattle.hp_clocks.specs.declared.layer.Seen.{Seen}
 use Rattle.hp_clocks.specs.declared.layer.Seen.TheVariants as seen
 use Rattle.hp_clocks.specs.Scopes.{Sight, IsThere, AreThere}

@@ -3,9 +3,9 @@ use Rattle.std.proofs.Common.{◌≡◌, ℕ, zero, suc, ◌+◌, ◌<◌, ◌�
 use Rattle.std.specs.Prelude.{Bool, true, false, if◌then◌else◌}
 use Rattle.std.specs.Bool.{Decides}
 use Rattle.hp_tree.specs.Instant.{Clock}
-use Rattle.hp_clocking.specs.Terms.{IsPart}
-use Rattle.hp_clocking.specs.Clocking.{On}
-use Rattle.hp_clocking.proofs.Unify.{decided, firsts, rests, not_empty, not_longer}
+use Rattle.hp_meaning.specs.Clocking.Terms.{IsPart}
+use Rattle.hp_meaning.specs.Clocking.Clocking.{On}
+use Rattle.hp_meaning.proofs.ClockingLemmas.Unify.{decided, firsts, rests, not_empty, not_longer}
 use Rattle.hp_clocks.specs.Cells.{is_cell, Told, unknown, same_as, on_base, step_on, Clocks, Says, Fits, with_told, IsLess, Falls, steps, steps_by, end_of, end_by}
 
 longer : (o : On) (c d e : Clock) → e ≡ o ∷ d → IsPart c d → IsPart (o ∷ c) e

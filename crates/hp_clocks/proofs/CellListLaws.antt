@@ -7,9 +7,9 @@ use Rattle.hp_tree.specs.Expressions.{Expr}
 use Rattle.hp_tree.specs.Blocks.{Decl, Block, block, Eqns, no_eqn, more_eqns, Eqn, define, switch, reset, automaton, Arms, no_arm, more_arms, States, no_state, more_states}
 use Rattle.hp_tree.specs.Programs.{Contract, Node}
 use Rattle.hp_tree.specs.Instant.{Place, Body, Observer, Equations, Head, Tail, Right, Arms as ArmsOf, States as StatesOf, Clock}
-use Rattle.hp_causal.specs.Sources.{below}
-use Rattle.hp_clocking.specs.Terms.{value}
-use Rattle.hp_clocking.specs.Clocking.{Assignment, local_term, in_observer, in_body}
+use Rattle.hp_meaning.specs.Causal.Sources.{below}
+use Rattle.hp_meaning.specs.Clocking.Terms.{value}
+use Rattle.hp_meaning.specs.Clocking.Clocking.{Assignment, local_term, in_observer, in_body}
 use Rattle.hp_clocks.specs.Cells.{Clocks}
 use Rattle.hp_clocks.specs.Listed as place
 use Rattle.hp_clocks.specs.Units.{size, size_of, size_of_contract, cell_of, locals, locals_in_all, locals_in_one, locals_in_arms, locals_in_states, locals_of_contract, locals_of_node, rights, rights_in_all, rights_in_one, rights_in_arms, rights_in_states, rights_told, rights_of_contract, rights_of_node, tests, test_of}

@@ -4,9 +4,9 @@ use Rattle.std.specs.Prelude.{Result, Ok, Err, IfOk, OnOk}
 use Rattle.std.specs.Str.{bytes_eq}
 use Rattle.hp_tree.specs.Blocks.{Decl, block, Eqns, no_eqn, more_eqns, Eqn, define, switch, reset, automaton}
 use Rattle.hp_tree.specs.Meaning.{defines, some_defines}
-use Rattle.hp_clocking.specs.Clocking.{controls_define}
-use Rattle.hp_defining.specs.Names.{listed, names_in, names_of, controlled, controls_in}
-use Rattle.hp_defining.proofs.ListedLaws.{joined, listed_in, listed_of}
+use Rattle.hp_meaning.specs.Clocking.Clocking.{controls_define}
+use Rattle.hp_tables.specs.Defining.Names.{listed, names_in, names_of, controlled, controls_in}
+use Rattle.hp_tables.proofs.DefiningLemmas.ListedLaws.{joined, listed_in, listed_of}
 use Rattle.hp_clocks.specs.Units.{number_in, or_base, local_cell, cell_of, cell_in}
 use Rattle.hp_clocks.specs.Layers.{Says, no_entry, says_names, says_locals, cell_by, says_by, says_own, cells_by}
 use Rattle.hp_clocks.specs.Putting.{own_locals}

@@ -3,9 +3,9 @@ use Rattle.std.proofs.Common.{◌≡◌, ℕ, zero, suc, ◌<◌, ◌≤◌, Lis
 use Rattle.std.specs.Prelude.{if◌then◌else◌, Some}
 use Rattle.hp_tree.specs.Expressions.{Expr}
 use Rattle.hp_tree.specs.Instant.{Clock}
-use Rattle.hp_causal.specs.Clocked.{base_alone, IsOn}
-use Rattle.hp_clocking.specs.Clocking.{On}
-use Rattle.hp_clocking.proofs.Unify.{decided}
+use Rattle.hp_meaning.specs.Causal.Clocked.{base_alone, IsOn}
+use Rattle.hp_meaning.specs.Clocking.Clocking.{On}
+use Rattle.hp_meaning.proofs.ClockingLemmas.Unify.{decided}
 use Rattle.hp_clocks.specs.declared.cell.Cell.{Cell}
 use Rattle.hp_clocks.specs.declared.layer.Seen.{Seen}
 use Rattle.hp_clocks.specs.declared.layer.Seen.TheVariants as seen

@@ -6,7 +6,7 @@ use Rattle.std.proofs.lemmas.List.{drop_all}
 use Rattle.std.specs.Prelude.{Some}
 use Rattle.hp_tree.specs.declared.decl.Cons.{Cons}
 use Rattle.hp_tree.specs.Expressions.{Expr, exprs_of, parts_of}
-use Rattle.hp_causal.specs.Clocked.{IsOn, ExprsOn, PartsOn}
+use Rattle.hp_meaning.specs.Causal.Clocked.{IsOn, ExprsOn, PartsOn}
 use Rattle.hp_clocks.specs.declared.cell.Cell.{Cell}
 use Rattle.hp_clocks.specs.Cells.{Clocks, AreCells, Tells, Never}
 use Rattle.hp_clocks.specs.Scopes.{Sight, standing, AreThere, Grows}

@@ -8,7 +8,7 @@ use Rattle.hp_tree.specs.declared.decl.Cons.{Cons}
 use Rattle.hp_tree.specs.Expressions.{Expr, exprs_of, parts_of}
 use Rattle.hp_tree.specs.Instant.{Clock}
 use Rattle.hp_tree.proofs.Lists.{nodes-at, nodes-at_part}
-use Rattle.hp_clocking.specs.Clocking.{On}
+use Rattle.hp_meaning.specs.Clocking.Clocking.{On}
 use Rattle.hp_clocks.specs.declared.cell.Cell.{Cell}
 use Rattle.hp_clocks.specs.Cells.{AreCells, told_at, unknown, same_as, on_base, step_on}
 use Rattle.hp_clocks.specs.Listed.{Right}

@@ -11,15 +11,15 @@ use Rattle.hp_tree.specs.Blocks.{Decl, Block, block, Eqns, no_eqn, more_eqns, Eq
 use Rattle.hp_tree.specs.Programs.{Contract, Node}
 use Rattle.hp_tree.specs.Instant.{Place, Body, Observer, Assume, Enforce, Named, Equations, Head, Tail, Right as RightSide, Test, Arms as ArmsOf, States as StatesOf, Until, Unless, Clock}
 use Rattle.hp_tree.specs.Meaning.{declares, clock_in, clock_of}
-use Rattle.hp_causal.specs.Sources.{below}
-use Rattle.hp_clocking.specs.Terms.{value}
-use Rattle.hp_clocking.specs.Clocking.{Assignment, local_term, with_clock, with_clocks, all_with_clocks, one_with_clocks, arms_with_clocks, states_with_clocks, in_observer, in_body, contract_with_clocks, node_with_clocks, EachBlock, EachOfAll, EachOfOne, EachOfArms, EachOfStates, EachInContract, AreOnce, NamesRight, NodeNamed, clocks_of, clocks_of_all, clocks_of_one, clocks_of_arms, clocks_of_states, clocks_of_contract, clocks_of_node}
-use Rattle.hp_clocking.specs.EachExpression.{passed}
-use Rattle.hp_clocking.specs.EveryClock.{of_conditions, every_clock, every_clock_of_all, every_clock_of_one, every_clock_of_arms, every_clock_of_states, every_told, every_clock_of_contract, every_clock_of_node}
-use Rattle.hp_clocking.proofs.Lengths.{greater, no_longer, reached}
-use Rattle.hp_clocking.proofs.Lengths as lengths
-use Rattle.hp_clocking.proofs.Written.{declares_kept, undeclared}
-use Rattle.hp_clocking.proofs.Passed.{passes}
+use Rattle.hp_meaning.specs.Causal.Sources.{below}
+use Rattle.hp_meaning.specs.Clocking.Terms.{value}
+use Rattle.hp_meaning.specs.Clocking.Clocking.{Assignment, local_term, with_clock, with_clocks, all_with_clocks, one_with_clocks, arms_with_clocks, states_with_clocks, in_observer, in_body, contract_with_clocks, node_with_clocks, EachBlock, EachOfAll, EachOfOne, EachOfArms, EachOfStates, EachInContract, AreOnce, NamesRight, NodeNamed, clocks_of, clocks_of_all, clocks_of_one, clocks_of_arms, clocks_of_states, clocks_of_contract, clocks_of_node}
+use Rattle.hp_meaning.specs.Clocking.EachExpression.{passed}
+use Rattle.hp_meaning.specs.Clocking.EveryClock.{of_conditions, every_clock, every_clock_of_all, every_clock_of_one, every_clock_of_arms, every_clock_of_states, every_told, every_clock_of_contract, every_clock_of_node}
+use Rattle.hp_meaning.proofs.ClockingLemmas.Lengths.{greater, no_longer, reached}
+use Rattle.hp_meaning.proofs.ClockingLemmas.Lengths as lengths
+use Rattle.hp_meaning.proofs.ClockingLemmas.Written.{declares_kept, undeclared}
+use Rattle.hp_meaning.proofs.ClockingLemmas.Passed.{passes}
 use Rattle.hp_clocks.specs.declared.solve.Solution.{Solution}
 use Rattle.hp_clocks.specs.Listed.{Right, on_base, conditions, locals, locals_in_all, locals_in_one, locals_in_arms, locals_in_states, locals_of_contract, locals_of_node, rights, rights_in_all, rights_in_one, rights_in_arms, rights_in_states, rights_told, rights_of_contract, rights_of_node}
 use Rattle.hp_clocks.specs.Longest.{counted, longest, longest_of_all, longest_of_parts, longest_local, longest_right, longest_solved, TellsLong}

@@ -2,7 +2,7 @@
 use Rattle.std.proofs.Common.{◌≡◌, ℕ, ◌<◌, List, [], ◌∷◌, length, refl, sym, ap, ◌∙◌, subst, arith}
 use Rattle.std.specs.Prelude.{Option, None, Some}
 use Rattle.hp_tree.specs.Instant.{Clock}
-use Rattle.hp_causal.specs.Clocked.{base_alone}
+use Rattle.hp_meaning.specs.Causal.Clocked.{base_alone}
 use Rattle.hp_clocks.specs.declared.cell.Cell.{Cell}
 use Rattle.hp_clocks.specs.declared.layer.Seen.TheVariants as seen
 use Rattle.hp_clocks.specs.Cells.{on_base, told_at, Clocks, Fits, AreCells, Tells, Never}
@@ -12,7 +12,7 @@ use Rattle.hp_clocks.proofs.Arrays.{is_same}
 use Rattle.hp_clocks.proofs.Unifying.{tells_like}
 use Rattle.hp_base.specs.declared.span.Span.{Span}
 use Rattle.hp_tree.specs.Expressions.{last_of}
-use Rattle.hp_causal.specs.Clocked.{IsOn}
+use Rattle.hp_meaning.specs.Causal.Clocked.{IsOn}
 use Rattle.hp_clocks.specs.Scopes.{Grows}
 use Rattle.hp_clocks.proofs.Growing.{tells_then, grows_of_tells}
 

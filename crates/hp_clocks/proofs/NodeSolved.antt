@@ -7,13 +7,13 @@ use Rattle.hp_base.specs.declared.span.Span.{Span}
 use Rattle.hp_tree.specs.Expressions.{Expr}
 use Rattle.hp_tree.specs.Programs.{Node}
 use Rattle.hp_tree.specs.Instant.{Place, Clock}
-use Rattle.hp_clocking.specs.Terms.{IsPart, IsShortest}
-use Rattle.hp_clocking.specs.Clocking as place
-use Rattle.hp_clocking.specs.Clocking.{Assignment, ClockUnit, node_sights, AreClocks, IsAllowed}
-use Rattle.hp_clocking.specs.Solving.{FirstClash}
-use Rattle.hp_clocking.proofs.Units.{all_allow}
-use Rattle.hp_clocking.proofs.Cut.{UnitsFit, first_fit, shortest_are}
-use Rattle.hp_clocking.proofs.Fitting.{node_fits, node_places_fit}
+use Rattle.hp_meaning.specs.Clocking.Terms.{IsPart, IsShortest}
+use Rattle.hp_meaning.specs.Clocking.Clocking as place
+use Rattle.hp_meaning.specs.Clocking.Clocking.{Assignment, ClockUnit, node_sights, AreClocks, IsAllowed}
+use Rattle.hp_meaning.specs.Clocking.Solving.{FirstClash}
+use Rattle.hp_meaning.proofs.ClockingLemmas.Units.{all_allow}
+use Rattle.hp_meaning.proofs.ClockingLemmas.Cut.{UnitsFit, first_fit, shortest_are}
+use Rattle.hp_meaning.proofs.ClockingLemmas.Fitting.{node_fits, node_places_fit}
 use Rattle.hp_clocks.specs.declared.cell.Cell.{Cell}
 use Rattle.hp_clocks.specs.declared.solve.Solution.{Solution}
 use Rattle.hp_clocks.specs.Cells.{Told, unknown, same_as, on_base, step_on, told_at, Clocks, Says, Fits, AreCells, steps, steps_by}

@@ -3,8 +3,8 @@ use Rattle.std.proofs.Common.{◌≡◌, ℕ, ◌+◌, ◌<◌, ◌≤◌, List,
 use Rattle.std.proofs.lemmas.List.{append-nil, reverse-append}
 use Rattle.std.specs.Prelude.{⊤, Some}
 use Rattle.hp_tree.specs.Instant.{Clock}
-use Rattle.hp_causal.specs.Clocked.{Standing, ClockRight}
-use Rattle.hp_clocking.specs.Clocking.{On}
+use Rattle.hp_meaning.specs.Causal.Clocked.{Standing, ClockRight}
+use Rattle.hp_meaning.specs.Clocking.Clocking.{On}
 use Rattle.hp_clocks.specs.declared.cell.Cell.{Cell}
 use Rattle.hp_clocks.specs.Cells.{told_at, Clocks, Fits, AreCells, Tells, Never, on_base}
 use Rattle.hp_clocks.specs.Scopes.{Sight, standing, AreThere, Agree, Grows}

@@ -2,7 +2,7 @@
 use Rattle.std.proofs.Common.{◌≡◌, ◌⊎◌, inl, inr, ℕ, suc, ◌<◌, ◌≤◌, List, ◌∷◌, [], ◌++◌, length, sym, ap, ap₂, ◌∙◌, subst, arith, append_assoc}
 use Rattle.std.proofs.lemmas.List.{append-nil}
 use Rattle.hp_tree.specs.declared.decl.Cons.{Cons}
-use Rattle.hp_clocking.specs.Clocking.{On}
+use Rattle.hp_meaning.specs.Clocking.Clocking.{On}
 use Rattle.hp_clocks.specs.declared.cell.Cell.{Cell}
 use Rattle.hp_clocks.specs.declared.cell.Cell.TheVariants as cell
 use Rattle.hp_clocks.specs.Cells.{told, unknown, same_as, on_base, step_on, told_at, IsLess, steps, steps_by, AreCells}

@@ -2,7 +2,7 @@
 use Rattle.std.proofs.Common.{◌≡◌, ℕ, zero, suc, ◌<◌, List, [], ◌∷◌, length, slice_index_or, ◌++◌, Bor, refl, sym, ◌∙◌, subst, arith}
 use Rattle.hp_clocks.specs.declared.cell.Cell.{Cell}
 use Rattle.hp_tree.specs.declared.decl.Cons.{Cons}
-use Rattle.hp_clocking.specs.Clocking.{On}
+use Rattle.hp_meaning.specs.Clocking.Clocking.{On}
 use Rattle.hp_clocks.specs.declared.cell.Cell.TheVariants as cell
 use Rattle.hp_clocks.specs.Cells.{same_as, step_on, told, told_at, Alike, Never, AreCells, Tells}
 use Rattle.hp_clocks.proofs.Arrays.{base_alone_cells, is_same, add_open, add_step, bind_tells, is_there, end_same, end_step, end_open, end_base}

@@ -11,13 +11,13 @@ use Rattle.hp_tree.specs.Blocks.{Decl, Block, block, Eqns, no_eqn, more_eqns, Eq
 use Rattle.hp_tree.specs.Programs.{Contract, Node}
 use Rattle.hp_tree.specs.Instant.{Place, Body, Observer, Named, Equations, Head, Tail, Right, Arms as ArmsOf, States as StatesOf, Clock}
 use Rattle.hp_tree.specs.Meaning.{declares, defines, some_defines, is_among, controls_of}
-use Rattle.hp_causal.specs.Sources.{below}
-use Rattle.hp_causal.specs.Points.{span_of}
-use Rattle.hp_causal.specs.Clocked.{base_alone, ClockRight, IsOn}
-use Rattle.hp_clocking.specs.Terms.{value}
-use Rattle.hp_clocking.specs.Clocking as place
-use Rattle.hp_clocking.specs.Clocking.{Assignment, Term, ClockUnit, Seen, seen_on, controls_define, local_at, local_term, term_in, in_observer, in_body}
-use Rattle.hp_clocking.proofs.Generate.{Iff}
+use Rattle.hp_meaning.specs.Causal.Sources.{below}
+use Rattle.hp_meaning.specs.Causal.Points.{span_of}
+use Rattle.hp_meaning.specs.Causal.Clocked.{base_alone, ClockRight, IsOn}
+use Rattle.hp_meaning.specs.Clocking.Terms.{value}
+use Rattle.hp_meaning.specs.Clocking.Clocking as place
+use Rattle.hp_meaning.specs.Clocking.Clocking.{Assignment, Term, ClockUnit, Seen, seen_on, controls_define, local_at, local_term, term_in, in_observer, in_body}
+use Rattle.hp_meaning.proofs.ClockingLemmas.Generate.{Iff}
 use Rattle.hp_clocks.specs.declared.layer.Seen.{Seen as SeenByCell}
 use Rattle.hp_clocks.specs.declared.layer.Seen.TheVariants as seen
 use Rattle.hp_clocks.specs.Cells.{Clocks}

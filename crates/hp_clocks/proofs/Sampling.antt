@@ -5,8 +5,8 @@ use Rattle.hp_base.specs.declared.span.Span.{Span}
 use Rattle.hp_tree.specs.declared.decl.Cons.{Cons}
 use Rattle.hp_tree.specs.Expressions.{Expr, when_is}
 use Rattle.hp_tree.specs.Instant.{Clock, without}
-use Rattle.hp_causal.specs.Clocked.{IsOn}
-use Rattle.hp_clocking.specs.Clocking.{On}
+use Rattle.hp_meaning.specs.Causal.Clocked.{IsOn}
+use Rattle.hp_meaning.specs.Clocking.Clocking.{On}
 use Rattle.hp_clocks.specs.declared.cell.Cell.{Cell}
 use Rattle.hp_clocks.specs.declared.layer.Seen.{Seen}
 use Rattle.hp_clocks.specs.declared.layer.Seen.TheVariants as seen

@@ -4,10 +4,10 @@ use Rattle.std.specs.Prelude.{Result, Ok, Err}
 use Rattle.hp_tree.specs.declared.expr.ExprKind.{ExprKind}
 use Rattle.hp_tree.specs.declared.expr.Expr.TheInside.{Inside}
 use Rattle.hp_base.specs.declared.span.Span.{Span}
-use Rattle.hp_causal.specs.Points.{span_of}
+use Rattle.hp_meaning.specs.Causal.Points.{span_of}
 use Rattle.hp_tree.specs.Expressions.{Expr}
 use Rattle.hp_tree.specs.ExpressionView.{expr_at, expr_seen}
-use Rattle.hp_causal.specs.Clocked.{IsOn}
+use Rattle.hp_meaning.specs.Causal.Clocked.{IsOn}
 use Rattle.hp_clocks.specs.declared.cell.Cell.{Cell}
 use Rattle.hp_clocks.specs.Cells.{Never}
 use Rattle.hp_clocks.specs.Scopes.{Sight, standing, Grows}
@@ -17,8 +17,8 @@ use Rattle.hp_tree.specs.declared.expr.ExprKind.TheVariants as kind
 use Rattle.hp_tree.specs.declared.expr.Op1.{Op1}
 use Rattle.hp_tree.specs.declared.expr.Op2.{Op2}
 use Rattle.hp_tree.specs.Instant.{Clock}
-use Rattle.hp_causal.specs.Clocked.{Standing}
-use Rattle.hp_clocking.proofs.Generate.{Iff}
+use Rattle.hp_meaning.specs.Causal.Clocked.{Standing}
+use Rattle.hp_meaning.proofs.ClockingLemmas.Generate.{Iff}
 use Rattle.hp_clocks.proofs.Sampling.{grows_like}
 
 pub seen_as : (a : Inside) (e : Expr) (k kind : ExprKind) → expr_seen a ≡ e → k ≡ a.kind.value → k ≡ kind → expr_at a.span kind ≡ e

@@ -7,8 +7,8 @@ use Rattle.std.proofs.lemmas.Slice.Eq.{bytes_eq-Decides}
 use Rattle.hp_tree.specs.Blocks.{Decl, Block, block, Eqns, no_eqn, more_eqns, Eqn, define, switch, reset, automaton, Arms, no_arm, more_arms, States, no_state, more_states}
 use Rattle.hp_tree.specs.Programs.{Contract, Node}
 use Rattle.hp_tree.specs.Instant.{Place, Body, Observer, Named, Equations, Head, Tail, Right, Arms as ArmsOf, States as StatesOf, Clock}
-use Rattle.hp_causal.specs.Sources.{below}
-use Rattle.hp_clocking.specs.Clocking.{Assignment, in_observer, in_body}
+use Rattle.hp_meaning.specs.Causal.Sources.{below}
+use Rattle.hp_meaning.specs.Clocking.Clocking.{Assignment, in_observer, in_body}
 use Rattle.hp_clocks.specs.Cells.{Clocks}
 use Rattle.hp_clocks.specs.Units.{size, size_of, size_of_all, size_of_arms, size_of_states, size_of_contract, size_of_node, number_in}
 

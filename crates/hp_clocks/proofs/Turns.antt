@@ -4,7 +4,7 @@ use Rattle.std.proofs.Math.Dec.{ltb}
 use Rattle.std.proofs.lemmas.Bool.Decides.{Decides-ltb}
 use Rattle.std.specs.Prelude.{Bool, true, false}
 use Rattle.std.specs.Bool.{Decides}
-use Rattle.hp_clocking.proofs.Unify.{decided}
+use Rattle.hp_meaning.proofs.ClockingLemmas.Unify.{decided}
 
 abbrev one_if : Bool → ℕ
 one_if true = 1

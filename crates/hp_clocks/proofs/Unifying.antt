@@ -1,7 +1,7 @@
 -- Two clocks that are made equal.
 use Rattle.std.proofs.Common.{◌≡◌, ℕ, ◌<◌, ◌≤◌, List, length, slice_set, refl, sym, ap, ◌∙◌, subst, arith}
 use Rattle.std.specs.Prelude.{⊤, Result, Ok, Err, OnOk}
-use Rattle.hp_clocking.specs.Clocking.{On}
+use Rattle.hp_meaning.specs.Clocking.Clocking.{On}
 use Rattle.hp_clocks.specs.declared.cell.Cell.{Cell}
 use Rattle.hp_clocks.specs.declared.cell.Cell.TheVariants as cell
 use Rattle.hp_clocks.specs.Cells.{Told, unknown, same_as, on_base, step_on, told_at, Clocks, Fits, end_at, AreCells, Tells, Never, Alike, StandsAbove}

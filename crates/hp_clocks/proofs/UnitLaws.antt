@@ -6,8 +6,8 @@ use Rattle.hp_tree.specs.declared.block.Trans.{Trans}
 use Rattle.hp_tree.specs.Expressions.{Expr}
 use Rattle.hp_tree.specs.Blocks.{Decl}
 use Rattle.hp_tree.specs.Instant.{Clock}
-use Rattle.hp_causal.specs.Clocked.{ClockRight, IsOn}
-use Rattle.hp_causal.specs.Points.{span_of}
+use Rattle.hp_meaning.specs.Causal.Clocked.{ClockRight, IsOn}
+use Rattle.hp_meaning.specs.Causal.Points.{span_of}
 use Rattle.hp_clocks.specs.declared.cell.Cell.{Cell}
 use Rattle.hp_clocks.specs.declared.layer.Seen.{Seen}
 use Rattle.hp_clocks.specs.declared.layer.Seen.TheVariants as seen

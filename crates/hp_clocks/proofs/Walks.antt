@@ -1,6 +1,6 @@
 -- Walks down from a cell end: each turn leaves fewer.
 use Rattle.std.proofs.Common.{◌≡◌, ℕ, zero, suc, ◌<◌, ◌≤◌, List, length, refl, ap, subst, arith}
-use Rattle.hp_clocking.specs.Clocking.{On}
+use Rattle.hp_meaning.specs.Clocking.Clocking.{On}
 use Rattle.hp_clocks.specs.declared.cell.Cell.{Cell}
 use Rattle.hp_clocks.specs.Cells.{Told, unknown, same_as, on_base, step_on, told_at, IsLess, Falls, chain, chain_by, turns, IsWithin, AreCells}
 use Rattle.hp_clocks.proofs.Turns.{lower, fewer, at_most}

@@ -8,9 +8,9 @@ use Rattle.hp_tree.specs.Programs.{Contract, Node}
 use Rattle.hp_tree.specs.declared.program.Item.{Item}
 use Rattle.hp_tree.specs.declared.program.Item.TheVariants as item
 use Rattle.hp_tree.specs.Instant.{Place, Body, Equations, Head, Tail, Arms as ArmsOf, States as StatesOf, Clock}
-use Rattle.hp_causal.specs.Sources.{below}
-use Rattle.hp_clocking.specs.Terms.{value}
-use Rattle.hp_clocking.specs.Clocking.{Assignment, local_term, with_clock, with_clocks, all_with_clocks, one_with_clocks, arms_with_clocks, states_with_clocks, in_observer, in_body, base_written, contract_with_clocks, node_with_clocks}
+use Rattle.hp_meaning.specs.Causal.Sources.{below}
+use Rattle.hp_meaning.specs.Clocking.Terms.{value}
+use Rattle.hp_meaning.specs.Clocking.Clocking.{Assignment, local_term, with_clock, with_clocks, all_with_clocks, one_with_clocks, arms_with_clocks, states_with_clocks, in_observer, in_body, base_written, contract_with_clocks, node_with_clocks}
 use Rattle.hp_clocks.specs.Listed.{locals, locals_in_all, locals_in_one, locals_in_arms, locals_in_states, locals_of_contract}
 use Rattle.hp_clocks.specs.declared.solve.Solution.{Solution}
 use Rattle.hp_clocks.specs.Solved.{clock_read, IsSolved}

@@ -6,10 +6,10 @@ use Rattle.hp_base.specs.declared.limit.What.TheVariants as what
 use Rattle.hp_tree.specs.Programs.{Node}
 use Rattle.hp_tree.specs.declared.program.Item.{Item}
 use Rattle.hp_tree.specs.declared.program.Item.TheVariants.{TypeItem, NodeItem}
-use Rattle.hp_clocking.specs.Terms.{IsShortest}
-use Rattle.hp_clocking.specs.Clocking.{Assignment, IsAllowed, AreClocks, node_sights, node_units, node_with_clocks, NodeNamed}
-use Rattle.hp_clocking.specs.Solving.{FirstClash}
-use Rattle.hp_clocking.specs.EveryClock.{IsLong}
+use Rattle.hp_meaning.specs.Clocking.Terms.{IsShortest}
+use Rattle.hp_meaning.specs.Clocking.Clocking.{Assignment, IsAllowed, AreClocks, node_sights, node_units, node_with_clocks, NodeNamed}
+use Rattle.hp_meaning.specs.Clocking.Solving.{FirstClash}
+use Rattle.hp_meaning.specs.Clocking.EveryClock.{IsLong}
 use Rattle.hp_clocks.specs.declared.error.ClockErr.{ClockErr}
 use Rattle.hp_clocks.specs.declared.error.ClockErr.TheVariants as error
 use Rattle.hp_clocks.specs.declared.solve.Solution.{Solution}

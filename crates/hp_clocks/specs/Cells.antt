@@ -2,7 +2,7 @@
 -- Source: unification by Robinson (1965), of terms with one argument, over an array of terms that share their parts.
 use Rattle.std.specs.Prelude.{ℕ, zero, suc, ◌<◌, ◌≤◌, ◌≡◌, ⊤, Bool, true, false, if◌then◌else◌, List, [], ◌∷◌, length}
 use Rattle.hp_tree.specs.Instant.{Clock}
-use Rattle.hp_clocking.specs.Clocking.{On}
+use Rattle.hp_meaning.specs.Clocking.Clocking.{On}
 use Rattle.hp_clocks.specs.declared.cell.Cell.{Cell}
 use Rattle.hp_clocks.specs.declared.cell.Cell.TheVariants as cell
 use Rattle.hp_clocks.specs.declared.cell.Meeting.{Meeting}

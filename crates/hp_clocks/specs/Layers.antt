@@ -8,7 +8,7 @@ use Rattle.hp_tree.specs.Blocks.{Decl, Block, block}
 use Rattle.hp_tree.specs.Meaning.{declares, some_defines}
 use Rattle.hp_clocks.specs.Scopes.{Sight}
 use Rattle.hp_clocks.specs.Units.{or_base, local_cell, cell_in}
-use Rattle.hp_defining.specs.Names.{names_in}
+use Rattle.hp_tables.specs.Defining.Names.{names_in}
 
 -- the cell of a name's clock
 abbrev pub says : Layer → List ℕ → Option ℕ

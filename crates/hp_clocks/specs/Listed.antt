@@ -5,9 +5,9 @@ use Rattle.hp_tree.specs.Expressions.{Expr}
 use Rattle.hp_tree.specs.Blocks.{Block, block, Eqns, no_eqn, more_eqns, Eqn, define, switch, reset, automaton, Arms, no_arm, more_arms, States, no_state, more_states}
 use Rattle.hp_tree.specs.Programs.{Contract, Node}
 use Rattle.hp_tree.specs.Instant.{Place, Body, Equations, Head, Tail, Right as RightSide, Arms as ArmsOf, States as StatesOf, Clock}
-use Rattle.hp_causal.specs.Sources.{below}
-use Rattle.hp_clocking.specs.Terms.{value}
-use Rattle.hp_clocking.specs.Clocking.{Assignment, local_term, open_at, in_observer, in_body}
+use Rattle.hp_meaning.specs.Causal.Sources.{below}
+use Rattle.hp_meaning.specs.Clocking.Terms.{value}
+use Rattle.hp_meaning.specs.Clocking.Clocking.{Assignment, local_term, open_at, in_observer, in_body}
 
 -- ---- the clock of each local, a block's own before those of its inner blocks
 

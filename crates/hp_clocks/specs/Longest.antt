@@ -3,8 +3,8 @@ use Rattle.std.specs.Prelude.{ℕ, suc, ◌-◌, ◌<◌, ◌↔◌, List, [], �
 use Rattle.hp_tree.specs.Expressions.{Expr, constant, variable, last_of, one, two, choose, pre, fby, arrow, when_is, merge, call, Exprs, no_expr, more_exprs, Parts, no_part, more_parts}
 use Rattle.hp_tree.specs.Programs.{Node}
 use Rattle.hp_tree.specs.Instant.{Clock}
-use Rattle.hp_clocking.specs.Clocking.{node_with_clocks, NodeNamed}
-use Rattle.hp_clocking.specs.EveryClock.{IsLong}
+use Rattle.hp_meaning.specs.Clocking.Clocking.{node_with_clocks, NodeNamed}
+use Rattle.hp_meaning.specs.Clocking.EveryClock.{IsLong}
 use Rattle.hp_clocks.specs.declared.solve.Solution.{Solution}
 use Rattle.hp_clocks.specs.Listed.{Right}
 use Rattle.hp_clocks.specs.Solved.{clock_read, IsSolved}

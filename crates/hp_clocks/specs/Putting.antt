@@ -7,7 +7,7 @@ use Rattle.hp_tree.specs.Blocks.{Decl, Block, block}
 use Rattle.hp_tree.specs.Programs.{Node}
 use Rattle.hp_tree.specs.Meaning.{declares}
 use Rattle.hp_tree.specs.Instant.{Clock}
-use Rattle.hp_causal.specs.Clocked.{ClockRight}
+use Rattle.hp_meaning.specs.Causal.Clocked.{ClockRight}
 use Rattle.hp_clocks.specs.declared.cell.Cell.{Cell}
 use Rattle.hp_clocks.specs.declared.cell.Failure.{Failure}
 use Rattle.hp_clocks.specs.declared.cell.Failure.TheVariants as failure

@@ -1,7 +1,7 @@
 -- How names are seen in a block, by the cells of their clocks, and what is said of an expression there.
 use Rattle.std.specs.Prelude.{ℕ, ◌<◌, ◌≤◌, ◌≡◌, ⊤, List, Option, None, Some, length}
 use Rattle.hp_tree.specs.Instant.{Clock}
-use Rattle.hp_causal.specs.Clocked.{Standing, base_alone}
+use Rattle.hp_meaning.specs.Causal.Clocked.{Standing, base_alone}
 use Rattle.hp_clocks.specs.declared.cell.Cell.{Cell}
 use Rattle.hp_clocks.specs.declared.layer.Seen.{Seen}
 use Rattle.hp_clocks.specs.declared.layer.Seen.TheVariants as seen

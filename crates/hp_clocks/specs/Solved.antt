@@ -2,8 +2,8 @@
 use Rattle.std.specs.Prelude.{ℕ, suc, ◌<◌, ◌≡◌, List, map, length, All}
 use Rattle.hp_tree.specs.Programs.{Node}
 use Rattle.hp_tree.specs.Instant.{Clock}
-use Rattle.hp_clocking.specs.Terms.{IsShortest}
-use Rattle.hp_clocking.specs.Clocking.{Assignment, IsAllowed}
+use Rattle.hp_meaning.specs.Clocking.Terms.{IsShortest}
+use Rattle.hp_meaning.specs.Clocking.Clocking.{Assignment, IsAllowed}
 use Rattle.hp_clocks.specs.declared.cell.Cell.{Cell}
 use Rattle.hp_clocks.specs.declared.solve.Solution.{Solution}
 use Rattle.hp_clocks.specs.Cells.{told_at, steps, AreCells}

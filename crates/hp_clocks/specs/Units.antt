@@ -9,9 +9,9 @@ use Rattle.hp_tree.specs.Blocks.{Decl, Block, block, Eqns, no_eqn, more_eqns, Eq
 use Rattle.hp_tree.specs.Programs.{Contract, Node}
 use Rattle.hp_tree.specs.Instant.{Clock}
 use Rattle.hp_tree.specs.Meaning.{declares, some_defines, controls_of}
-use Rattle.hp_causal.specs.Points.{span_of}
-use Rattle.hp_causal.specs.Clocked.{ClockRight, IsOn}
-use Rattle.hp_clocking.specs.Clocking.{controls_define}
+use Rattle.hp_meaning.specs.Causal.Points.{span_of}
+use Rattle.hp_meaning.specs.Causal.Clocked.{ClockRight, IsOn}
+use Rattle.hp_meaning.specs.Clocking.Clocking.{controls_define}
 use Rattle.hp_clocks.specs.declared.layer.Seen.{Seen}
 use Rattle.hp_clocks.specs.declared.layer.Seen.TheVariants as seen
 use Rattle.hp_clocks.specs.Cells.{Clocks}

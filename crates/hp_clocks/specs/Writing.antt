@@ -9,7 +9,7 @@ use Rattle.hp_tree.specs.Blocks.{Decl, Block, block, Eqns, no_eqn, more_eqns, Eq
 use Rattle.hp_tree.specs.Programs.{Contract, Node}
 use Rattle.hp_tree.specs.declared.program.Item.{Item}
 use Rattle.hp_tree.specs.declared.program.Item.TheVariants as item
-use Rattle.hp_clocking.specs.Clocking.{On, Assignment, base_written, node_with_clocks}
+use Rattle.hp_meaning.specs.Clocking.Clocking.{On, Assignment, base_written, node_with_clocks}
 use Rattle.hp_clocks.specs.Listed.{locals_of_node}
 
 abbrev pub Path : Type 0

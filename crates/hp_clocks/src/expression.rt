@@ -5,7 +5,7 @@ ghost use Rattle.hp_clocks.specs.Cells.{AreCells, Never, Tells};
 ghost use Rattle.hp_clocks.specs.Scopes.{AreThere, IsClockOf, NeverRead, standing};
 ghost use Rattle.hp_clocks.specs.Layers.{sight};
 ghost use Rattle.hp_clocks.specs.Scopes.{Grows};
-ghost use Rattle.hp_causal.specs.Clocked.{IsOn, ExprsOn, PartsOn};
+ghost use Rattle.hp_meaning.specs.Causal.Clocked.{IsOn, ExprsOn, PartsOn};
 ghost use Rattle.hp_tree.specs.Expressions.{exprs_of, parts_of};
 
 use crate::cell::{BASE, Cells, Failure};

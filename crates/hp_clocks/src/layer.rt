@@ -6,11 +6,11 @@ ghost use Rattle.hp_clocks.specs.Layers.{says, said, own_says, sight, put_at, no
 ghost use Rattle.hp_clocks.specs.Putting.{own_size, own_locals};
 ghost use Rattle.hp_clocks.specs.Units.{number_in, or_base};
 ghost use Rattle.hp_clocks.specs.Names.{with_more};
-ghost use Rattle.hp_defining.specs.Names.{names_in, controls_in};
+ghost use Rattle.hp_tables.specs.Defining.Names.{names_in, controls_in};
 
 use crate::cell::BASE;
 use hp_base::Name;
-use hp_defining::{controls_in, names_in};
+use hp_tables::defining::{controls_in, names_in};
 use hp_tree::{Block, Decl, Eqn};
 use indexmap::IndexMap;
 use std::alloc::{AllocError, Global};

@@ -2,11 +2,11 @@
 ghost use Rattle.std.specs.Prelude.{◌≡◌, ◌+◌, ◌^◌, ◌<◌, ◌≤◌, ⊤, [], ◌∷◌, ◌++◌, All, length, map, drop, reverse, Some, Err, OnOk, IfOk};
 ghost use Rattle.hp_tree.specs.BlockView.{eqn_seen, arm_seen, state_seen};
 ghost use Rattle.hp_tree.specs.Blocks.{eqns_of, arms_of, states_of};
-ghost use Rattle.hp_causal.specs.Clocked.{ClockRight, IsOn};
-ghost use Rattle.hp_causal.specs.Points.{span_of};
+ghost use Rattle.hp_meaning.specs.Causal.Clocked.{ClockRight, IsOn};
+ghost use Rattle.hp_meaning.specs.Causal.Points.{span_of};
 ghost use Rattle.hp_base.specs.declared.span.Span.{Span};
-ghost use Rattle.hp_clocking.specs.Clocking.{AreClocks, node_sights, node_units as node_units_of_places};
-ghost use Rattle.hp_clocking.specs.Solving.{FirstClash};
+ghost use Rattle.hp_meaning.specs.Clocking.Clocking.{AreClocks, node_sights, node_units as node_units_of_places};
+ghost use Rattle.hp_meaning.specs.Clocking.Solving.{FirstClash};
 ghost use Rattle.hp_clocks.specs.declared.cell.Failure.TheVariants as Failure;
 ghost use Rattle.hp_clocks.specs.declared.solve.Unsolved.TheVariants as Unsolved;
 ghost use Rattle.hp_clocks.specs.Cells.{AreCells, Never, Tells};

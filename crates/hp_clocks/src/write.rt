@@ -4,7 +4,7 @@ ghost use Rattle.hp_clocks.specs.Cells.{AreCells};
 ghost use Rattle.hp_clocks.specs.Solved.{clock_read};
 ghost use Rattle.hp_tree.specs.Blocks.{eqns_of, arms_of, states_of};
 ghost use Rattle.hp_tree.specs.BlockView.{eqn_seen, arm_seen, state_seen};
-ghost use Rattle.hp_clocking.specs.Clocking.{base_written};
+ghost use Rattle.hp_meaning.specs.Clocking.Clocking.{base_written};
 ghost use Rattle.hp_clocks.specs.Writing.{paths_seen, ahead, first, others, clocked_decl, decls_written, decls_left, block_written, block_left, eqns_written, eqns_left, eqn_written, eqn_left, arms_written, arms_left, states_written, states_left, node_written, node_left, items_written};
 
 use crate::cell::{Cell, Cells};

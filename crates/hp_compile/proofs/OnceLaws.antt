@@ -4,7 +4,7 @@ use Rattle.std.specs.Prelude.{Option, IsTrue}
 use Rattle.hp_tree.specs.Blocks.{Block, block, Eqns, no_eqn, more_eqns, Eqn, define, switch, reset, automaton, Arms, no_arm, more_arms, States, no_state, more_states}
 use Rattle.hp_tree.specs.Programs.{Contract, Node}
 use Rattle.hp_tree.specs.Meaning.{some_defines}
-use Rattle.hp_once.specs.Once.{BlockOnce, AllOnce, OneOnce, ArmsOnce, StatesOnce, ContractOnce, DefinedOnce}
+use Rattle.law_judged.specs.Once.Once.{BlockOnce, AllOnce, OneOnce, ArmsOnce, StatesOnce, ContractOnce, DefinedOnce}
 use Rattle.hp_cause.specs.Walked as walked
 
 never : (b : Bool) → b ≡ false → IsTrue b → ⊥

@@ -3,21 +3,21 @@ use Rattle.std.proofs.Common.{ℕ, List, [], ◌∷◌, sym, subst}
 use Rattle.hp_tree.specs.Programs.{Node}
 use Rattle.hp_tree.specs.declared.program.Item.{Item}
 use Rattle.hp_tree.specs.declared.program.Item.TheVariants.{TypeItem, NodeItem}
-use Rattle.hp_causal.specs.Points.{NamesDeclared}
-use Rattle.hp_clocking.specs.Clocking.{NodeNamed}
+use Rattle.hp_meaning.specs.Causal.Points.{NamesDeclared}
+use Rattle.hp_meaning.specs.Clocking.Clocking.{NodeNamed}
 use Rattle.hp_clocks.specs.Answers.{AreNamed, IsClocked}
 use Rattle.hp_clocks.specs.Writing.{AreWritten}
-use Rattle.hp_clocked.specs.Laws.{HasClocks}
-use Rattle.hp_clocked.proofs.Clocked as clocked
+use Rattle.law_judged.specs.Clocked.Laws.{HasClocks}
+use Rattle.law_judged.proofs.ClockedLemmas.Clocked as clocked
 use Rattle.hp_expand.specs.Numbering.{replaced}
 use Rattle.hp_expand.specs.Refusals.{IsFormed}
 use Rattle.hp_expand.proofs.FormedLaws.{formed_law}
-use Rattle.hp_named.specs.Scoped.{NodeScoped, EachNode}
-use Rattle.hp_plain.proofs.CallsOfTexts.{few_calls}
-use Rattle.hp_plain.proofs.Spelled.{text_replaced, merges_full, names_plain, of_text}
-use Rattle.hp_once.specs.Once.{DefinedOnce}
-use Rattle.hp_once.proofs.Clocks.{kept}
-use Rattle.hp_once.proofs.ReplacedNodes.{judged_once}
+use Rattle.law_judged.specs.Named.Scoped.{NodeScoped, EachNode}
+use Rattle.law_judged.proofs.PlainLemmas.CallsOfTexts.{few_calls}
+use Rattle.law_judged.proofs.PlainLemmas.Spelled.{text_replaced, merges_full, names_plain, of_text}
+use Rattle.law_judged.specs.Once.Once.{DefinedOnce}
+use Rattle.law_judged.proofs.OnceLemmas.Clocks.{kept}
+use Rattle.law_judged.proofs.OnceLemmas.ReplacedNodes.{judged_once}
 use Rattle.hp_cause.specs.Ordering.{AllJudged}
 use Rattle.hp_compile.specs.Judged.{IsJudged}
 use Rattle.hp_compile.specs.Arranged as arranged

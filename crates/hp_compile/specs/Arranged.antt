@@ -6,7 +6,7 @@ use Rattle.hp_expand.specs.Numbering.{replaced}
 use Rattle.hp_clocks.specs.Answers.{HaveClocks, IsClocked, NoneLong}
 use Rattle.hp_clocks.specs.Writing.{AreWritten}
 use Rattle.hp_init.specs.Initialised.{IsInitialised}
-use Rattle.hp_causal.specs.RanksOfPoints.{AllFall}
+use Rattle.hp_meaning.specs.Causal.RanksOfPoints.{AllFall}
 use Rattle.hp_cause.specs.Ordering.{AllNodesCausal}
 
 -- the program with the shortest clocks of each node written, none of which is too long

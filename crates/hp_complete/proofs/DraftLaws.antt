@@ -7,10 +7,10 @@ use Rattle.hp_tree.specs.declared.decl.Cons.{Cons}
 use Rattle.hp_tree.specs.Expressions.{Expr}
 use Rattle.hp_tree.specs.Blocks.{Decl}
 use Rattle.hp_flat.specs.declared.node.Variable.{Variable}
-use Rattle.hp_made.specs.Making.{Known, Layer, Sight, Site, Sketch, Made, Seen, next, with_outputs, numbers_from, first_output, bind, bind_outputs, link_all, in_block, given_by, tested, cons_number, on_site, enter_path, path_for, signed}
+use Rattle.law_equations.specs.Made.Making.{Known, Layer, Sight, Site, Sketch, Made, Seen, next, with_outputs, numbers_from, first_output, bind, bind_outputs, link_all, in_block, given_by, tested, cons_number, on_site, enter_path, path_for, signed}
 use Rattle.hp_complete.specs.Drafting.{first_of, bind_each, numbers_left, signed_at, entered}
 use Rattle.hp_complete.specs.Places.{Place, at_depth, at_site, depth, sees}
-use Rattle.hp_telling.specs.Tellings.{Told, tells_of}
+use Rattle.hp_tables.specs.Telling.Tellings.{Told, tells_of}
 use Rattle.hp_complete.specs.Tellings.{told_path}
 use Rattle.hp_complete.proofs.TellingLaws.{path-told}
 

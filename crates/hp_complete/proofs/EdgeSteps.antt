@@ -4,8 +4,8 @@ use Rattle.std.specs.List.{flat_map}
 use Rattle.std.proofs.lemmas.List.{append_assoc, append-nil, map-append, take_all, take_more_set, drop-set-lt}
 use Rattle.hp_flat.specs.Equations.{Right, Clock, FlatEqn}
 use Rattle.hp_flat.specs.declared.equation.Atom.{Atom}
-use Rattle.hp_flows.specs.Fitting.{atom_variables}
-use Rattle.hp_flows.specs.Scheduling.{clock_variables, right_reads}
+use Rattle.law_equations.specs.Meaning.Fitting.{atom_variables}
+use Rattle.law_equations.specs.Meaning.Scheduling.{clock_variables, right_reads}
 use Rattle.hp_complete.specs.Edges.{edges_to, edges_from, edges_of_eqn, edges_of, placed}
 use Rattle.hp_complete.specs.Names.{with_more}
 use Rattle.hp_complete.specs.Ordering.{SaysTrue}

@@ -4,8 +4,8 @@ use Rattle.std.specs.Str.{bytes_eq}
 use Rattle.std.proofs.lemmas.Slice.Eq.{bytes_eq-Decides}
 use Rattle.hp_tree.specs.Blocks.{Decl}
 use Rattle.hp_tree.specs.Meaning.{declares}
-use Rattle.hp_made.specs.Sights.{Entry}
-use Rattle.hp_made.specs.Making.{Known, Layer, Sight, no_entry, put, flat_type, type_declared, declared, is_in, hidden, Sketch, Made, Body, next, with_variable, with_new, new_variable, own_variable, keeps_name, is_plain}
+use Rattle.law_equations.specs.Made.Sights.{Entry}
+use Rattle.law_equations.specs.Made.Making.{Known, Layer, Sight, no_entry, put, flat_type, type_declared, declared, is_in, hidden, Sketch, Made, Body, next, with_variable, with_new, new_variable, own_variable, keeps_name, is_plain}
 use Rattle.hp_flat.specs.declared.node.FlatTy.{FlatTy}
 use Rattle.hp_complete.specs.Drafting.{declaring, hiding}
 use Rattle.hp_complete.specs.Names.{decl_of}

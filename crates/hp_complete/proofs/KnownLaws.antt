@@ -16,8 +16,8 @@ use Rattle.hp_tree.specs.declared.program.Item.TheVariants.{TypeItem, NodeItem}
 use Rattle.hp_tree.specs.Operators.{Reading, place_in, or_later, constructor_from, constant_of, cons_of}
 use Rattle.hp_tree.specs.Programs.{TypeDecl, Node}
 use Rattle.hp_tree.specs.Meaning.{names_of, node_among, nodes, types_of}
-use Rattle.hp_flattened.specs.Numbered.{number_of}
-use Rattle.hp_made.specs.Making.{type_number, constructor_value, own_number, constant_value, cons_number, outputs_of}
+use Rattle.law_equations.specs.Flattened.Numbered.{number_of}
+use Rattle.law_equations.specs.Made.Making.{type_number, constructor_value, own_number, constant_value, cons_number, outputs_of}
 use Rattle.hp_complete.specs.Declaring.{Constructors, with_constructors, constructors_of, with_node, with_nodes, known_of}
 use Rattle.hp_complete.specs.KnownLaw.{ItemsFit, KnownLaw}
 use Rattle.hp_complete.specs.Layers.{nothing}

@@ -2,7 +2,7 @@
 use Rattle.std.proofs.Common.{◌≡◌, ℕ, ◌+◌, ◌-◌, ◌<◌, ◌≤◌, get_or, length, drop, take, drop-cons, add-one, Bool, true, false, cond, if◌then◌else◌, List, [], ◌∷◌, ◌++◌, reverse, Option, Some, map, refl, sym, ap, ◌∙◌, arith}
 use Rattle.std.proofs.lemmas.List.{drop_all, map-append, reverse-append, get_or_default}
 use Rattle.std.proofs.Math.Seq.{take-suc, take-length}
-use Rattle.hp_made.specs.Making.{or_entry}
+use Rattle.law_equations.specs.Made.Making.{or_entry}
 use Rattle.hp_complete.specs.declared.layer.Entry as code_entry
 use Rattle.hp_complete.specs.declared.layer.Layer as code_layer
 use Rattle.hp_complete.specs.Layers.{seen, seen_if, says, inner_first, sight}

@@ -7,9 +7,9 @@ use Rattle.hp_tree.specs.Blocks.{Decl, Block, block, Eqns, no_eqn, more_eqns, Eq
 use Rattle.hp_tree.specs.Meaning.{declares}
 use Rattle.hp_flat.specs.declared.node.FlatTy.{FlatTy}
 use Rattle.hp_flat.specs.Equations.{register}
-use Rattle.hp_flattened.specs.Flatten.{is_false}
-use Rattle.hp_made.specs.Making.{Known, Sketch, Site, Sight, Layer, Made, Seen, Standing, Body, Inner, next, with_variable, new_variable, named_value, atom_of, constant_value, cons_number, on_site, restart_site, in_block, with_flag, put, over, hidden, is_in, given_by, bind, link_all, names_of_eqns, names_of_arms, names_of_block, each_once, keeps_name, own_variable, with_own, own_name, own_names, declared, type_declared, remember, remember_all, block_layer, sketch_expr, sketch_block, sketch_eqns, sketch_eqn, sketch_arms}
-use Rattle.hp_made.specs.Sights.{Entry}
+use Rattle.law_equations.specs.Flattened.Flatten.{is_false}
+use Rattle.law_equations.specs.Made.Making.{Known, Sketch, Site, Sight, Layer, Made, Seen, Standing, Body, Inner, next, with_variable, new_variable, named_value, atom_of, constant_value, cons_number, on_site, restart_site, in_block, with_flag, put, over, hidden, is_in, given_by, bind, link_all, names_of_eqns, names_of_arms, names_of_block, each_once, keeps_name, own_variable, with_own, own_name, own_names, declared, type_declared, remember, remember_all, block_layer, sketch_expr, sketch_block, sketch_eqns, sketch_eqn, sketch_arms}
+use Rattle.law_equations.specs.Made.Sights.{Entry}
 use Rattle.hp_complete.proofs.MadeRanges.{IsLow, SightLow, LayerLow, SiteLow, SketchLow, IsHere, Grown, GrownTo, grown-same, grown-then, sight-later, layer-later, here-later, number-later, some-later, site-later, variable-grown, new-grown, named-grown, with_flag-grown, fresh-low, held-low, on-low, restart-low, block-low, bind-grown, over-low}
 use Rattle.hp_complete.proofs.MadeExpressions.{expr-grown, definition-grown}
 

@@ -12,8 +12,8 @@ use Rattle.hp_flat.specs.declared.equation.Atom.{Atom}
 use Rattle.hp_flat.specs.declared.equation.Atom.TheVariants.{Variable, Value as Fixed}
 use Rattle.hp_flat.specs.declared.node.FlatTy.TheVariants as flat
 use Rattle.hp_flat.specs.Equations.{operator, called}
-use Rattle.hp_flattened.specs.Flatten.{constant_in, obc_one, obc_two}
-use Rattle.hp_made.specs.Making.{Known, Sketch, Site, Sight, Made, next, with_new, copy_of, register_at, type_at, type_one, type_two, flat_type, first_value, constant_value, cons_number, outputs_of, flag_at, by_constant, fby_at, arrow_at, on_site, off_site, tested, part_at, numbers_from, first_output, with_outputs, called_at, enter_path, path_for, bind_all, bind_outputs, sketch_expr, sketch_parts, sketch_exprs, sketch_right, sketch_definition}
+use Rattle.law_equations.specs.Flattened.Flatten.{constant_in, obc_one, obc_two}
+use Rattle.law_equations.specs.Made.Making.{Known, Sketch, Site, Sight, Made, next, with_new, copy_of, register_at, type_at, type_one, type_two, flat_type, first_value, constant_value, cons_number, outputs_of, flag_at, by_constant, fby_at, arrow_at, on_site, off_site, tested, part_at, numbers_from, first_output, with_outputs, called_at, enter_path, path_for, bind_all, bind_outputs, sketch_expr, sketch_parts, sketch_exprs, sketch_right, sketch_definition}
 use Rattle.hp_complete.specs.Ranges.{AtomWithin}
 use Rattle.hp_complete.proofs.MadeRanges.{atoms_more, SiteLow, SketchLow, IsHere, Grown, GrownTo, grown-le, grown-same, grown-then, grown-to, here-later, number-later, some-later, new-grown, eqn-grown, value-grown, args-one, args-two, read-grown, mux-grown, register-grown, flag-grown, on-low, off-low, site-later, tested-grown, merged-grown, part-grown, bind-all-grown, bind-outputs-grown, OutputsLow, numbers-low}
 

@@ -6,7 +6,7 @@ use Rattle.hp_tree.specs.declared.program.Item.TheVariants.{TypeItem, NodeItem}
 use Rattle.hp_tree.specs.Programs.{TypeDecl, Node}
 use Rattle.hp_tree.specs.Meaning.{controls_of}
 use Rattle.hp_flat.specs.Nodes.{FlatNode}
-use Rattle.hp_made.specs.Making.{Known, numbers_from}
+use Rattle.law_equations.specs.Made.Making.{Known, numbers_from}
 use Rattle.hp_complete.specs.Made.{IsMadeOf, AreMadeOf}
 use Rattle.hp_complete.specs.Signatures.{IsFlat, AreFlat}
 use Rattle.hp_complete.proofs.LayerLaws.{take-next}

@@ -12,12 +12,12 @@ use Rattle.hp_flat.specs.declared.node.Variable.{Variable as VariableData}
 use Rattle.hp_flat.specs.declared.equation.Atom.{Atom}
 use Rattle.hp_flat.specs.declared.equation.Atom.TheVariants.{Variable, Value}
 use Rattle.hp_flat.specs.Equations.{Right, operator, register, called, FlatEqn}
-use Rattle.hp_flows.specs.Fitting.{atom_variables, operands}
-use Rattle.hp_flows.specs.Scheduling.{clock_variables, EqnWithin as EqnBelow, IsWithin}
+use Rattle.law_equations.specs.Meaning.Fitting.{atom_variables, operands}
+use Rattle.law_equations.specs.Meaning.Scheduling.{clock_variables, EqnWithin as EqnBelow, IsWithin}
 use Rattle.hp_flat.specs.Nodes.{FlatNode}
-use Rattle.hp_made.specs.Making as making
-use Rattle.hp_made.specs.Making.{Known, Sketch, Seen, Layer, Body, next, no_entry, nothing_made, unknown, base_site, over, put, with_variable, signed, signature, remember_all, sketch_block, sketch_node}
-use Rattle.hp_made.specs.Sights.{Entry}
+use Rattle.law_equations.specs.Made.Making as making
+use Rattle.law_equations.specs.Made.Making.{Known, Sketch, Seen, Layer, Body, next, no_entry, nothing_made, unknown, base_site, over, put, with_variable, signed, signature, remember_all, sketch_block, sketch_node}
+use Rattle.law_equations.specs.Made.Sights.{Entry}
 use Rattle.hp_complete.specs.Ordering.{unplaced}
 use Rattle.hp_complete.specs.Ranges.{AtomWithin, RightWithin, EqnWithin, IsInRange}
 use Rattle.hp_complete.specs.Signatures.{numbers_from, variable_of, variables_of, IsFlat}

@@ -13,8 +13,8 @@ use Rattle.hp_flat.specs.declared.node.FlatTy.{FlatTy}
 use Rattle.hp_flat.specs.declared.node.FlatTy.TheVariants as flat
 use Rattle.hp_flat.specs.declared.node.Variable.{Variable as VariableData}
 use Rattle.hp_flat.specs.Equations.{Right, operator, register, called, FlatEqn}
-use Rattle.hp_made.specs.Making.{Sketch, Site, Sight, Layer, Made, next, new_name, with_variable, with_new, new_variable, with_eqn, named_value, value_of, atom_of, copy_of, read_at, mux_at, register_at, type_at, new_flag, keep_flag, block_flag, flag_at, on_site, off_site, front_steps, tested, merged_variable, part_at, output_left, others, numbers_from, with_flag, restart_site, in_block, bind, bind_all, bind_outputs, or_entry, over}
-use Rattle.hp_made.specs.Sights.{Entry}
+use Rattle.law_equations.specs.Made.Making.{Sketch, Site, Sight, Layer, Made, next, new_name, with_variable, with_new, new_variable, with_eqn, named_value, value_of, atom_of, copy_of, read_at, mux_at, register_at, type_at, new_flag, keep_flag, block_flag, flag_at, on_site, off_site, front_steps, tested, merged_variable, part_at, output_left, others, numbers_from, with_flag, restart_site, in_block, bind, bind_all, bind_outputs, or_entry, over}
+use Rattle.law_equations.specs.Made.Sights.{Entry}
 use Rattle.hp_complete.specs.Ranges.{AtomWithin, RightWithin, EqnWithin}
 
 -- ---- more variables

@@ -12,7 +12,7 @@ use Rattle.hp_obc.proofs.Positions.{bytes_eq-sym}
 use Rattle.hp_tree.specs.declared.decl.Cons.{Cons}
 use Rattle.hp_tree.specs.Blocks.{Decl}
 use Rattle.hp_tree.specs.Meaning.{declares, names_of as decl_names}
-use Rattle.hp_made.specs.Making.{each_once, is_in, is_plain, keeps_name, path_of, path_written}
+use Rattle.law_equations.specs.Made.Making.{each_once, is_in, is_plain, keeps_name, path_of, path_written}
 use Rattle.hp_complete.specs.Names.{decl_of, names_seen, with_each_once, with_more, with_once}
 use Rattle.hp_complete.specs.Signatures.{numbered}
 use Rattle.hp_complete.proofs.LayerLaws.{drop-next}

@@ -7,9 +7,9 @@ use Rattle.std.proofs.lemmas.List.Elements.{All-head, All-tail, All-nil, All-con
 use Rattle.hp_flat.specs.Equations.{Right, operator, register, called, FlatEqn}
 use Rattle.hp_flat.specs.declared.equation.Atom.{Atom}
 use Rattle.hp_flat.specs.declared.equation.Atom.TheVariants.{Variable, Value}
-use Rattle.hp_flows.specs.Fitting.{atom_variables}
-use Rattle.hp_flows.specs.Reactions.{has}
-use Rattle.hp_flows.specs.Scheduling.{clock_variables, right_reads, reads, IsDefinedBelow, IsRanked}
+use Rattle.law_equations.specs.Meaning.Fitting.{atom_variables}
+use Rattle.law_equations.specs.Meaning.Reactions.{has}
+use Rattle.law_equations.specs.Meaning.Scheduling.{clock_variables, right_reads, reads, IsDefinedBelow, IsRanked}
 use Rattle.hp_graph.specs.Graphs.{IsEdge, Leads, IsCycle}
 use Rattle.hp_complete.specs.Edges.{edges_to, edges_from, edges_of_eqn, edges_of, placed}
 use Rattle.hp_complete.specs.Ordering.{unplaced, ReadsOf, ReadOn, IsCircular}

@@ -3,7 +3,7 @@ use Rattle.std.proofs.Common.{◌≡◌, ℕ, suc, ◌-◌, ◌<◌, if◌then�
 use Rattle.std.proofs.lemmas.Bool.{lt-ltb}
 use Rattle.std.proofs.lemmas.List.{length-append}
 use Rattle.std.proofs.Math.Seq.{take-append_seam}
-use Rattle.hp_made.specs.Making.{Layer, front_steps, off_site, in_block, restart_site}
+use Rattle.law_equations.specs.Made.Making.{Layer, front_steps, off_site, in_block, restart_site}
 use Rattle.hp_complete.specs.Places.{Place, at_base, at_site, left, unrestarted, within}
 
 front-steps : (ck : List (ℕ × ℕ)) → front_steps ck ≡ take (length ck - 1) ck

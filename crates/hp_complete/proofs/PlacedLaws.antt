@@ -1,5 +1,5 @@
 -- The clocked equations of a node stand for its flat names.
-use Rattle.hp_made.proofs.MadeLaw as made
+use Rattle.law_equations.proofs.MadeLemmas.MadeLaw as made
 use Rattle.hp_complete.specs.Laws.{StandsLaw}
 
 pub stands-for : StandsLaw

@@ -2,7 +2,7 @@
 use Rattle.std.proofs.Common.{◌≡◌, ℕ, ◌+◌, ◌<◌, ◌≤◌, get_or, length, drop, take, true, false, nat_eq, if◌then◌else◌, List, [], ◌∷◌, ◌++◌, refl, sym, ap, ◌∙◌, arith}
 use Rattle.std.specs.Prelude.{min, codes, decimal}
 use Rattle.std.proofs.lemmas.List.{append_assoc, append-nil, take_min}
-use Rattle.hp_made.specs.Making.{stem, new_name}
+use Rattle.law_equations.specs.Made.Making.{stem, new_name}
 use Rattle.hp_complete.proofs.LayerLaws.{drop-next, drop-end, take-next}
 
 -- the bytes so far are those before the sign

@@ -4,8 +4,8 @@ use Rattle.std.specs.Prelude.{min}
 use Rattle.std.specs.Str.{bytes_eq}
 use Rattle.hp_tree.specs.declared.program.Item.{Item}
 use Rattle.hp_tree.specs.declared.program.Item.TheVariants.{TypeItem, NodeItem}
-use Rattle.hp_declared.specs.Items as declared
-use Rattle.hp_made.specs.Making.{type_number}
+use Rattle.hp_tables.specs.Declarations.Items as declared
+use Rattle.law_equations.specs.Made.Making.{type_number}
 use Rattle.hp_complete.specs.Declaring.{with_constructors, with_item, constructors_of}
 use Rattle.hp_complete.specs.Tables.{bounded, all_bounded}
 

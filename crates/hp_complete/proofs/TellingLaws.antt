@@ -4,8 +4,8 @@ use Rattle.hp_base.specs.declared.span.Span.{Span}
 use Rattle.hp_tree.specs.declared.decl.Cons.{Cons}
 use Rattle.hp_tree.specs.Expressions.{Expr, constant, variable, last_of, one, two, choose, pre, fby, arrow, when_is, merge, call, Exprs, no_expr, more_exprs}
 use Rattle.hp_tree.specs.Blocks.{Decl}
-use Rattle.hp_made.specs.Making.{or_base, or_told, path_for, path_told, paths_told}
-use Rattle.hp_telling.specs.Tellings.{Told, or_else, tells, tells_in_all, tells_of}
+use Rattle.law_equations.specs.Made.Making.{or_base, or_told, path_for, path_told, paths_told}
+use Rattle.hp_tables.specs.Telling.Tellings.{Told, or_else, tells, tells_in_all, tells_of}
 use Rattle.hp_complete.specs.Tellings.{told_path}
 
 module _ (ds : List Decl) where

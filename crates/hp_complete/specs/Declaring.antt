@@ -2,9 +2,9 @@
 use Rattle.std.specs.Prelude.{ℕ, ◌+◌, min, List, [], ◌∷◌, Option}
 use Rattle.hp_tree.specs.declared.program.Item.{Item}
 use Rattle.hp_tree.specs.declared.program.Item.TheVariants.{TypeItem, NodeItem}
-pub use Rattle.hp_declared.specs.Items.{with_node, with_nodes}
-use Rattle.hp_declared.specs.Tables.{nothing, put_at}
-use Rattle.hp_made.specs.Making.{Known, type_number}
+pub use Rattle.hp_tables.specs.Declarations.Items.{with_node, with_nodes}
+use Rattle.hp_tables.specs.Declarations.Tables.{nothing, put_at}
+use Rattle.law_equations.specs.Made.Making.{Known, type_number}
 use Rattle.hp_complete.specs.Signatures.{places_of}
 
 -- constructors by names: the number of the type, and the own one

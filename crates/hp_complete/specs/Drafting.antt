@@ -10,8 +10,8 @@ use Rattle.hp_tree.specs.Programs.{Node}
 use Rattle.hp_tree.specs.Meaning.{controls_of}
 use Rattle.hp_flat.specs.declared.equation.Atom.{Atom}
 use Rattle.hp_flat.specs.declared.node.FlatTy.TheVariants as flat
-use Rattle.hp_flattened.specs.Flatten.{constant_in, is_false}
-use Rattle.hp_made.specs.Making.{Known, Layer, Sight, Site, Sketch, Made, Seen, Standing, Body, Inner, put, over, hidden, flat_type, type_at, new_variable, read_at, bind, by_constant, constant_value, fby_at, register_at, off_site, on_site, part_at, tested, or_new, called_at, outputs_of, first_output, own_variable, with_own, own_names, block_layer, in_block, restart_site, with_flag, cons_number, link_all, enter_path, signed, remember_all, sketch_expr, sketch_exprs, sketch_parts, sketch_block, sketch_eqns, sketch_eqn, sketch_arms}
+use Rattle.law_equations.specs.Flattened.Flatten.{constant_in, is_false}
+use Rattle.law_equations.specs.Made.Making.{Known, Layer, Sight, Site, Sketch, Made, Seen, Standing, Body, Inner, put, over, hidden, flat_type, type_at, new_variable, read_at, bind, by_constant, constant_value, fby_at, register_at, off_site, on_site, part_at, tested, or_new, called_at, outputs_of, first_output, own_variable, with_own, own_names, block_layer, in_block, restart_site, with_flag, cons_number, link_all, enter_path, signed, remember_all, sketch_expr, sketch_exprs, sketch_parts, sketch_block, sketch_eqns, sketch_eqn, sketch_arms}
 use Rattle.hp_complete.specs.declared.block.Standing as code_standing
 use Rattle.hp_complete.specs.declared.block.Standing.TheVariants as code
 use Rattle.hp_complete.specs.Places.{Place, saying, sees, sees_around, sees_beyond, within}

@@ -1,5 +1,5 @@
 -- A node in the making: what is made so far, and where one stands.
-use Rattle.hp_made.specs.Making.{Sketch}
+use Rattle.law_equations.specs.Made.Making.{Sketch}
 use Rattle.hp_complete.specs.declared.draft.Draft.{Draft}
 use Rattle.hp_complete.specs.Layers.{says, inner_first}
 use Rattle.hp_complete.specs.Places.{Place}

@@ -1,7 +1,7 @@
 -- The graph of the equations of a node: each equation leads to what it reads, and each variable to the equations that define it.
 use Rattle.std.specs.Prelude.{ℕ, ◌+◌, List, [], ◌∷◌, ◌++◌, map, get_or}
 use Rattle.hp_flat.specs.Equations.{FlatEqn}
-use Rattle.hp_flows.specs.Scheduling.{reads}
+use Rattle.law_equations.specs.Meaning.Scheduling.{reads}
 
 abbrev pub edges_to : ℕ → List ℕ → List (ℕ × ℕ)
 edges_to v xs = map (λ x. (v, x)) xs

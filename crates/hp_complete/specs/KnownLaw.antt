@@ -6,7 +6,7 @@ use Rattle.hp_tree.specs.declared.program.Item.{Item}
 use Rattle.hp_tree.specs.declared.program.Item.TheVariants.{TypeItem, NodeItem}
 use Rattle.hp_tree.specs.Operators.{Reading}
 use Rattle.hp_tree.specs.Meaning.{names_of, nodes, types_of}
-use Rattle.hp_made.specs.Standing.{Knows}
+use Rattle.law_equations.specs.Made.Standing.{Knows}
 use Rattle.hp_complete.specs.Declaring.{known_of}
 use Rattle.hp_complete.specs.Signatures.{type_names}
 

@@ -4,9 +4,9 @@ use Rattle.hp_base.specs.declared.value.Value.{Value}
 use Rattle.hp_tree.specs.Programs.{TypeDecl, Node}
 use Rattle.hp_tree.specs.Instant.{Place}
 use Rattle.hp_flat.specs.Nodes.{FlatNode}
-use Rattle.hp_made.specs.Making.{Known}
-use Rattle.hp_made.specs.Standing.{Knows}
-use Rattle.hp_made.specs.Laws.{NodeReady, Stands}
+use Rattle.law_equations.specs.Made.Making.{Known}
+use Rattle.law_equations.specs.Made.Standing.{Knows}
+use Rattle.law_equations.specs.Made.Laws.{NodeReady, Stands}
 use Rattle.hp_complete.specs.Made.{IsMadeOf}
 
 -- Each variable of a node that is made of a ready one stands for a flat name, such that its equations stand for those of these names, whatever their places are.

@@ -2,9 +2,9 @@
 use Rattle.std.specs.Prelude.{List, [], ◌∷◌, map, reverse, Option, None, Some}
 use Rattle.std.specs.Str.{bytes_eq}
 use Rattle.indexmap.specs.IndexMap.{get_by}
-use Rattle.hp_made.specs.Sights.{Entry}
-pub use Rattle.hp_declared.specs.Tables.{nothing}
-use Rattle.hp_made.specs.Making.{Layer, Sight, over, unknown}
+use Rattle.law_equations.specs.Made.Sights.{Entry}
+pub use Rattle.hp_tables.specs.Declarations.Tables.{nothing}
+use Rattle.law_equations.specs.Made.Making.{Layer, Sight, over, unknown}
 use Rattle.hp_complete.specs.declared.layer.Entry as code_entry
 use Rattle.hp_complete.specs.declared.layer.Layer as code_layer
 

@@ -5,9 +5,9 @@ use Rattle.hp_tree.specs.declared.program.Item.TheVariants.{TypeItem, NodeItem}
 use Rattle.hp_tree.specs.Programs.{Node}
 use Rattle.hp_tree.specs.Meaning.{controls_of}
 use Rattle.hp_flat.specs.Nodes.{FlatNode}
-use Rattle.hp_flows.specs.Scheduling.{IsRanked}
+use Rattle.law_equations.specs.Meaning.Scheduling.{IsRanked}
 use Rattle.hp_complete.specs.Ordering.{IsCircular, unplaced}
-use Rattle.hp_made.specs.Making.{Known, numbers_from, sketch_node}
+use Rattle.law_equations.specs.Made.Making.{Known, numbers_from, sketch_node}
 
 -- A node has the variables and the equations that are made of it, in the order in which they are made. Their places are others: each equation stands behind those that it reads.
 pub record IsMadeOf (k : Known) (n : Node) (f : FlatNode) : Type 0 where

@@ -3,7 +3,7 @@ use Rattle.std.specs.Prelude.{ℕ, if◌then◌else◌, List, [], ◌∷◌, ◌
 use Rattle.std.specs.Borrow.{Bor}
 use Rattle.std.specs.Str.{bytes_eq}
 use Rattle.hp_tree.specs.Blocks.{Decl}
-use Rattle.hp_made.specs.Making.{is_in}
+use Rattle.law_equations.specs.Made.Making.{is_in}
 
 -- names, as the code holds them
 abbrev pub names_seen : List (Bor (List ℕ)) → List (List ℕ)

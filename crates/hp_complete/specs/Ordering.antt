@@ -3,8 +3,8 @@ use Rattle.std.specs.Prelude.{ℕ, ⊤, List, [], ◌∷◌, All, Contains}
 use Rattle.hp_complete.specs.declared.error.FlattenErr.{FlattenErr}
 use Rattle.hp_complete.specs.declared.error.FlattenErr.TheVariants.{Cycle, OutOfMemory}
 use Rattle.hp_flat.specs.Equations.{FlatEqn}
-use Rattle.hp_flows.specs.Scheduling.{reads}
-pub use Rattle.hp_made.specs.Laws.{unplaced}
+use Rattle.law_equations.specs.Meaning.Scheduling.{reads}
+pub use Rattle.law_equations.specs.Made.Laws.{unplaced}
 
 -- an equation reads, at its own instant, a variable that another one defines
 abbrev pub ReadsOf : FlatEqn → FlatEqn → Type 0

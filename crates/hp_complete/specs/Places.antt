@@ -1,6 +1,6 @@
 -- Where one stands in a program while the equations of a node are made.
 use Rattle.std.specs.Prelude.{ℕ, ◌-◌, List, [], ◌∷◌, length, take, Option, None, Some}
-use Rattle.hp_made.specs.Making.{Known, Layer, Sight, Site, no_entry, base_site, over, on_site}
+use Rattle.law_equations.specs.Made.Making.{Known, Layer, Sight, Site, no_entry, base_site, over, on_site}
 use Rattle.hp_complete.specs.Layers.{sight}
 
 -- what is known of the program; what names stand for in the innermost block or control equation, and around it, the innermost first; and where equations are made

@@ -5,10 +5,10 @@ use Rattle.hp_tree.specs.declared.program.Item.TheVariants.{TypeItem, NodeItem}
 use Rattle.hp_tree.specs.Blocks.{Decl}
 use Rattle.hp_tree.specs.Programs.{Node}
 use Rattle.hp_tree.specs.Meaning.{controls_of}
-pub use Rattle.hp_declared.specs.Tables.{numbered}
+pub use Rattle.hp_tables.specs.Declarations.Tables.{numbered}
 use Rattle.hp_flat.specs.declared.node.Variable.{Variable}
 use Rattle.hp_flat.specs.Nodes.{FlatNode}
-use Rattle.hp_made.specs.Making.{flat_type}
+use Rattle.law_equations.specs.Made.Making.{flat_type}
 use Rattle.hp_complete.specs.Ranges.{IsInRange}
 
 abbrev pub type_names : List Item → List (List ℕ)

@@ -1,9 +1,9 @@
 -- What is known of a program, as functions of names.
 use Rattle.std.specs.Prelude.{ℕ, min, List, Option, option_map}
-use Rattle.hp_declared.specs.declared.table.Table.{Table}
-use Rattle.hp_declared.specs.Seen.{node_in}
-use Rattle.hp_declared.specs.Tables.{said_in}
-use Rattle.hp_made.specs.Making.{Known}
+use Rattle.hp_tables.specs.declared.declarations.table.Table.{Table}
+use Rattle.hp_tables.specs.Declarations.Seen.{node_in}
+use Rattle.hp_tables.specs.Declarations.Tables.{said_in}
+use Rattle.law_equations.specs.Made.Making.{Known}
 use Rattle.hp_complete.specs.declared.declared.Declared.{Declared}
 
 -- the numbers of a constructor's type and its own, as far as values have them

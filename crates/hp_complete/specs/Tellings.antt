@@ -2,8 +2,8 @@
 use Rattle.std.specs.Prelude.{ℕ, List, [], ◌∷◌, ◌++◌, Option, None, Some}
 use Rattle.hp_tree.specs.declared.decl.Cons.{Cons}
 use Rattle.hp_tree.specs.Blocks.{Decl}
-use Rattle.hp_telling.specs.Tellings.{Told, at_base, as_of, one_more}
-use Rattle.hp_made.specs.Making.{path_of}
+use Rattle.hp_tables.specs.Telling.Tellings.{Told, at_base, as_of, one_more}
+use Rattle.law_equations.specs.Made.Making.{path_of}
 
 -- the path that is told, outermost first
 abbrev pub told_path : List Decl → Option Told → List (Cons × List ℕ)

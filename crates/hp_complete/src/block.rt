@@ -2,8 +2,8 @@
 ghost use Rattle.std.specs.Prelude.{◌≡◌, ◌∷◌, [], Some, map, if◌then◌else◌, IfOk, OnOk};
 ghost use Rattle.hp_tree.specs.Blocks.{arms_of, eqns_of};
 ghost use Rattle.hp_tree.specs.BlockView.{arm_seen, eqn_seen};
-ghost use Rattle.hp_flattened.specs.Flatten.{is_false, is_false_constant};
-ghost use Rattle.hp_made.specs.Making.{hidden, is_plain, next, own_variable, remember, with_new, with_variable};
+ghost use Rattle.law_equations.specs.Flattened.Flatten.{is_false, is_false_constant};
+ghost use Rattle.law_equations.specs.Made.Making.{hidden, is_plain, next, own_variable, remember, with_new, with_variable};
 ghost use Rattle.hp_complete.specs.Drafting.{arm_made, arms_made, block_made, declared_at, eqn_made, eqns_made, layer_made, own_made, owned_at, remembered_at, reset_block, reset_made, restarted_made, standing_of, switch_made};
 ghost use Rattle.hp_complete.specs.Drafts.{place_of, sketch_of};
 ghost use Rattle.hp_complete.specs.Names.{names_seen};

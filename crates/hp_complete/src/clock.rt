@@ -1,6 +1,6 @@
 //! The clocks of definitions.
 ghost use Rattle.std.specs.Prelude.{◌≡◌, OnOk};
-ghost use Rattle.hp_made.specs.Making.{path_for};
+ghost use Rattle.law_equations.specs.Made.Making.{path_for};
 ghost use Rattle.hp_complete.specs.Drafting.{entered};
 ghost use Rattle.hp_complete.specs.Drafts.{place_of, sketch_of};
 ghost use Rattle.hp_complete.specs.Places.{at_site};
@@ -8,7 +8,7 @@ ghost use Rattle.hp_complete.specs.Places.{at_site};
 use crate::draft::Draft;
 use crate::names::Locals;
 use hp_base::{Name, Span};
-use hp_telling::{Telling, told_by};
+use hp_tables::telling::{Telling, told_by};
 use hp_tree::Expr;
 use std::alloc::AllocError;
 

@@ -1,15 +1,15 @@
 //! What a program declares: the numbers of types and constructors, and nodes.
 ghost use Rattle.std.specs.Prelude.{◌≡◌, ◌++◌, ◌∷◌, [], map, IfOk, OnOk};
-ghost use Rattle.hp_declared.specs.Seen.{node_seen};
-ghost use Rattle.hp_declared.specs.Tables.{said_in};
-ghost use Rattle.hp_made.specs.Making.{cons_number, constant_value, flat_type, own_number, type_number};
+ghost use Rattle.hp_tables.specs.Declarations.Seen.{node_seen};
+ghost use Rattle.hp_tables.specs.Declarations.Tables.{said_in};
+ghost use Rattle.law_equations.specs.Made.Making.{cons_number, constant_value, flat_type, own_number, type_number};
 ghost use Rattle.hp_complete.specs.Declaring.{known_of};
 ghost use Rattle.hp_complete.specs.Signatures.{places_of, type_names};
 ghost use Rattle.hp_complete.specs.Tables.{constructor_in, known_in};
 
 use hp_base::{Const, Name, Ty, Value};
-use hp_declared::{Table, constructors_of, nodes_of, numbers_of};
 use hp_flat::FlatTy;
+use hp_tables::declarations::{Table, constructors_of, nodes_of, numbers_of};
 use hp_tree::{Cons, Item, Node, TypeDecl};
 use std::alloc::{AllocError, Global};
 

@@ -1,6 +1,6 @@
 //! The equations of definitions.
 ghost use Rattle.std.specs.Prelude.{◌≡◌, Some, drop, OnOk};
-ghost use Rattle.hp_made.specs.Making.{bind, bind_all, sketch_definition, sketch_right};
+ghost use Rattle.law_equations.specs.Made.Making.{bind, bind_all, sketch_definition, sketch_right};
 ghost use Rattle.hp_complete.specs.Drafting.{bind_each, number_left};
 ghost use Rattle.hp_complete.specs.Drafts.{place_of, sketch_of};
 ghost use Rattle.hp_complete.specs.Places.{sees};

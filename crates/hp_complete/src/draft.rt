@@ -6,10 +6,10 @@ ghost use Rattle.hp_flat.specs.declared.node.FlatTy.TheVariants.{Bool};
 ghost use Rattle.hp_flat.specs.Equations.{operator, register};
 ghost use Rattle.hp_flat.specs.EquationView.{right_seen};
 ghost use Rattle.hp_obc.specs.declared.command.ObcOp.TheVariants.{Copy};
-ghost use Rattle.hp_made.specs.Making.{atom_of, bind, block_flag, cons_number, constant_value, copy_of, first_value, flag_at, flat_type, mux_at, named_value, new_flag, next, nothing_made, read_at, register_at, type_at, type_of_value, value_of, with_eqn, with_flag, with_new, with_variable};
+ghost use Rattle.law_equations.specs.Made.Making.{atom_of, bind, block_flag, cons_number, constant_value, copy_of, first_value, flag_at, flat_type, mux_at, named_value, new_flag, next, nothing_made, read_at, register_at, type_at, type_of_value, value_of, with_eqn, with_flag, with_new, with_variable};
 ghost use Rattle.hp_complete.specs.Drafts.{place_of, sketch_of};
 ghost use Rattle.hp_complete.specs.Places.{sees, start};
-ghost use Rattle.hp_declared.specs.Seen.{node_seen};
+ghost use Rattle.hp_tables.specs.Declarations.Seen.{node_seen};
 ghost use Rattle.hp_complete.specs.Tables.{known_in};
 
 use crate::declared::Declared;

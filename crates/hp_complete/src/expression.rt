@@ -2,8 +2,8 @@
 ghost use Rattle.std.specs.Prelude.{◌≡◌, ◌∷◌, [], None, Some, IfOk, OnOk};
 ghost use Rattle.hp_tree.specs.Expressions.{exprs_of, parts_of};
 ghost use Rattle.hp_flat.specs.Equations.{called};
-ghost use Rattle.hp_flattened.specs.Flatten.{constant_in, obc_one, obc_two};
-ghost use Rattle.hp_made.specs.Making.{merged_variable, next, numbers_from, outputs_of, type_at, type_one, type_two, with_eqn, with_outputs};
+ghost use Rattle.law_equations.specs.Flattened.Flatten.{constant_in, obc_one, obc_two};
+ghost use Rattle.law_equations.specs.Made.Making.{merged_variable, next, numbers_from, outputs_of, type_at, type_one, type_two, with_eqn, with_outputs};
 ghost use Rattle.hp_complete.specs.Drafting.{call_made, called_made, const_seen, expr_made, exprs_made, fby_made, first_of, merge_made, part_made, parts_made, when_made};
 ghost use Rattle.hp_complete.specs.Drafts.{place_of, sketch_of};
 

@@ -1,6 +1,6 @@
 //! What the names of the tree stand for.
 ghost use Rattle.std.specs.Prelude.{◌≡◌, OnOk};
-ghost use Rattle.hp_made.specs.Making.{no_entry, put, unknown};
+ghost use Rattle.law_equations.specs.Made.Making.{no_entry, put, unknown};
 ghost use Rattle.hp_complete.specs.Layers.{inner_first, says, seen, seen_if, sight};
 
 use hp_flat::FlatTy;

@@ -3,14 +3,14 @@ ghost use Rattle.std.specs.Prelude.{◌≡◌, [], map, option_map, slice_get, I
 ghost use Rattle.hp_tree.specs.Blocks.{eqns_of};
 ghost use Rattle.hp_tree.specs.BlockView.{eqn_seen};
 ghost use Rattle.hp_tree.specs.Meaning.{declares, names_of as decl_names};
-ghost use Rattle.hp_declared.specs.Tables.{said_in};
-ghost use Rattle.hp_made.specs.Making.{each_once, is_plain, keeps_name, names_of_eqn, names_of_eqns, path_of, path_written};
+ghost use Rattle.hp_tables.specs.Declarations.Tables.{said_in};
+ghost use Rattle.law_equations.specs.Made.Making.{each_once, is_plain, keeps_name, names_of_eqn, names_of_eqns, path_of, path_written};
 ghost use Rattle.hp_complete.specs.Names.{decl_of, names_seen, with_once};
 ghost use Rattle.hp_complete.specs.Signatures.{numbered};
 
 use hp_base::Name;
-use hp_declared::{Table, numbers_of};
-use hp_defining::{declared_names, names_in as all_names_in, names_of as all_names_of};
+use hp_tables::declarations::{Table, numbers_of};
+use hp_tables::defining::{declared_names, names_in as all_names_in, names_of as all_names_of};
 use hp_tree::{Cons, Decl, Eqn};
 use indexmap::IndexSet;
 use std::alloc::{AllocError, Global};

@@ -1,6 +1,6 @@
 //! The names of new variables.
 ghost use Rattle.std.specs.Prelude.{◌≡◌, IfOk};
-ghost use Rattle.hp_made.specs.Making.{new_name, stem};
+ghost use Rattle.law_equations.specs.Made.Making.{new_name, stem};
 
 use hp_base::Name;
 use itoa::Buffer;

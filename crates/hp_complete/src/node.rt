@@ -1,8 +1,8 @@
 //! The clocked equations of a node.
 ghost use Rattle.std.specs.Prelude.{◌≡◌, ◌+◌, ◌∷◌, [], length, map, All, IfErr, IfOk, OnOk};
 ghost use Rattle.hp_tree.specs.Meaning.{controls_of};
-ghost use Rattle.hp_flows.specs.Scheduling.{IsRanked};
-ghost use Rattle.hp_made.specs.Making.{next, numbers_from, sketch_node};
+ghost use Rattle.law_equations.specs.Meaning.Scheduling.{IsRanked};
+ghost use Rattle.law_equations.specs.Made.Making.{next, numbers_from, sketch_node};
 ghost use Rattle.hp_complete.specs.Drafting.{filled, signed_at, signed_made};
 ghost use Rattle.hp_complete.specs.Drafts.{place_of, sketch_of};
 ghost use Rattle.hp_complete.specs.Made.{IsMadeOf};

@@ -2,8 +2,8 @@
 ghost use Rattle.std.specs.Prelude.{◌≡◌, ◌+◌, ℕ, [], ◌∷◌, map, All, IfErr, IfOk, OnOk};
 ghost use Rattle.std.specs.List.{flat_map};
 ghost use Rattle.hp_flat.specs.EquationView.{right_seen};
-ghost use Rattle.hp_flows.specs.Fitting.{atom_variables};
-ghost use Rattle.hp_flows.specs.Scheduling.{clock_variables, right_reads, reads, IsRanked};
+ghost use Rattle.law_equations.specs.Meaning.Fitting.{atom_variables};
+ghost use Rattle.law_equations.specs.Meaning.Scheduling.{clock_variables, right_reads, reads, IsRanked};
 ghost use Rattle.hp_graph.specs.Graphs.{IsSortedBy};
 ghost use Rattle.hp_complete.specs.Edges.{edges_to, edges_from, edges_of_eqn, edges_of, placed};
 ghost use Rattle.hp_complete.specs.Names.{with_more};

@@ -1,6 +1,6 @@
 //! Going to another place of the tree, and back.
 ghost use Rattle.std.specs.Prelude.{◌≡◌, ◌∷◌, [], None, IfOk, OnOk};
-ghost use Rattle.hp_made.specs.Making.{given_by, hidden, in_block, no_entry, off_site, on_site, put, restart_site, tested, with_flag};
+ghost use Rattle.law_equations.specs.Made.Making.{given_by, hidden, in_block, no_entry, off_site, on_site, put, restart_site, tested, with_flag};
 ghost use Rattle.hp_complete.specs.Drafting.{hidden_at, linked_at};
 ghost use Rattle.hp_complete.specs.Drafts.{place_of, sketch_of};
 ghost use Rattle.hp_complete.specs.Layers.{inner_first, seen};

@@ -6,8 +6,8 @@ use Rattle.hp_base.specs.declared.value.Value.TheVariants.{B}
 use Rattle.hp_boolx.specs.Machine.{Machine, game}
 use Rattle.hp_boolx.specs.Search.{Bits}
 use Rattle.hp_boolx.specs.Solved.{IsChoice}
-use Rattle.hp_certmade.specs.Made.{HaveFunctions}
-use Rattle.hp_certmade.specs.Placed.{RefersBack}
+use Rattle.hp_cert.specs.Certmade.Made.{HaveFunctions}
+use Rattle.hp_cert.specs.Certmade.Placed.{RefersBack}
 use Rattle.hp_control.specs.Controlling.{AreFunctions}
 use Rattle.hp_diagram.specs.Diagrams.{Diagrams, function}
 use Rattle.hp_diagram.specs.declared.reference.Ref.{Ref}

@@ -11,14 +11,14 @@ use Rattle.hp_obc.specs.Values.{ternary}
 use Rattle.hp_obc.specs.declared.command.ObcOp.TheVariants.{Mux}
 use Rattle.hp_flat.specs.declared.equation.Atom.TheVariants.{Variable as Read, Value as Fixed}
 use Rattle.hp_flat.specs.Equations.{FlatEqn}
-use Rattle.hp_flows.specs.Instants.{Instant, atom}
-use Rattle.hp_flows.specs.Reactions.{Answers, Holds, Continues}
+use Rattle.law_equations.specs.Meaning.Instants.{Instant, atom}
+use Rattle.law_equations.specs.Meaning.Reactions.{Answers, Holds, Continues}
 use Rattle.hp_diagram.specs.Diagrams.{Diagrams}
 use Rattle.hp_diagram.proofs.Paths.{path_end-leaf}
 use Rattle.hp_quant.specs.declared.line.Line.{Line}
 use Rattle.hp_quant.specs.Lines.{node_of, line_function, MayBeImported}
 use Rattle.hp_quant.proofs.Imported.{line_function-line}
-use Rattle.hp_certmade.specs.Placed.{RefersBack}
+use Rattle.hp_cert.specs.Certmade.Placed.{RefersBack}
 use Rattle.hp_controller.specs.Controllers.{atom_at, test_at, line_eqn, line_eqns, output_eqn, output_eqns, node_of_lines}
 use Rattle.hp_controller.specs.Laws.{bit_at, GivesLaw}
 

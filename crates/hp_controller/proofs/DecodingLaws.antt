@@ -9,8 +9,8 @@ use Rattle.hp_circuit.specs.Numbers.{number, pow2}
 use Rattle.hp_obc.specs.Values.{ternary}
 use Rattle.hp_obc.specs.declared.command.ObcOp.TheVariants.{Copy, Mux}
 use Rattle.hp_flat.specs.declared.equation.Atom.TheVariants.{Variable as Read}
-use Rattle.hp_flows.specs.Instants.{Instant, atom}
-use Rattle.hp_flows.specs.Reactions.{Answers, Holds}
+use Rattle.law_equations.specs.Meaning.Instants.{Instant, atom}
+use Rattle.law_equations.specs.Meaning.Reactions.{Answers, Holds}
 use Rattle.hp_controller.specs.Controllers.{equation}
 use Rattle.hp_controller.specs.declared.decoding.Control.{Control}
 use Rattle.hp_controller.specs.declared.decoding.ControlKind.{ControlKind}

@@ -9,10 +9,10 @@ use Rattle.hp_flat.specs.declared.equation.Atom.{Atom}
 use Rattle.hp_flat.specs.declared.equation.Atom.TheVariants.{Variable as Read, Value as Fixed}
 use Rattle.hp_flat.specs.Equations.{Clock, Right, operator, register, called, FlatEqn}
 use Rattle.hp_flat.specs.Nodes.{FlatNode}
-use Rattle.hp_flows.specs.Instants.{Instant, has_constructor, holds, is_true, restarted, atom, atoms, unless, noted, history, since, newest}
-use Rattle.hp_flows.specs.Fitting.{atom_variables, operands}
-use Rattle.hp_flows.specs.Reactions.{Answers, has, is_set, right_gives, Holds, Continues, Reaction}
-use Rattle.hp_flows.specs.Scheduling.{clock_variables, AreBelow, EqnWithin}
+use Rattle.law_equations.specs.Meaning.Instants.{Instant, has_constructor, holds, is_true, restarted, atom, atoms, unless, noted, history, since, newest}
+use Rattle.law_equations.specs.Meaning.Fitting.{atom_variables, operands}
+use Rattle.law_equations.specs.Meaning.Reactions.{Answers, has, is_set, right_gives, Holds, Continues, Reaction}
+use Rattle.law_equations.specs.Meaning.Scheduling.{clock_variables, AreBelow, EqnWithin}
 use Rattle.hp_obc.specs.Values.{operated}
 use Rattle.hp_controller.specs.Extending.{Extends, cut, rows_with, ExtendedLaw}
 use Rattle.hp_controller.proofs.ControllerLaws.{in_front, below-nat_lt}

@@ -9,8 +9,8 @@ use Rattle.hp_boolx.specs.Machine.{bit, gate_value, values}
 use Rattle.hp_boolx.specs.Search.{Bits}
 use Rattle.hp_obc.specs.Values.{operated, same_bool}
 use Rattle.hp_flat.specs.declared.equation.Atom.TheVariants.{Variable as Read, Value as Fixed}
-use Rattle.hp_flows.specs.Instants.{Instant, atom, atoms}
-use Rattle.hp_flows.specs.Reactions.{Answers, Holds}
+use Rattle.law_equations.specs.Meaning.Instants.{Instant, atom, atoms}
+use Rattle.law_equations.specs.Meaning.Reactions.{Answers, Holds}
 use Rattle.hp_controller.specs.Controllers.{equation}
 use Rattle.hp_controller.specs.Gates.{gate_at, gate_op, gate_args, gate_eqns, HaveBits, GatesLaw}
 use Rattle.hp_controller.proofs.ControllerLaws.{first_of, below-nat_lt, above-nat_lt, split_at}

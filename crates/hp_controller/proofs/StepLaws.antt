@@ -8,8 +8,8 @@ use Rattle.hp_boolx.specs.Machine.{Machine, IsMachine, game, at_gate}
 use Rattle.hp_boolx.specs.Search.{Bits}
 use Rattle.hp_boolx.specs.Game.{joined}
 use Rattle.hp_flat.specs.declared.equation.Atom.TheVariants.{Variable as Read}
-use Rattle.hp_flows.specs.Instants.{Instant, atom, atoms, history, since, is_true}
-use Rattle.hp_flows.specs.Reactions.{Answers, Holds}
+use Rattle.law_equations.specs.Meaning.Instants.{Instant, atom, atoms, history, since, is_true}
+use Rattle.law_equations.specs.Meaning.Reactions.{Answers, Holds}
 use Rattle.hp_controller.specs.Gates.{gate_at, gate_eqns, HaveBits}
 use Rattle.hp_controller.specs.Steps.{register_eqns, asking_eqn, Placing, register_places, control_places, places, step_eqns, bits_of, AreBits, AlwaysHold, state_after, StepsLaw, IsRow, AnswersAsController, AnswersLaw, IsSteered, AlwaysSteered, SteeredLaw}
 use Rattle.hp_controller.proofs.ControllerLaws.{first_of, rest_of, in_front, behind}

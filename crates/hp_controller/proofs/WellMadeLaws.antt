@@ -18,12 +18,12 @@ use Rattle.hp_flat.specs.declared.node.FlatTy.TheVariants.{Int as FlatInt}
 use Rattle.hp_flat.specs.declared.node.Variable.{Variable}
 use Rattle.hp_flat.specs.Equations.{FlatEqn}
 use Rattle.hp_flat.specs.Nodes.{FlatNode}
-use Rattle.hp_flows.specs.Instants.{Instant, holds}
-use Rattle.hp_flows.specs.Reactions.{has, is_set}
-use Rattle.hp_flows.specs.Fitting.{is_there, IsThere, atom_variables, operands}
-use Rattle.hp_flows.specs.Kinding.{Callees, HasValue, HaveKinds, EqnKinds, kind_of_type, variable_kind, is_present, OptionallyOf, IsPossible, ClocksFit, ClockIsThere}
-use Rattle.hp_flows.specs.Scheduling.{IsRanked, IsDefinedBelow, reads}
-use Rattle.hp_flows.specs.Solving.{IsExclusive, NoOther}
+use Rattle.law_equations.specs.Meaning.Instants.{Instant, holds}
+use Rattle.law_equations.specs.Meaning.Reactions.{has, is_set}
+use Rattle.law_equations.specs.Meaning.Fitting.{is_there, IsThere, atom_variables, operands}
+use Rattle.law_equations.specs.Meaning.Kinding.{Callees, HasValue, HaveKinds, EqnKinds, kind_of_type, variable_kind, is_present, OptionallyOf, IsPossible, ClocksFit, ClockIsThere}
+use Rattle.law_equations.specs.Meaning.Scheduling.{IsRanked, IsDefinedBelow, reads}
+use Rattle.law_equations.specs.Meaning.Solving.{IsExclusive, NoOther}
 use Rattle.hp_quant.specs.declared.line.Line.{Line}
 use Rattle.hp_controller.specs.Controllers.{atom_at, test_at, equation, line_eqns, output_eqns, bit_variable, node_of_lines}
 use Rattle.hp_controller.specs.Laws.{WellMadeLaw}

@@ -7,9 +7,9 @@ use Rattle.hp_boolx.specs.Machine.{Machine, IsMachine}
 use Rattle.hp_flat.specs.declared.node.FlatTy.TheVariants.{Bool}
 use Rattle.hp_flat.specs.declared.node.Variable.{Variable}
 use Rattle.hp_flat.specs.Nodes.{FlatNode}
-use Rattle.hp_flows.specs.Instants.{Instant}
-use Rattle.hp_flows.specs.Reactions.{Answers, Reaction}
-use Rattle.hp_flows.specs.Scheduling.{EqnWithin}
+use Rattle.law_equations.specs.Meaning.Instants.{Instant}
+use Rattle.law_equations.specs.Meaning.Reactions.{Answers, Reaction}
+use Rattle.law_equations.specs.Meaning.Scheduling.{EqnWithin}
 use Rattle.hp_controller.specs.declared.decoding.Control.{Control}
 use Rattle.hp_controller.specs.Controllers.{added_variable}
 use Rattle.hp_controller.specs.Decoding.{Decoded, controls_eqns, values_by, total_width, HasBits}

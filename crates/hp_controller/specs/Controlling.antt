@@ -10,9 +10,9 @@ use Rattle.hp_flat.specs.Equations.{Right, operator, register, called, FlatEqn}
 use Rattle.hp_flat.specs.declared.node.FlatTy.TheVariants.{Bool}
 use Rattle.hp_flat.specs.declared.node.Variable.{Variable}
 use Rattle.hp_flat.specs.Nodes.{FlatNode}
-use Rattle.hp_flows.specs.Instants.{Instant}
-use Rattle.hp_flows.specs.Reactions.{Answers, Continues, outputs_at}
-use Rattle.hp_flows.specs.Kinding.{Callees, IsWellMade}
+use Rattle.law_equations.specs.Meaning.Instants.{Instant}
+use Rattle.law_equations.specs.Meaning.Reactions.{Answers, Continues, outputs_at}
+use Rattle.law_equations.specs.Meaning.Kinding.{Callees, IsWellMade}
 
 -- an operator, which remembers nothing and asks no node
 abbrev pub IsOperator : Right → Type 0

@@ -13,8 +13,8 @@ use Rattle.hp_flat.specs.declared.equation.Atom.TheVariants.{Variable as Read, V
 use Rattle.hp_flat.specs.declared.node.FlatTy.TheVariants.{Enum}
 use Rattle.hp_flat.specs.declared.node.Variable.{Variable}
 use Rattle.hp_flat.specs.Equations.{FlatEqn}
-use Rattle.hp_flows.specs.Instants.{Instant, atom}
-use Rattle.hp_flows.specs.Reactions.{Answers, Holds}
+use Rattle.law_equations.specs.Meaning.Instants.{Instant, atom}
+use Rattle.law_equations.specs.Meaning.Reactions.{Answers, Holds}
 use Rattle.hp_controller.specs.declared.decoding.Control.{Control}
 use Rattle.hp_controller.specs.declared.decoding.ControlKind.{ControlKind}
 use Rattle.hp_controller.specs.declared.decoding.ControlKind.TheVariants.{Truth, Constructor}

@@ -6,9 +6,9 @@ use Rattle.hp_base.specs.declared.value.Value.{Value}
 use Rattle.hp_base.specs.declared.value.Value.TheVariants.{Absent}
 use Rattle.hp_flat.specs.Equations.{FlatEqn}
 use Rattle.hp_flat.specs.Nodes.{FlatNode}
-use Rattle.hp_flows.specs.Instants.{Instant}
-use Rattle.hp_flows.specs.Reactions.{Answers, Reaction}
-use Rattle.hp_flows.specs.Scheduling.{EqnWithin}
+use Rattle.law_equations.specs.Meaning.Instants.{Instant}
+use Rattle.law_equations.specs.Meaning.Reactions.{Answers, Reaction}
+use Rattle.law_equations.specs.Meaning.Scheduling.{EqnWithin}
 
 -- The other node takes so many inputs less, and has more equations, which define these, and variables that the node does not have.
 pub record Extends (n other : FlatNode) (fewer : ℕ) (more : List FlatEqn) : Type 0 where

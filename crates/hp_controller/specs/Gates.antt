@@ -12,8 +12,8 @@ use Rattle.hp_obc.specs.declared.command.ObcOp.TheVariants.{Copy, Not, And, Or, 
 use Rattle.hp_flat.specs.declared.equation.Atom.{Atom}
 use Rattle.hp_flat.specs.declared.equation.Atom.TheVariants.{Variable as Read, Value as Fixed}
 use Rattle.hp_flat.specs.Equations.{FlatEqn}
-use Rattle.hp_flows.specs.Instants.{Instant, atom}
-use Rattle.hp_flows.specs.Reactions.{Answers, Holds}
+use Rattle.law_equations.specs.Meaning.Instants.{Instant, atom}
+use Rattle.law_equations.specs.Meaning.Reactions.{Answers, Holds}
 use Rattle.hp_controller.specs.Controllers.{equation}
 
 -- where a machine's variable of a number is found; one that is nowhere counts as false

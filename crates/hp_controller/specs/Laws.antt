@@ -2,12 +2,12 @@
 use Rattle.std.specs.Prelude.{◌≡◌, ℕ, Bool, false, List, length, map, slice_index_or}
 use Rattle.hp_base.specs.declared.value.Value.TheVariants.{B}
 use Rattle.hp_obc.specs.Machines.{ObcType}
-use Rattle.hp_flows.specs.Instants.{Instant}
-use Rattle.hp_flows.specs.Reactions.{Answers, Continues, outputs_at}
-use Rattle.hp_flows.specs.Kinding.{Callees, IsWellMade}
+use Rattle.law_equations.specs.Meaning.Instants.{Instant}
+use Rattle.law_equations.specs.Meaning.Reactions.{Answers, Continues, outputs_at}
+use Rattle.law_equations.specs.Meaning.Kinding.{Callees, IsWellMade}
 use Rattle.hp_quant.specs.declared.line.Line.{Line}
 use Rattle.hp_quant.specs.Lines.{line_function}
-use Rattle.hp_certmade.specs.Placed.{RefersBack}
+use Rattle.hp_cert.specs.Certmade.Placed.{RefersBack}
 use Rattle.hp_controller.specs.Controllers.{node_of_lines}
 
 -- the bits by their numbers

@@ -12,8 +12,8 @@ use Rattle.hp_flat.specs.declared.equation.Atom.{Atom}
 use Rattle.hp_flat.specs.declared.equation.Atom.TheVariants.{Variable as Read}
 use Rattle.hp_flat.specs.Nodes.{FlatNode}
 use Rattle.hp_flat.specs.Equations.{register, called, FlatEqn}
-use Rattle.hp_flows.specs.Instants.{Instant, is_true}
-use Rattle.hp_flows.specs.Reactions.{Answers, Holds, Reaction, outputs_at}
+use Rattle.law_equations.specs.Meaning.Instants.{Instant, is_true}
+use Rattle.law_equations.specs.Meaning.Reactions.{Answers, Holds, Reaction, outputs_at}
 use Rattle.hp_controller.specs.declared.steps.Placing as held
 use Rattle.hp_controller.specs.Controlling.{IsController}
 use Rattle.hp_controller.specs.Gates.{gate_at, gate_eqns}

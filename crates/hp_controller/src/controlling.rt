@@ -8,7 +8,7 @@ ghost use Rattle.hp_synth.specs.Verdicts.{IsWon};
 use crate::node::node_of_lines;
 use hp_base::Name;
 use hp_boolx::BoolMachine;
-use hp_certmade::make_page;
+use hp_cert::certmade::make_page;
 use hp_control::functions;
 use hp_flat::FlatNode;
 use hp_synth::Solved;

@@ -6,3 +6,4 @@ pub mod NodeDrawn
 pub mod PlanDrawn
 pub mod PlanLaws
 pub mod SetLaws
+pub mod SlottedLemmas

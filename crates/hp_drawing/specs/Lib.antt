@@ -9,3 +9,4 @@ pub mod DrawnBlocks
 pub mod DrawnNodes
 pub mod Seen
 pub mod Laws
+pub mod Slotted

@@ -10,6 +10,7 @@ mod lines;
 pub mod operator;
 mod parts;
 mod place;
+pub mod slotted;
 
 pub use draft::{BASE, Draft, FALSE, TRUE};
 pub use parts::{

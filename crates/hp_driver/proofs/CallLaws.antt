@@ -2,7 +2,7 @@
 use Rattle.std.proofs.Common.{◌≡◌, ◌∙◌, ℕ, List, [], ◌∷◌, inl, inr, map, take, drop, Option, None, Some, MatchOption, codes, refl, sym, ap, ap₂, subst, get_or, length, arith, ◌≤◌, ◌-◌, ◌↔◌}
 use Rattle.std.specs.Borrow.{Bor}
 use Rattle.hp_driver.specs.Command.{IsOnTraceBy, IsOnCertBy, IsPlainCheckOf, IsPrintOf}
-use Rattle.hp_words.specs.Words.{AreThreeArguments, AreTwoArguments, IsArgument, IsOneArgument}
+use Rattle.hp_arguments.specs.Words.{AreThreeArguments, AreTwoArguments, IsArgument, IsOneArgument}
 
 -- the words are the first of them and what stands behind it
 named_and : (words : List (List ℕ)) (name : List ℕ) (behind : List (List ℕ)) → take 1 words ≡ name ∷ [] → drop 1 words ≡ behind → words ≡ name ∷ behind

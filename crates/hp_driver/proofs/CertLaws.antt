@@ -8,8 +8,8 @@ use Rattle.hp_base.specs.declared.limit.What.TheVariants.{Text}
 use Rattle.hp_abstract.specs.Machines.{IsMachineOf}
 use Rattle.hp_boolx.specs.Machine.{Machine}
 use Rattle.hp_cert.specs.declared.checking.Proved.{Proved}
-use Rattle.hp_certtext.specs.declared.error.CertErr.{CertErr}
-use Rattle.hp_certtext.specs.declared.error.CertErr.TheVariants as certificate
+use Rattle.hp_cert.specs.declared.certtext.error.CertErr.{CertErr}
+use Rattle.hp_cert.specs.declared.certtext.error.CertErr.TheVariants as certificate
 use Rattle.hp_compile.specs.Refusals.{Causes, IsRefused}
 use Rattle.hp_compile.specs.declared.refusal.Refusal.{Refusal}
 use Rattle.hp_compile.specs.declared.refusal.Refusal.TheVariants as refusal
@@ -21,7 +21,7 @@ use Rattle.hp_tree.specs.Meaning.{node_among}
 use Rattle.hp_tree.specs.Programs.{Node}
 use Rattle.hp_tree.specs.declared.program.Item.{Item}
 use Rattle.hp_tree.specs.declared.program.Item.TheVariants.{TypeItem, NodeItem}
-use Rattle.hp_decided.specs.Outcomes.{OutcomesLaw, IsProofInGame, ShowsInGame}
+use Rattle.law_decided.specs.Outcomes.{OutcomesLaw, IsProofInGame, ShowsInGame}
 use Rattle.hp_verdicts.specs.Decided.{IsLong, IsProof, RefusesMachine, RefusesProof, is_wide_contract}
 use Rattle.hp_verdicts.specs.Verified.{IsChecked, RefusesBy}
 use Rattle.hp_verdicts.specs.declared.error.ContractErr.{ContractErr}

@@ -5,12 +5,12 @@ use Rattle.hp_base.specs.Limits.{most}
 use Rattle.hp_base.specs.declared.limit.What.TheVariants.{Text}
 use Rattle.hp_abstract.specs.Machines.{IsMachineOf}
 use Rattle.hp_boolx.specs.Machine.{Machine}
-use Rattle.hp_certtext.specs.declared.error.CertErr.{CertErr}
-use Rattle.hp_certtext.specs.declared.error.CertErr.TheVariants as certificate
+use Rattle.hp_cert.specs.declared.certtext.error.CertErr.{CertErr}
+use Rattle.hp_cert.specs.declared.certtext.error.CertErr.TheVariants as certificate
 use Rattle.hp_compile.specs.Arranged.{IsArrangeable, IsArranged}
 use Rattle.hp_compile.specs.Judged.{IsJudged}
-use Rattle.hp_decided.specs.Acceptable.{IsDecidable}
-use Rattle.hp_decided.specs.Outcomes.{RefusesInGame}
+use Rattle.law_decided.specs.Acceptable.{IsDecidable}
+use Rattle.law_decided.specs.Outcomes.{RefusesInGame}
 use Rattle.hp_io.specs.Files.{Files, Holds}
 use Rattle.hp_io.specs.declared.console.Event.{Event}
 use Rattle.hp_obc.specs.Machines.{Obc}

@@ -6,7 +6,7 @@ use Rattle.hp_io.specs.Events.{put_events}
 use Rattle.hp_io.specs.Files.{Files}
 use Rattle.hp_io.specs.Told.{Grows}
 use Rattle.hp_io.specs.declared.console.Event.{Event}
-use Rattle.hp_clocking.specs.Clocking.{Assignment, node_with_clocks}
+use Rattle.hp_meaning.specs.Clocking.Clocking.{Assignment, node_with_clocks}
 use Rattle.hp_clocks.specs.Answers.{IsClocked}
 use Rattle.hp_clocks.specs.Writing.{AreWritten}
 use Rattle.hp_expand.specs.Numbering.{with_node, no_node, replaced_node, replaced_items}
@@ -14,7 +14,7 @@ use Rattle.hp_tree.specs.Meaning.{controls_of}
 use Rattle.hp_tree.specs.Programs.{Contract, Node}
 use Rattle.hp_tree.specs.declared.program.Item.{Item}
 use Rattle.hp_tree.specs.declared.program.Item.TheVariants.{TypeItem, NodeItem}
-use Rattle.hp_decided.specs.Outcomes.{OutcomesLaw, AreKeptInGames}
+use Rattle.law_decided.specs.Outcomes.{OutcomesLaw, AreKeptInGames}
 use Rattle.hp_verdicts.specs.Decided.{own_contract, has_contract, AreKept, Refuses}
 use Rattle.hp_verdicts.specs.declared.error.ContractErr.{ContractErr}
 use Rattle.hp_verdicts.specs.declared.error.ContractErr.TheVariants as contract

@@ -3,8 +3,8 @@ use Rattle.std.proofs.Common.{ℕ, List}
 use Rattle.std.specs.Prelude.{Option}
 use Rattle.hp_io.specs.Files.{Files}
 use Rattle.hp_tree.specs.declared.program.Item.{Item}
-use Rattle.hp_decided.specs.Laws.{IsAcceptedText}
-use Rattle.hp_decided.specs.Outcomes.{AreSaid, OutcomesLaw}
+use Rattle.law_decided.specs.Laws.{IsAcceptedText}
+use Rattle.law_decided.specs.Outcomes.{AreSaid, OutcomesLaw}
 use Rattle.hp_driver.specs.Outcome.{IsHeld}
 
 accepted_text : (files : Option Files) (file : List ℕ) (program : List Item) (held : IsHeld files file program) → IsAcceptedText held.text held.judged.program_of.tokens program held.clocked held.ranks

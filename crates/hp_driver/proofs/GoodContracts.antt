@@ -3,8 +3,8 @@ use Rattle.std.proofs.Common.{◌≡◌, ◌≢◌, ℕ, true, false, List, [], 
 use Rattle.std.specs.Prelude.{All, Contains, IsTrue, is_some}
 use Rattle.std.proofs.lemmas.List.Elements.{All-cons, All-contains, All-nil, Contains-append_right}
 use Rattle.hp_compile.specs.Arranged.{IsArranged}
-use Rattle.hp_decided.specs.Acceptable.{IsDecidable, IsAcceptable, AreAcceptable}
-use Rattle.hp_decided.specs.Outcomes.{SaysOfNode, RefusesInGame, RefusesInGames}
+use Rattle.law_decided.specs.Acceptable.{IsDecidable, IsAcceptable, AreAcceptable}
+use Rattle.law_decided.specs.Outcomes.{SaysOfNode, RefusesInGame, RefusesInGames}
 use Rattle.hp_expand.specs.Numbering.{no_node}
 use Rattle.hp_tree.specs.Programs.{Node}
 use Rattle.hp_tree.specs.declared.program.Item.{Item}

@@ -15,11 +15,11 @@ use Rattle.hp_obc.specs.Kinded.{kinds_in}
 use Rattle.hp_obc.specs.Machines.{Machine, Obc}
 use Rattle.hp_obc.specs.Steps.{machine_behaviour, run}
 use Rattle.hp_tree.specs.Reaction.{IsRun}
-use Rattle.hp_causal.specs.Runs.{NoControls}
-use Rattle.hp_timely.specs.Kinds.{kinds_of_decls}
-use Rattle.hp_history.specs.Texts.{IsAccepted, RunsNode, TextLaw, BuiltLaw, WithinLaw}
+use Rattle.hp_meaning.specs.Causal.Runs.{NoControls}
+use Rattle.law_wellmade.specs.Timely.Kinds.{kinds_of_decls}
+use Rattle.law_history.specs.Streams.Texts.{IsAccepted, RunsNode, TextLaw, BuiltLaw, WithinLaw}
 use Rattle.hp_machines.specs.NotBuilt.{HasNoMachines}
-use Rattle.hp_decided.specs.Promised.{KeepsContracts, RunLaw}
+use Rattle.law_decided.specs.Promised.{KeepsContracts, RunLaw}
 use Rattle.hp_exec.specs.Bounds.{longest_chain, instance_count}
 use Rattle.hp_driver.specs.Answers.{IsAnswer}
 use Rattle.hp_driver.specs.Controls.{some_variable, has_controls}

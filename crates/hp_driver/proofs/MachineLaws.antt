@@ -24,9 +24,9 @@ use Rattle.hp_obctext.proofs.FormMachines.{file_form}
 use Rattle.hp_obctext.specs.declared.error.ObcErr.{ObcErr}
 use Rattle.hp_obctext.specs.declared.error.ObcErr.TheVariants.{Syntax, Form, Limit as Longer}
 use Rattle.hp_tree.specs.declared.program.Item.{Item}
-use Rattle.hp_history.specs.Texts.{TextLaw, BuiltLaw, WithinLaw}
-use Rattle.hp_decided.specs.Promised.{RunLaw}
-use Rattle.hp_decided.specs.Outcomes.{AreKeptInGames}
+use Rattle.law_history.specs.Streams.Texts.{TextLaw, BuiltLaw, WithinLaw}
+use Rattle.law_decided.specs.Promised.{RunLaw}
+use Rattle.law_decided.specs.Outcomes.{AreKeptInGames}
 use Rattle.hp_driver.specs.Controls.{has_controls}
 use Rattle.hp_driver.specs.Command.{IsRunOf, IsExecOf, IsCheckOf, IsProveOf, IsVerifyOf, IsOverSource, IsOverContract, ReadsSource, IsOver, Writes, IsNoCommand, not_built_line, no_node_line}
 use Rattle.hp_driver.specs.Commanded.{SpellsTask}

@@ -20,11 +20,11 @@ use Rattle.hp_tree.specs.Programs.{TypeDecl, Node}
 use Rattle.hp_tree.specs.Meaning.{types_of, node_among}
 use Rattle.hp_tree.specs.declared.program.Item.{Item}
 use Rattle.hp_tree.specs.declared.program.Item.TheVariants.{TypeItem, NodeItem}
-use Rattle.hp_timely.specs.Kinds.{kind_of, kinds_of_decls}
+use Rattle.law_wellmade.specs.Timely.Kinds.{kind_of, kinds_of_decls}
 use Rattle.hp_base.specs.declared.ty.Ty.{Ty}
-use Rattle.hp_clocking.specs.Clocking.{base_written}
+use Rattle.hp_meaning.specs.Clocking.Clocking.{base_written}
 use Rattle.hp_machines.specs.Machined.{Heading, heading_of_machine, heading_of_node, headings_of}
-use Rattle.hp_decided.specs.Outcomes.{RefusesInGames}
+use Rattle.law_decided.specs.Outcomes.{RefusesInGames}
 use Rattle.hp_verdicts.specs.declared.error.ContractErr.{ContractErr}
 use Rattle.hp_verdicts.specs.declared.error.ContractErr.TheVariants as contract
 use Rattle.hp_driver.specs.Command.{IsRunOf, IsExecOf, IsOverSource, MakesMachines, IsOverContract, ReadsSource, IsOver}

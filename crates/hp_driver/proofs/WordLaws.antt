@@ -1,7 +1,7 @@
 -- Words of one form are of no other.
 use Rattle.std.proofs.Common.{◌≡◌, ◌<◌, ℕ, ◌⊎◌, inl, inr, Bool, true, false, List, [], ◌∷◌, length, sym, subst, refl, ap, ◌∙◌, arith}
 use Rattle.std.specs.Prelude.{codes}
-use Rattle.hp_words.specs.Words.{IsArgument}
+use Rattle.hp_arguments.specs.Words.{IsArgument}
 use Rattle.hp_driver.specs.Command.{IsOnTraceBy, IsOnCertBy, IsRunOf, IsExecOf, IsCheckOf, IsCompileOf, IsProveOf, IsVerifyOf, IsOverSource, MakesMachines, IsOverContract, Writes}
 
 same_first : (x y : List ℕ) (xs ys : List (List ℕ)) → x ∷ xs ≡ y ∷ ys → x ≡ y

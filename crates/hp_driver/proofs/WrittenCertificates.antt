@@ -2,17 +2,17 @@
 use Rattle.std.proofs.Common.{◌≡◌, ℕ, Bool, true, false, List, [], ◌∷◌, Some, refl, sym, ap, subst, ◌∙◌, if◌then◌else◌}
 use Rattle.std.specs.Prelude.{Option}
 use Rattle.std.specs.Str.{bytes_eq}
-use Rattle.hp_clocking.specs.Clocking.{node_with_clocks}
-use Rattle.hp_clocking.proofs.Judging.{one}
+use Rattle.hp_meaning.specs.Clocking.Clocking.{node_with_clocks}
+use Rattle.hp_meaning.proofs.ClockingLemmas.Judging.{one}
 use Rattle.hp_clocks.specs.Answers.{IsClocked}
 use Rattle.hp_clocks.specs.Writing.{AreWritten}
 use Rattle.hp_compile.specs.Arranged.{IsArranged}
 use Rattle.hp_expand.specs.Numbering.{replaced}
 use Rattle.hp_io.specs.Files.{Files}
-use Rattle.hp_lettered.specs.Laws.{TextNamesLaw, ReplacedNamesLaw, ClockedNamesLaw}
-use Rattle.hp_lettered.specs.Names.{NodeSpelled, IsName, IsSourceName}
-use Rattle.hp_lettered.proofs.TextNames.{program_so}
-use Rattle.hp_named.specs.Scoped.{EachNode}
+use Rattle.law_wellmade.specs.Lettered.Laws.{TextNamesLaw, ReplacedNamesLaw, ClockedNamesLaw}
+use Rattle.law_wellmade.specs.Lettered.Names.{NodeSpelled, IsName, IsSourceName}
+use Rattle.law_wellmade.proofs.LetteredLemmas.TextNames.{program_so}
+use Rattle.law_judged.specs.Named.Scoped.{EachNode}
 use Rattle.hp_tree.specs.Meaning.{node_among}
 use Rattle.hp_tree.specs.Programs.{Node}
 use Rattle.hp_tree.specs.declared.program.Item.{Item}

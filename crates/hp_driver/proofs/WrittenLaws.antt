@@ -10,8 +10,8 @@ use Rattle.hp_obc.specs.Steps.{machine_behaviour, run}
 use Rattle.hp_obctext.proofs.Answering.{same_machines}
 use Rattle.hp_tree.specs.Reaction.{IsRun}
 use Rattle.hp_tree.specs.declared.program.Item.{Item}
-use Rattle.hp_history.specs.Texts.{RunsNode, TextLaw}
-use Rattle.hp_decided.specs.Promised.{RunLaw}
+use Rattle.law_history.specs.Streams.Texts.{RunsNode, TextLaw}
+use Rattle.law_decided.specs.Promised.{RunLaw}
 use Rattle.hp_driver.specs.Answers.{IsAnswer}
 use Rattle.hp_driver.specs.Systems.{of_node, of_machine, inputs_of}
 use Rattle.hp_driver.specs.Values.{inputs_until, first_bad}

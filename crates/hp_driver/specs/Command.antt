@@ -3,7 +3,7 @@ use Rattle.std.specs.Prelude.{◌≡◌, ◌⊎◌, Bool, true, false, ℕ, List
 use Rattle.hp_cert.specs.declared.checking.Proved.{Proved}
 use Rattle.hp_cert.specs.declared.checking.Proved.TheVariants.{Win, Lose}
 use Rattle.hp_tree.specs.declared.program.Item.{Item}
-use Rattle.hp_words.specs.Words.{IsArgument}
+use Rattle.hp_arguments.specs.Words.{IsArgument}
 use Rattle.hp_print.specs.ProgramTokens.{canonical_text}
 
 -- the words NAME FILE NODE, or NAME FILE OUT

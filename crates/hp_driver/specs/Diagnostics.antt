@@ -5,15 +5,15 @@ use Rattle.hp_base.specs.declared.limit.Limit.{Limit}
 use Rattle.hp_base.specs.declared.limit.What.{What}
 use Rattle.hp_base.specs.declared.limit.What.TheVariants.{Calls, Text}
 use Rattle.hp_base.specs.declared.span.Span.{Span}
-use Rattle.hp_causal.specs.declared.point.Point.{Point}
+use Rattle.hp_meaning.specs.declared.causal.point.Point.{Point}
 use Rattle.hp_cause.specs.declared.error.CauseErr.{CauseErr}
 use Rattle.hp_cause.specs.declared.error.CauseErr.TheVariants as cause
-use Rattle.hp_certtext.specs.declared.error.CertErr.{CertErr}
-use Rattle.hp_certtext.specs.declared.error.CertErr.TheVariants as certificate
-use Rattle.hp_certtext.specs.declared.error.Cond.{Cond}
-use Rattle.hp_certtext.specs.declared.error.Cond.TheVariants as condition
-use Rattle.hp_certtext.specs.declared.error.Misfit.{Misfit}
-use Rattle.hp_certtext.specs.declared.error.Misfit.TheVariants as misfit
+use Rattle.hp_cert.specs.declared.certtext.error.CertErr.{CertErr}
+use Rattle.hp_cert.specs.declared.certtext.error.CertErr.TheVariants as certificate
+use Rattle.hp_cert.specs.declared.certtext.error.Cond.{Cond}
+use Rattle.hp_cert.specs.declared.certtext.error.Cond.TheVariants as condition
+use Rattle.hp_cert.specs.declared.certtext.error.Misfit.{Misfit}
+use Rattle.hp_cert.specs.declared.certtext.error.Misfit.TheVariants as misfit
 use Rattle.hp_clocks.specs.declared.error.ClockErr.{ClockErr}
 use Rattle.hp_clocks.specs.declared.error.ClockErr.TheVariants as clock
 use Rattle.hp_init.specs.declared.error.InitErr.{InitErr}

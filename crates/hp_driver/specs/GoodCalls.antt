@@ -5,7 +5,7 @@ use Rattle.hp_boolx.specs.Machine.{Machine}
 use Rattle.hp_cert.specs.declared.checking.Proved.{Proved}
 use Rattle.hp_compile.specs.Arranged.{IsArrangeable, IsArranged}
 use Rattle.hp_compile.specs.Judged.{IsJudged}
-use Rattle.hp_decided.specs.Acceptable.{IsDecidable, AreAcceptable}
+use Rattle.law_decided.specs.Acceptable.{IsDecidable, AreAcceptable}
 use Rattle.hp_io.specs.Faults.{Faults, IsCalm}
 use Rattle.hp_io.specs.Files.{Files}
 use Rattle.hp_obc.specs.Machines.{Obc}

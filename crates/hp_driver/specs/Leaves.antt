@@ -11,7 +11,7 @@ use Rattle.hp_obctext.specs.Answers.{IsTextOf}
 use Rattle.hp_obctext.specs.Labels.{file_of}
 use Rattle.hp_obctext.specs.Files.{file_words}
 use Rattle.hp_obctext.specs.Words.{printed}
-use Rattle.hp_decided.specs.Outcomes.{IsProofInGame}
+use Rattle.law_decided.specs.Outcomes.{IsProofInGame}
 use Rattle.hp_driver.specs.Command.{IsCompileOf, IsProveOf, IsOver, Writes}
 use Rattle.hp_driver.specs.Outcome.{AreCompiled, HasContract}
 

@@ -3,7 +3,7 @@ use Rattle.std.specs.Prelude.{ℕ, List, [], reverse, None, Some}
 use Rattle.hp_base.specs.Kinds.{KindData}
 use Rattle.hp_tree.specs.declared.program.Item.{Item}
 use Rattle.hp_tree.specs.Meaning.{types_of, node_among}
-use Rattle.hp_timely.specs.Kinds.{kinds_of_decls}
+use Rattle.law_wellmade.specs.Timely.Kinds.{kinds_of_decls}
 
 -- the kinds of the inputs and of the outputs of the node of a name, in declared order
 abbrev pub input_kinds : List Item → List ℕ → List KindData

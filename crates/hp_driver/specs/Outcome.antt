@@ -27,11 +27,11 @@ use Rattle.hp_obc.specs.Machines.{Obc, Machine}
 use Rattle.hp_obctext.specs.Answers.{IsTextOf, BreaksForm}
 use Rattle.hp_obctext.specs.Refusals.{IsRefused}
 use Rattle.hp_cert.specs.declared.checking.Proved.{Proved}
-use Rattle.hp_certtext.specs.declared.error.CertErr.{CertErr}
-use Rattle.hp_certtext.specs.declared.error.CertErr.TheVariants as certificate
+use Rattle.hp_cert.specs.declared.certtext.error.CertErr.{CertErr}
+use Rattle.hp_cert.specs.declared.certtext.error.CertErr.TheVariants as certificate
 use Rattle.hp_tree.specs.Meaning.{node_among}
 use Rattle.hp_tree.specs.Programs.{Node}
-use Rattle.hp_decided.specs.Outcomes.{AreKeptInGames, RefusesInGames, RefusesInGame, IsProofInGame, ShowsInGame}
+use Rattle.law_decided.specs.Outcomes.{AreKeptInGames, RefusesInGames, RefusesInGame, IsProofInGame, ShowsInGame}
 use Rattle.hp_verdicts.specs.Decided.{IsLong, has_contract, is_wide_contract}
 use Rattle.hp_verdicts.specs.Verified.{HasMachine, RefusesCert}
 use Rattle.hp_verdicts.specs.declared.error.ContractErr.{ContractErr}

@@ -9,7 +9,7 @@ use Rattle.hp_obc.specs.Steps.{machine_behaviour, run}
 use Rattle.hp_obc.specs.declared.machine.Var.{Var}
 use Rattle.hp_tree.specs.Reaction.{IsRun}
 use Rattle.hp_tree.specs.declared.program.Item.{Item}
-use Rattle.hp_decided.specs.Promised.{KeepsContracts}
+use Rattle.law_decided.specs.Promised.{KeepsContracts}
 use Rattle.hp_driver.specs.NodeKinds.{input_kinds, output_kinds}
 
 -- a node of a program, or a machine of a file of machines, by its name

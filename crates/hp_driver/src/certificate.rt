@@ -7,7 +7,7 @@ ghost use Rattle.hp_io.specs.Told.{Grows};
 ghost use Rattle.hp_compile.specs.Refusals.{IsRefused};
 ghost use Rattle.hp_compile.specs.declared.refusal.Refusal.TheVariants as refusal;
 ghost use Rattle.hp_tree.specs.Meaning.{node_among};
-ghost use Rattle.hp_certtext.specs.declared.error.CertErr.TheVariants as certificate;
+ghost use Rattle.hp_cert.specs.declared.certtext.error.CertErr.TheVariants as certificate;
 ghost use Rattle.hp_driver.specs.Command.{IsProveOf, IsVerifyOf, verdict_text};
 ghost use Rattle.hp_driver.specs.Diagnostics.{no_contract_line, certificate_line, certificate_status};
 ghost use Rattle.hp_driver.specs.Follows.{Accepts, IsOrdered, TextOutcome, NodeOutcome, ContractOutcome, MachineOutcome, CertOutcome};
@@ -27,13 +27,13 @@ use crate::status::Status;
 use hp_base::{Span, What};
 use hp_boolx::BoolMachine;
 use hp_cause::Ordered;
-use hp_certtext::CertErr;
+use hp_cert::certtext::CertErr;
 use hp_compile::{Refusal, arrange, judge};
-use hp_decided::outcomes_are_so;
 use hp_io::{Console, Folder, ReadErr, Sink};
 use hp_tree::{Item, Node, Program};
 use hp_verdicts::{Proved, machine_of, prove, verify};
 use itoa::Buffer;
+use law_decided::outcomes_are_so;
 use std::alloc::{AllocError, Global};
 
 /// The program of a text, arranged and ordered, or why it has none.

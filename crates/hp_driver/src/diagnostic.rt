@@ -4,14 +4,14 @@ ghost use Rattle.hp_base.specs.Limits.{most, word};
 ghost use Rattle.hp_driver.specs.Diagnostics.{place_text, where_text, is_text, heading, fault_text, name_line, type_line, counts_text, passed_line, most_executed, executor_line, shape_word, shape_line, count_line, expand_line, unit_line, clock_line, init_line, source_name, point_text, points_text, cause_line, refusal_line, too_long_line, behind_forced, forced_line, contract_line, no_contract_line, misfit_text, condition_text, certificate_line};
 
 use hp_base::{Limit, Span, What};
-use hp_causal::Point;
 use hp_cause::CauseErr;
-use hp_certtext::{CertErr, Cond, Misfit};
+use hp_cert::certtext::{CertErr, Cond, Misfit};
 use hp_clocks::ClockErr;
 use hp_compile::{Place, Refusal};
 use hp_exec::{MAX_CALLS, MAX_INSTANCES};
 use hp_expand::{ExpandErr, Shape};
 use hp_init::InitErr;
+use hp_meaning::causal::Point;
 use hp_names::NameErr;
 use hp_typing::{Is, TypeErr};
 use hp_verdicts::ContractErr;

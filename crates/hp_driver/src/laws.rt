@@ -2,9 +2,9 @@
 ghost use Rattle.hp_driver.specs.GoodCalls.{PlainLaw, ProvedLaw};
 ghost use Rattle.hp_driver.specs.Written.{WrittenLaw};
 
-use hp_decided::machines_keep_contracts;
-use hp_history::machines_run_the_nodes_of_texts;
-use hp_lettered::names_are_spelled;
+use law_decided::machines_keep_contracts;
+use law_history::streams::machines_run_the_nodes_of_texts;
+use law_wellmade::lettered::names_are_spelled;
 
 /// `exec` says of the text that `compile` writes what `run` says of its program.
 pub fn written_machines_agree_with_nodes()

@@ -16,12 +16,12 @@ use crate::report::report;
 use crate::run::run_trace;
 use crate::status::Status;
 use hp_base::{Limit, Span};
-use hp_decided::machines_keep_contracts;
 use hp_exec::{Exec, ExecErr};
-use hp_history::{machines_of_texts_are_within_limits, machines_run_the_nodes_of_texts};
 use hp_io::{Console, Sink};
 use hp_obc::Obc;
 use hp_obctext::{ObcErr, read_obc};
+use law_decided::machines_keep_contracts;
+use law_history::streams::{machines_of_texts_are_within_limits, machines_run_the_nodes_of_texts};
 use std::alloc::Global;
 
 /// Reports the place of the word for which a text is refused.

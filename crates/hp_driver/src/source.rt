@@ -24,8 +24,6 @@ use crate::status::Status;
 use crate::words::Task;
 use hp_cause::Ordered;
 use hp_compile::{arrange, judge};
-use hp_decided::outcomes_are_so;
-use hp_history::machines_of_texts_are_built;
 use hp_io::{Console, Folder, Sink, WriteErr};
 use hp_machines::{MachineErr, machines};
 use hp_obc::Obc;
@@ -33,6 +31,8 @@ use hp_obctext::print_obc;
 use hp_print::print;
 use hp_tree::{Contract, Item, Program};
 use hp_verdicts::decide;
+use law_decided::outcomes_are_so;
+use law_history::streams::machines_of_texts_are_built;
 use std::alloc::{AllocError, Global};
 
 const ACCEPTED: &[u8] = b"accepted\n";

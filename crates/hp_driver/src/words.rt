@@ -4,8 +4,8 @@ ghost use Rattle.std.specs.String.{string_bytes};
 ghost use Rattle.hp_driver.specs.Command.{IsOnTraceBy, IsOnCertBy, IsPlainCheckOf, IsPrintOf, IsNoSourceCommand, IsNoCertCommand, IsNoCommand};
 ghost use Rattle.hp_driver.specs.Commanded.{SpellsTask, Spells, file_of, limit_of};
 
+use hp_arguments::{one_argument, three_arguments, two_arguments};
 use hp_base::What;
-use hp_words::{one_argument, three_arguments, two_arguments};
 use std::alloc::{AllocError, Global};
 
 const CHECK: &str = "check";

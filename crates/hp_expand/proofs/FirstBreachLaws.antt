@@ -2,8 +2,8 @@
 use Rattle.std.proofs.Common.{◌≡◌, Bool, true, false, if◌then◌else◌, List, [], ◌∷◌, Option, None, Some, ◌⊎◌, inl, inr, fold, refl, sym, ap, subst, ◌∙◌, arith}
 use Rattle.std.proofs.lemmas.Bool.Decides.{nat_tests}
 use Rattle.hp_base.specs.declared.span.Span.{Span}
-use Rattle.hp_first.specs.First.{is_before, itself, sooner, merged}
-use Rattle.hp_first.proofs.FirstLaws.{not_before_trans}
+use Rattle.hp_base.specs.First.First.{is_before, itself, sooner, merged}
+use Rattle.hp_base.proofs.FirstLemmas.FirstLaws.{not_before_trans}
 use Rattle.hp_expand.specs.Shapes.{Found, Breach, Mark, plain_at, bound_at, integer_at, nothing, see, found_after, breach_at, place_of, breach_among, in_contract, in_block}
 use Rattle.hp_expand.specs.declared.error.Shape.{Shape}
 use Rattle.hp_expand.specs.declared.error.Shape.TheVariants.{Call, Inline, WrongType}

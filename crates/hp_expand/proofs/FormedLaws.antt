@@ -9,8 +9,8 @@ use Rattle.hp_base.specs.declared.span.Span.{Span}
 use Rattle.hp_tree.specs.declared.program.Item.{Item}
 use Rattle.hp_tree.specs.declared.program.Item.TheVariants.{TypeItem, NodeItem}
 use Rattle.hp_tree.specs.Programs.{Node}
-use Rattle.hp_first.specs.First.{itself, merged}
-use Rattle.hp_first.proofs.FirstLaws.{sooner-found, merged-none}
+use Rattle.hp_base.specs.First.First.{itself, merged}
+use Rattle.hp_base.proofs.FirstLemmas.FirstLaws.{sooner-found, merged-none}
 use Rattle.hp_expand.specs.Sizes as sizes
 use Rattle.hp_expand.specs.Sizes.{Size}
 use Rattle.hp_expand.specs.Shapes as shapes

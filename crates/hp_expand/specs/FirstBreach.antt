@@ -2,7 +2,7 @@
 use Rattle.std.specs.Prelude.{◌≡◌, ◌⊎◌, ℕ, false, List, [], ◌∷◌, Some}
 use Rattle.hp_base.specs.declared.span.Span.{Span}
 use Rattle.hp_tree.specs.Programs.{Node}
-use Rattle.hp_first.specs.First.{is_before}
+use Rattle.hp_base.specs.First.First.{is_before}
 use Rattle.hp_expand.specs.Shapes.{Form, Breach, Mark, plain_at, bound_at, integer_at, in_contract, in_block, breach_of}
 use Rattle.hp_expand.specs.declared.error.Shape.{Shape}
 use Rattle.hp_expand.specs.declared.error.Shape.TheVariants.{Call, Inline, WrongType}

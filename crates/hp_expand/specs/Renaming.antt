@@ -6,7 +6,7 @@ use Rattle.hp_tree.specs.declared.decl.Cons.{Cons}
 use Rattle.hp_tree.specs.Expressions.{Expr, Exprs, Parts}
 use Rattle.hp_tree.specs.Blocks.{Decl, Block, block, Eqns, no_eqn, more_eqns, Eqn, define, switch, reset, automaton, Arms, no_arm, more_arms, States, no_state, more_states}
 use Rattle.hp_tree.specs.Programs.{Contract, Node}
-use Rattle.hp_renaming.specs.Renaming as parts
+use Rattle.hp_tables.specs.Renaming.Renaming as parts
 
 -- by a function on names, those that are read and those that are declared
 module _ (to : List ℕ → List ℕ) where

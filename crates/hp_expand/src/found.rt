@@ -4,7 +4,7 @@ ghost use Rattle.hp_expand.specs.Shapes.{nothing, plain_at, bound_at, integer_at
 
 use crate::error::Shape;
 use hp_base::Span;
-use hp_first::{Placed, note, note_all};
+use hp_base::first::{Placed, note, note_all};
 
 /// The first places in the text, of each kind.
 #[derive(Clone, Copy, Debug)]

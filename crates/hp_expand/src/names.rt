@@ -5,7 +5,7 @@ ghost use Rattle.hp_expand.specs.Numbering.{one_if_new, new_in_decls};
 ghost use Rattle.hp_expand.specs.Layers.{no_number, put_at, put_if_new, numbers_from, says, number_in, name_by, said};
 
 use hp_base::Name;
-use hp_renaming::Renaming;
+use hp_tables::renaming::Renaming;
 use hp_tree::Decl;
 use indexmap::IndexMap;
 use itoa::Buffer;

@@ -9,7 +9,7 @@ ghost use Rattle.hp_expand.specs.Layers.{said, said_in};
 
 use crate::names::{Layer, Naming};
 use crate::rename::rename_transitions;
-use hp_renaming::{rename_decls, rename_expr, rename_left};
+use hp_tables::renaming::{rename_decls, rename_expr, rename_left};
 use hp_tree::{Arm, Block, Contract, Eqn, Expr, Node, State, copy_decls};
 use std::alloc::{AllocError, Global};
 

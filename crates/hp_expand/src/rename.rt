@@ -6,7 +6,7 @@ ghost use Rattle.hp_expand.specs.Renamed.{renamed_arm, renamed_state};
 ghost use Rattle.hp_expand.specs.Layers.{said};
 
 use crate::names::Naming;
-use hp_renaming::{rename_decls, rename_expr, rename_left};
+use hp_tables::renaming::{rename_decls, rename_expr, rename_left};
 use hp_tree::{Arm, Block, Decl, Eqn, State, Trans};
 use std::alloc::{AllocError, Global};
 

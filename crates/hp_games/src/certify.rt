@@ -1,13 +1,13 @@
 //! Certificates: made of what is found of a machine, and read from texts.
 ghost use Rattle.std.specs.Prelude.{◌≡◌, ◌+◌, length, IfOk};
 ghost use Rattle.hp_boolx.specs.Machine.{game, variables};
-ghost use Rattle.hp_certtext.specs.Certificates.{AreLines, IsClaim};
+ghost use Rattle.hp_cert.specs.Certtext.Certificates.{AreLines, IsClaim};
 ghost use Rattle.hp_synth.specs.Verdicts.{IsSolved};
 
 use hp_boolx::BoolMachine;
+use hp_cert::certmade::{lose_cert, win_cert};
+use hp_cert::certtext::{Cert, CertErr, Cond, Misfit, read_cert, write_cert};
 use hp_cert::{Proved, check};
-use hp_certmade::{lose_cert, win_cert};
-use hp_certtext::{Cert, CertErr, Cond, Misfit, read_cert, write_cert};
 use hp_control::functions;
 use hp_synth::{Solved, Verdict, solve};
 use std::alloc::Global;

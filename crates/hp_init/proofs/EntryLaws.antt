@@ -5,12 +5,12 @@ use Rattle.std.proofs.lemmas.List.{append-nil, length-append, take-append-le}
 use Rattle.std.proofs.Math.Seq.{take-length}
 use Rattle.hp_tree.specs.Blocks.{Decl, block, Eqns, Eqn}
 use Rattle.hp_tree.specs.Meaning.{some_defines, names_of as declared}
-use Rattle.hp_defining.specs.declared.layer.Layer.{Layer}
-use Rattle.hp_defining.specs.Layers.{numbered, says, says_numbers, says_seen, sight}
-use Rattle.hp_defining.specs.Names.{names_in, names_of}
+use Rattle.hp_tables.specs.declared.defining.layer.Layer.{Layer}
+use Rattle.hp_tables.specs.Defining.Layers.{numbered, says, says_numbers, says_seen, sight}
+use Rattle.hp_tables.specs.Defining.Names.{names_in, names_of}
 use Rattle.hp_init.specs.Asks.{Sight, Seen, over, seen_in}
 use Rattle.hp_init.specs.Gathered.{front, values_within}
-use Rattle.hp_defining.proofs.ListedLaws.{listed_in, listed_of}
+use Rattle.hp_tables.proofs.DefiningLemmas.ListedLaws.{listed_in, listed_of}
 use Rattle.hp_init.proofs.TableLaws.{sight-numbers, sight-seen}
 
 abbrev pub seen_as : List Layer → List Layer → Seen

@@ -10,7 +10,7 @@ use Rattle.hp_tree.specs.Blocks.{Decl, Block, block, Eqns, no_eqn, more_eqns, Eq
 use Rattle.hp_tree.specs.Programs.{Node}
 use Rattle.hp_tree.specs.Instant.{Body, Named, Equations, Head, Tail, Arms as ArmsOf, States as StatesOf, Place}
 use Rattle.hp_tree.specs.Meaning.{declares, defines, some_defines, names_of as declared}
-use Rattle.hp_causal.specs.Points.{span_of}
+use Rattle.hp_meaning.specs.Causal.Points.{span_of}
 use Rattle.hp_init.specs.declared.ask.Source.{Source}
 use Rattle.hp_init.specs.declared.ask.Source.TheVariants.{Always, Class}
 use Rattle.hp_init.specs.declared.ask.Ask.{Ask}
@@ -18,7 +18,7 @@ use Rattle.hp_init.specs.declared.ask.Ask.TheVariants.{Follows, First}
 use Rattle.hp_init.specs.Classes.{Classes, Assignment, Known, is_second, or_first, with_declared, known_in, known_within, known_outputs, VariableFollows, LeftsFollow, BlockFollows, EqnsFollow, EqnFollows, ArmsFollow, StatesFollow}
 use Rattle.hp_init.specs.Wants.{some_must}
 use Rattle.hp_init.specs.Names.{Numbering, size, size_of, number_block, number_eqns, number_eqn, number_arms, number_states}
-use Rattle.hp_defining.specs.Layers.{numbered}
+use Rattle.hp_tables.specs.Defining.Layers.{numbered}
 use Rattle.hp_init.specs.Asks.{Sight, Seen, Goes, to_want, to_nothing, over, seen_in, seen_within, seen_outputs, tell, tell_name, of_expr, of_exprs, of_parts, of_path, of_clock, of_decls, targets_of, of_test, of_tests, of_told, of_block, of_eqns, of_eqn, of_arms, of_states, Valued, value_of, ObeysAll}
 
 -- ---- what is obeyed

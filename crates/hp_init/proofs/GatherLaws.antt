@@ -11,11 +11,11 @@ use Rattle.hp_tree.specs.declared.block.Eqn as code_eqn
 use Rattle.hp_tree.specs.declared.block.Arm as code_arm
 use Rattle.hp_tree.specs.declared.block.State as code_state
 use Rattle.hp_init.specs.declared.ask.Ask.{Ask}
-use Rattle.hp_defining.specs.declared.layer.Layer.{Layer}
+use Rattle.hp_tables.specs.declared.defining.layer.Layer.{Layer}
 use Rattle.hp_init.specs.declared.gather.Gathering.{Gathering}
 use Rattle.hp_init.specs.Names.{size_of_contract, size, size_of, size_of_all, size_of_arms, size_of_states}
 use Rattle.hp_tree.specs.Meaning.{names_of as declared}
-use Rattle.hp_defining.specs.Layers.{numbered, says, says_numbers, sight}
+use Rattle.hp_tables.specs.Defining.Layers.{numbered, says, says_numbers, sight}
 use Rattle.hp_init.specs.Asks.{Sight, Seen, over, of_contract, of_block, of_eqn, of_eqns, of_arms, of_states, of_test, of_tests, seen_in}
 use Rattle.hp_init.specs.Gathered.{front, seen_of_outputs, seen_at, seen_outside, values_within, of_state}
 use Rattle.hp_init.specs.Goals.{with_more}

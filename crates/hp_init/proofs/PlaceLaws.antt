@@ -8,7 +8,7 @@ use Rattle.hp_tree.specs.Programs.{Contract, Node}
 use Rattle.hp_tree.specs.Instant.{Step, Body, Observer, Named, Equations, Head, Tail, Arms as ArmsOf, States as StatesOf, Place}
 use Rattle.hp_init.specs.Names.{size, size_of, size_of_all, size_of_arms, size_of_states, number_block, number_eqns, number_eqn, number_arms, number_states, number_contract, size_of_contract, number_node}
 use Rattle.hp_tree.specs.Meaning.{names_of as declared}
-use Rattle.hp_defining.specs.Layers.{numbered}
+use Rattle.hp_tables.specs.Defining.Layers.{numbered}
 
 -- the place of a number
 abbrev pub nth : List Place → ℕ → Option Place

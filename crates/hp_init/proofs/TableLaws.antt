@@ -6,12 +6,12 @@ use Rattle.hp_base.specs.declared.span.Span.{Span}
 use Rattle.hp_tree.specs.Blocks.{Decl}
 use Rattle.hp_tree.specs.Meaning.{declares, names_of as declared}
 use Rattle.hp_init.specs.Wants.{must_be_first, some_must}
-use Rattle.hp_defining.specs.declared.layer.Layer.{Layer}
-use Rattle.hp_defining.specs.Layers.{numbered, put_at, no_entry, says, says_numbers, says_seen, said, or_none, sight}
-use Rattle.hp_defining.specs.Names.{listed}
+use Rattle.hp_tables.specs.declared.defining.layer.Layer.{Layer}
+use Rattle.hp_tables.specs.Defining.Layers.{numbered, put_at, no_entry, says, says_numbers, says_seen, said, or_none, sight}
+use Rattle.hp_tables.specs.Defining.Names.{listed}
 use Rattle.hp_init.specs.Asks.{Sight, over}
 use Rattle.hp_init.specs.Tables.{declared_in}
-use Rattle.hp_defining.proofs.LayerLaws.{first_said, said-last}
+use Rattle.hp_tables.proofs.DefiningLemmas.LayerLaws.{first_said, said-last}
 
 -- ---- declarations
 

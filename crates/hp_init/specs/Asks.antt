@@ -7,13 +7,13 @@ use Rattle.hp_tree.specs.Expressions.{Expr, constant, variable, last_of, one, tw
 use Rattle.hp_tree.specs.Blocks.{Decl, Block, block, Eqns, no_eqn, more_eqns, Eqn, define, switch, reset, automaton, Arms, no_arm, more_arms, States, no_state, more_states}
 use Rattle.hp_tree.specs.Programs.{Contract, Node}
 use Rattle.hp_tree.specs.Meaning.{defines, some_defines, names_of as declared}
-use Rattle.hp_causal.specs.Points.{span_of}
+use Rattle.hp_meaning.specs.Causal.Points.{span_of}
 use Rattle.hp_init.specs.declared.ask.Source.{Source}
 use Rattle.hp_init.specs.declared.ask.Source.TheVariants.{Always, Class}
 use Rattle.hp_init.specs.declared.ask.Ask.{Ask}
 use Rattle.hp_init.specs.declared.ask.Ask.TheVariants.{Follows, First}
 use Rattle.hp_init.specs.Names.{size, size_of, size_of_contract}
-use Rattle.hp_defining.specs.Layers.{numbered}
+use Rattle.hp_tables.specs.Defining.Layers.{numbered}
 use Rattle.hp_init.specs.Wants.{some_must}
 
 -- the number of the variable of a name; a name without one is First

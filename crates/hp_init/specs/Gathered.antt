@@ -6,7 +6,7 @@ use Rattle.hp_tree.specs.Meaning.{defines, names_of as declared}
 use Rattle.hp_init.specs.declared.ask.Ask.{Ask}
 use Rattle.hp_init.specs.declared.gather.Gathering.{Gathering}
 use Rattle.hp_init.specs.Names.{size_of_all}
-use Rattle.hp_defining.specs.Layers.{numbered, sight}
+use Rattle.hp_tables.specs.Defining.Layers.{numbered, sight}
 use Rattle.hp_init.specs.Asks.{Sight, Seen, seen_in, of_decls, of_eqns, of_block, of_tests}
 
 -- all but the last

@@ -5,7 +5,7 @@ use Rattle.hp_tree.specs.Blocks.{Decl, Block, block, Eqns, no_eqn, more_eqns, Eq
 use Rattle.hp_tree.specs.Programs.{Contract, Node}
 use Rattle.hp_tree.specs.Instant.{Body, Observer, Named, Equations, Head, Tail, Arms as ArmsOf, States as StatesOf, Place}
 use Rattle.hp_tree.specs.Meaning.{names_of as declared}
-use Rattle.hp_defining.specs.Layers.{numbered}
+use Rattle.hp_tables.specs.Defining.Layers.{numbered}
 
 -- ---- the numbers of the variables of a node: its outputs, the variables of its contract, and those of its body; those of a block first, and then those of its parts, in order
 

@@ -4,8 +4,8 @@ use Rattle.std.specs.Borrow.{Bor}
 use Rattle.std.specs.Str.{bytes_eq}
 use Rattle.indexmap.specs.IndexMap.{IndexMap, get_by}
 use Rattle.hp_tree.specs.Blocks.{Decl}
-use Rattle.hp_defining.specs.declared.layer.Layer.{Layer}
-use Rattle.hp_defining.specs.Layers.{numbered}
+use Rattle.hp_tables.specs.declared.defining.layer.Layer.{Layer}
+use Rattle.hp_tables.specs.Defining.Layers.{numbered}
 use Rattle.hp_init.specs.Asks.{Sight}
 
 -- ---- the variables that a block declares, and whether each is declared `last`

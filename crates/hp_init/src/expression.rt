@@ -2,13 +2,13 @@
 ghost use Rattle.std.specs.Prelude.{◌≡◌, map, OnOk};
 ghost use Rattle.hp_init.specs.declared.ask.Ask.TheVariants.{Follows};
 ghost use Rattle.hp_tree.specs.Expressions.{exprs_of, parts_of};
-ghost use Rattle.hp_defining.specs.Layers.{sight};
+ghost use Rattle.hp_tables.specs.Defining.Layers.{sight};
 ghost use Rattle.hp_init.specs.Asks.{tell, tell_name, of_expr, of_exprs, of_parts, of_test, of_tests};
 ghost use Rattle.hp_init.specs.Goals.{goal_of, with_more};
 
 use crate::ask::{Ask, Source};
 use hp_base::Span;
-use hp_defining::{Layer, sight};
+use hp_tables::defining::{Layer, sight};
 use hp_tree::{Cons, Expr, ExprKind, Trans};
 use std::alloc::AllocError;
 

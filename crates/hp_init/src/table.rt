@@ -1,7 +1,7 @@
 //! How a block declares names.
 ghost use Rattle.std.specs.Prelude.{◌≡◌, IfOk, OnOk};
 ghost use Rattle.hp_init.specs.Tables.{holds, declared_in};
-ghost use Rattle.hp_defining.specs.Layers.{put_at};
+ghost use Rattle.hp_tables.specs.Defining.Layers.{put_at};
 ghost use Rattle.hp_init.specs.Wants.{must_be_first};
 ghost use Rattle.hp_tree.specs.Meaning.{declares};
 

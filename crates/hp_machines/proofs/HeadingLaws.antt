@@ -23,14 +23,14 @@ use Rattle.hp_tree.specs.declared.program.Item.{Item}
 use Rattle.hp_tree.specs.declared.program.Item.TheVariants.{TypeItem, NodeItem}
 use Rattle.hp_automata.specs.Lowering.{Enumerations, Types, lowered_item, lowered_contract, lowered_program, enumerations}
 use Rattle.hp_automata.specs.Lowering as lowering
-use Rattle.hp_made.specs.Making.{type_number, flat_type}
+use Rattle.law_equations.specs.Made.Making.{type_number, flat_type}
 use Rattle.hp_complete.specs.Declaring.{known_of}
 use Rattle.hp_complete.specs.Made.{AreMadeOf}
 use Rattle.hp_complete.specs.Signatures.{numbered, type_names, places_of, variables_of, IsSigned, AreFlat}
 use Rattle.hp_toobc.specs.Making.{declared}
 use Rattle.hp_toobc.specs.Tables.{variable_at, type_at, type_of}
 use Rattle.hp_machines.specs.Machined.{AreMachinesOf, Heading, heading_of_machine, heading_of_node, headings_of, vars_of}
-use Rattle.hp_made.specs.Types.{obc_type_of, obc_types_of}
+use Rattle.law_equations.specs.Made.Types.{obc_type_of, obc_types_of}
 use Rattle.hp_machines.specs.Flattened.{heading_of_flat}
 use Rattle.hp_machines.specs.Making.{AreMade}
 use Rattle.hp_machines.proofs.MakingLaws.{headings-made}

@@ -8,15 +8,15 @@ use Rattle.hp_obc.specs.Machines.{ObcType, Machine}
 use Rattle.hp_tree.specs.declared.program.Item.{Item}
 use Rattle.hp_automata.specs.Lowering.{lowered_program}
 use Rattle.hp_flat.specs.Nodes.{FlatNode}
-use Rattle.hp_made.specs.Types.{obc_types_of}
+use Rattle.law_equations.specs.Made.Types.{obc_types_of}
 use Rattle.hp_complete.specs.Declaring.{known_of}
 use Rattle.hp_complete.specs.Made.{AreMadeOf}
 use Rattle.hp_complete.specs.Signatures.{AreFlat, places_of}
-use Rattle.hp_regular.specs.Regular.{EqnsRegular}
+use Rattle.hp_form.specs.Regular.Regular.{EqnsRegular}
 use Rattle.hp_machines.specs.Making.{AreMade}
-use Rattle.hp_formed.specs.declared.error.FormErr.{FormErr}
-use Rattle.hp_formed.specs.declared.error.FormErr.TheVariants as form
-use Rattle.hp_formed.specs.declared.error.FormErr.TheVariants.{NoForm}
+use Rattle.hp_form.specs.declared.error.FormErr.{FormErr}
+use Rattle.hp_form.specs.declared.error.FormErr.TheVariants as form
+use Rattle.hp_form.specs.declared.error.FormErr.TheVariants.{NoForm}
 use Rattle.hp_machines.specs.declared.error.MachineErr.{MachineErr}
 use Rattle.hp_machines.specs.declared.error.MachineErr.TheVariants.{NotBuilt, OutOfMemory}
 use Rattle.hp_machines.specs.NotBuilt.{AreEquations, HasNoMachines, IsOfForm, SaysNotBuilt}

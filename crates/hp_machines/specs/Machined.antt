@@ -9,7 +9,7 @@ use Rattle.hp_complete.specs.Made.{AreMadeOf}
 use Rattle.hp_complete.specs.Signatures.{AreFlat, places_of}
 use Rattle.hp_flat.specs.Nodes.{FlatNode}
 use Rattle.hp_machines.specs.Making.{AreMade}
-use Rattle.hp_made.specs.Types.{obc_types_of}
+use Rattle.law_equations.specs.Made.Types.{obc_types_of}
 use Rattle.hp_tree.specs.Blocks.{Decl}
 use Rattle.hp_tree.specs.Meaning.{controls_of}
 use Rattle.hp_tree.specs.Programs.{Node}

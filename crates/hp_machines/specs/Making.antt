@@ -10,7 +10,7 @@ use Rattle.hp_normal.specs.Retargeting.{with_eqns}
 use Rattle.hp_normal.specs.Normal.{normal}
 use Rattle.hp_toobc.specs.Making.{machine_of}
 use Rattle.hp_fuse.specs.Fusing.{fused_machine}
-use Rattle.hp_regular.specs.Regular.{IsRegular}
+use Rattle.hp_form.specs.Regular.Regular.{IsRegular}
 
 -- The equations of a node stand in the order of their places, needless copies are taken away, each equation becomes commands, and neighbouring cases are joined.
 pub record IsArrangedAs (types : List ObcType) (n : FlatNode) (m : Machine) : Type 0 where

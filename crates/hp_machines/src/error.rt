@@ -1,5 +1,5 @@
 use hp_complete::FlattenErr;
-use hp_formed::FormErr;
+use hp_form::FormErr;
 use std::alloc::AllocError;
 use thiserror::Error;
 

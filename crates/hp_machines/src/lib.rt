@@ -12,7 +12,7 @@ mod types;
 pub use error::MachineErr;
 use hp_automata::lower;
 use hp_complete::flatten;
-use hp_formed::formed;
+use hp_form::formed;
 use hp_obc::Obc;
 use hp_tree::Program;
 use node::machines_of;

@@ -4,14 +4,14 @@ ghost use Rattle.std.specs.List.{AllByRecursion, filter};
 ghost use Rattle.hp_obc.specs.Machines.{Machine as MachineSeen};
 ghost use Rattle.hp_machines.specs.Making.{AreMade, IsArrangedAs, IsMachineOf, defines_some, giving};
 ghost use Rattle.hp_machines.specs.NotBuilt.{SaysNotBuilt};
-ghost use Rattle.hp_regular.specs.Regular.{EqnsRegular};
+ghost use Rattle.hp_form.specs.Regular.Regular.{EqnsRegular};
 
 use crate::error::MachineErr;
 use hp_flat::{FlatEqn, FlatNode};
+use hp_form::regular::{is_regular, is_small};
 use hp_fuse::fuse;
 use hp_normal::normalise;
 use hp_obc::{Machine, ObcType};
-use hp_regular::{is_regular, is_small};
 use hp_schedule::schedule;
 use hp_toobc::to_machine;
 use std::alloc::{AllocError, Global};

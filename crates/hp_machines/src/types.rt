@@ -1,6 +1,6 @@
 //! The types of a program, as those of machines.
 ghost use Rattle.std.specs.Prelude.{◌≡◌, ◌++◌, ◌∷◌, [], IfOk, OnOk};
-ghost use Rattle.hp_made.specs.Types.{obc_type_of, obc_types_of};
+ghost use Rattle.law_equations.specs.Made.Types.{obc_type_of, obc_types_of};
 
 use hp_base::copy_names;
 use hp_obc::ObcType;

@@ -13,8 +13,8 @@ use Rattle.hp_tree.specs.declared.program.Item.{Item}
 use Rattle.hp_names.specs.Rules.{WellNamed}
 use Rattle.hp_names.specs.Claims.{Claim, uses, declares, claims}
 use Rattle.hp_names.specs.Breaches.{Breach, breach_in, breaches, place_of, found_after, AreBreachesOf, NamesFirst, error_of, named}
-use Rattle.hp_first.specs.First.{IsFirst}
-use Rattle.hp_first.proofs.FirstLaws.{first_some, first_none, first_none_of}
+use Rattle.hp_base.specs.First.First.{IsFirst}
+use Rattle.hp_base.proofs.FirstLemmas.FirstLaws.{first_some, first_none, first_none_of}
 use Rattle.hp_names.proofs.RuleLaws.{Contains-has, has-Contains, program_law}
 
 -- ---- each breach is that of a claim

@@ -11,7 +11,7 @@ use Rattle.hp_tree.specs.Expressions.{Expr, exprs_of, parts_of}
 use Rattle.hp_tree.specs.Blocks.{Decl}
 use Rattle.hp_names.specs.Names.{with_name, declared_names}
 use Rattle.hp_names.specs.Scopes.{Scope, with_variable, with_variables}
-use Rattle.hp_first.specs.First.{sooner}
+use Rattle.hp_base.specs.First.First.{sooner}
 use Rattle.hp_names.specs.Breaches.{Breach, place_of, breach_in, breaches, found_after}
 use Rattle.hp_names.specs.Claims.{Claim, uses, declares, new_names, in_cons, in_expr, in_exprs, in_parts, in_path, in_decl, in_decls}
 

@@ -1,7 +1,7 @@
 -- The breaches of the rules, and which is first in the text.
 use Rattle.std.specs.Prelude.{◌≡◌, ℕ, List, [], ◌∷◌, ◌++◌, Option, if◌then◌else◌, fold, Contains}
 use Rattle.hp_base.specs.declared.span.Span.{Span}
-use Rattle.hp_first.specs.First.{IsFirst, sooner}
+use Rattle.hp_base.specs.First.First.{IsFirst, sooner}
 use Rattle.hp_names.specs.declared.breach.Fault.{Fault}
 use Rattle.hp_names.specs.declared.breach.Fault.TheVariants.{Unknown, Twice}
 use Rattle.hp_names.specs.declared.error.NameErr.{NameErr}

@@ -3,8 +3,8 @@ ghost use Rattle.hp_names.specs.Breaches.{found_after};
 ghost use Rattle.hp_names.specs.Claims.{uses, declares};
 
 use crate::names::Names;
+use hp_base::first::{Placed, note};
 use hp_base::{Name, Span};
-use hp_first::{Placed, note};
 use std::marker::Model;
 
 /// How a name breaks the rules.

@@ -4,6 +4,7 @@
 mod command;
 mod machine;
 mod obc;
+pub mod spelling;
 
 pub use command::{Arg, Cmd, Cmds, ObcOp};
 pub use hp_base::{Const, Ty};

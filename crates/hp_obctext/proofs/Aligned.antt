@@ -11,7 +11,7 @@ use Rattle.hp_obc.specs.declared.machine.Mem.{Mem}
 use Rattle.hp_obc.specs.Machines.{ObcType}
 use Rattle.hp_obctext.specs.Files as file
 use Rattle.hp_obctext.specs.Files.{Steps, Step, Branches, Text, File, done, and_then, set, call, restart, case_of, no_branch, more_branches, arg_word, each, listed, section, var_words, mem_words, inst_words, op_words, set_words, call_words, steps_words, step_words, branches_words, next_constructor, type_words, machine_words, file_words}
-use Rattle.hp_known.specs.Known.{lookup, with_entry}
+use Rattle.hp_base.specs.Known.Known.{lookup, with_entry}
 use Rattle.hp_obctext.specs.Rules.{Table, Types, Context, in_section, in_constructors, in_type, with_type, in_types, with_types, no_types, in_vars, with_vars, in_mems, in_insts, with_instance, in_op, first_ty, in_args, with_output, in_outs, behind, in_inputs, inputs_of, outputs_of, in_call, labels_of_ty, in_steps, in_step, in_branches, context_of, in_machine, in_machines, in_file}
 use Rattle.hp_obctext.specs.Shapes.{Each, IsTypeText, IsFileText}
 use Rattle.hp_obctext.specs.Words.{Word, small}

@@ -17,7 +17,7 @@ use Rattle.hp_obctext.specs.StepView.{step_seen, branch_seen, size_of_steps, siz
 use Rattle.hp_obctext.specs.Files.{Text, steps_of, branches_of}
 use Rattle.std.proofs.lemmas.List.{drop-map}
 use Rattle.hp_obctext.specs.Breaches.{passed_one, after}
-use Rattle.hp_known.specs.Known.{lookup, with_entry}
+use Rattle.hp_base.specs.Known.Known.{lookup, with_entry}
 use Rattle.hp_obctext.specs.Rules.{Types, Table, Context, is_new, comma, is_empty, behind, is_known, agree, const_ty, arg_ty, in_constructors, with_constructors, in_type, with_type, in_types, with_types, in_vars, with_vars, in_mems, with_mems, in_insts, with_insts, with_instance, wanted, in_args, is_output, with_output, in_outs, is_input, in_inputs, in_steps, in_step, in_branches, is_next, same_const, in_machine, in_machines}
 use Rattle.hp_obctext.proofs.BreachLaws.{after_none, after_next, after_more}
 use Rattle.hp_obctext.proofs.Writing.{drop-next, drop-end}

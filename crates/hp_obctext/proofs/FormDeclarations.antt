@@ -7,7 +7,7 @@ use Rattle.hp_obc.specs.declared.machine.Var.{Var}
 use Rattle.hp_obc.specs.declared.machine.Mem.{Mem}
 use Rattle.hp_obc.specs.Form.{mem_vars}
 use Rattle.hp_obctext.specs.Found.{var_entries}
-use Rattle.hp_known.specs.Known.{with_entry}
+use Rattle.hp_base.specs.Known.Known.{with_entry}
 use Rattle.hp_obctext.specs.Rules.{AllTrue, Table, Types, is_new, comma, is_known, agree, const_ty, in_vars, with_vars, in_mems, with_mems}
 use Rattle.hp_obctext.specs.Shapes.{Each}
 use Rattle.hp_obctext.proofs.Truths.{front_true, back_true, keys, new_entry, entry_distinct}

@@ -15,7 +15,7 @@ use Rattle.hp_obc.specs.Steps.{var_names, inst_names}
 use Rattle.hp_obc.specs.Values.{kind_of}
 use Rattle.hp_obctext.specs.Files.{Text, File}
 use Rattle.hp_obctext.specs.Found.{var_entries, type_entries}
-use Rattle.hp_known.specs.Known.{lookup, with_entry}
+use Rattle.hp_base.specs.Known.Known.{lookup, with_entry}
 use Rattle.hp_obctext.specs.Machines.{machine_of}
 use Rattle.hp_obctext.specs.Rules.{AllTrue, Table, Types, is_new, comma, is_known, const_ty, in_section, in_vars, with_vars, in_mems, with_mems, in_insts, with_insts, with_instance, in_steps, context_of, in_declarations, in_machine, in_machines, in_types, with_types, no_types, in_file}
 use Rattle.hp_obctext.specs.Shapes.{Each, HasName, MemHasName, IsTypeText, IsMachineText, IsFileText}

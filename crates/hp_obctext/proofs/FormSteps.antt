@@ -20,7 +20,7 @@ use Rattle.hp_obc.specs.Machines.{ObcType, Machine}
 use Rattle.hp_obc.specs.Values.{kind_of, enum_from}
 use Rattle.hp_obctext.specs.Files.{Steps, Step, Branches, done, and_then, set, call, restart, case_of, no_branch, more_branches}
 use Rattle.hp_obctext.specs.Found.{var_entries}
-use Rattle.hp_known.specs.Known.{lookup, with_entry}
+use Rattle.hp_base.specs.Known.Known.{lookup, with_entry}
 use Rattle.hp_obctext.specs.Labels.{labels_of}
 use Rattle.hp_obctext.specs.Machines.{command, commands, arms, machine_of}
 use Rattle.hp_obctext.specs.Reading.{arity}

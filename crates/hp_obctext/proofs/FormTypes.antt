@@ -14,7 +14,7 @@ use Rattle.hp_obc.specs.Form.{constructors_of, has_name, constructor_kind, const
 use Rattle.hp_obc.specs.Machines.{ObcType}
 use Rattle.hp_obc.specs.Values.{kind_of, enum_from}
 use Rattle.hp_obctext.specs.Found.{type_entries}
-use Rattle.hp_known.specs.Known.{lookup, with_entry}
+use Rattle.hp_base.specs.Known.Known.{lookup, with_entry}
 use Rattle.hp_obctext.specs.Rules.{AllTrue, Table, Types, is_new, is_known, const_ty, in_constructors, with_constructors, in_type, with_type, in_types, with_types}
 use Rattle.hp_obctext.specs.Shapes.{Each}
 use Rattle.hp_obctext.proofs.Truths.{front_true, back_true, both_true, Apart, flip, same_bytes, keys, new_entry, entry_distinct}

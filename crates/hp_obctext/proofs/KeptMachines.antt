@@ -13,7 +13,7 @@ use Rattle.hp_obc.specs.Form.{BothAre, MachineForm, MachinesForm, HasObcForm, is
 use Rattle.hp_obc.specs.Machines.{ObcType, Machine, Obc}
 use Rattle.hp_obc.specs.Steps.{var_names, inst_names}
 use Rattle.hp_obc.specs.Values.{kind_of, enum_from}
-use Rattle.hp_known.specs.Known.{lookup, with_entry}
+use Rattle.hp_base.specs.Known.Known.{lookup, with_entry}
 use Rattle.hp_obctext.specs.Files as file
 use Rattle.hp_obctext.specs.Files.{Text, File, type_word, const_word, each, var_words, mem_words, inst_words, steps_words, constructors_words, type_words, machine_words, file_words}
 use Rattle.hp_obctext.specs.Labels.{text_of, file_of}

@@ -17,7 +17,7 @@ use Rattle.hp_obc.specs.Form as form
 use Rattle.hp_obc.specs.Form.{BothAre, CallForm, written, scope, kind_in, argument_kind, argument_kinds, name_kinds, var_kinds, with_first, same_kind, for_bools, for_ints, for_same, result_kind, unary_kind, binary_kind, ternary_kind, arms_for}
 use Rattle.hp_obc.specs.Machines.{ObcType, Machine}
 use Rattle.hp_obc.specs.Values.{kind_of}
-use Rattle.hp_known.specs.Known.{lookup, with_entry}
+use Rattle.hp_base.specs.Known.Known.{lookup, with_entry}
 use Rattle.hp_obctext.specs.Files.{Text}
 use Rattle.hp_obctext.specs.Found.{var_entries}
 use Rattle.hp_obctext.specs.Labels.{labels_of}

@@ -13,7 +13,7 @@ use Rattle.hp_base.specs.declared.ty.Const.TheVariants as constant
 use Rattle.hp_obc.specs.Form.{TypesForm, HasConstructors, is_name, is_constructor, is_short, constructors_of, has_name, constructor_kind, constant_kind, same_kind}
 use Rattle.hp_obc.specs.Machines.{ObcType}
 use Rattle.hp_obc.specs.Values.{kind_of, enum_from}
-use Rattle.hp_known.specs.Known.{lookup, with_entry}
+use Rattle.hp_base.specs.Known.Known.{lookup, with_entry}
 use Rattle.hp_obctext.specs.Rules.{AllTrue, Table, Types, is_new, is_known, same_ty, agree, const_ty, in_constructors, with_constructors, in_type, with_type, in_types, with_types, no_types}
 use Rattle.hp_obctext.specs.Shapes.{Each, IsTypeText}
 use Rattle.hp_obctext.proofs.FormTypes.{Knows, cons_entries, types_added, enum_known, cons_found, cons_kind}

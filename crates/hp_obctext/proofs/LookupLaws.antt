@@ -6,7 +6,7 @@ use Rattle.hp_base.specs.declared.ty.Ty.{Ty}
 use Rattle.hp_obc.specs.declared.machine.Var.{Var}
 use Rattle.hp_obctext.specs.Found.{var_entries}
 use Rattle.std.proofs.lemmas.Slice.Eq.{bytes_eq-Decides}
-use Rattle.hp_known.specs.Known.{lookup, with_entry}
+use Rattle.hp_base.specs.Known.Known.{lookup, with_entry}
 
 module _ {A : Type 0} where
   -- entries behind others count where these have none

@@ -17,7 +17,7 @@ use Rattle.hp_obc.specs.Sizes.{size_of_cmds, size_of_cmd, size_of_arms}
 use Rattle.hp_obc.specs.Values.{kind_of, enum_from}
 use Rattle.hp_obctext.specs.Files.{each, const_word, step_words, steps_words, branches_words, machine_words}
 use Rattle.hp_obctext.specs.Found.{labels_for, named, text_known, var_entries, type_entries}
-use Rattle.hp_known.specs.Known.{lookup}
+use Rattle.hp_base.specs.Known.Known.{lookup}
 use Rattle.hp_obctext.specs.Labels.{labels_of, said, said_by, said_in, text_by, text_of}
 use Rattle.hp_obctext.specs.Words.{Word, leading, fixed, with_word, with_words, printed}
 use Rattle.hp_obctext.proofs.Writing.{words_none, words_next, words_more, drop-next, drop-end}

@@ -6,7 +6,7 @@ use Rattle.std.proofs.lemmas.List.{map-append}
 use Rattle.std.proofs.lemmas.Slice.Eq.{bytes_eq-Decides}
 use Rattle.hp_obctext.specs.declared.found.Found.{Found}
 use Rattle.hp_obctext.specs.Breaches.{found_or, passes, after}
-use Rattle.hp_known.specs.Known.{lookup, with_entry}
+use Rattle.hp_base.specs.Known.Known.{lookup, with_entry}
 use Rattle.hp_obctext.specs.Rules.{Table, is_new, AllTrue, IsBreach}
 use Rattle.hp_obctext.specs.Shapes.{Each}
 

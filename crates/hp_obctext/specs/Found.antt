@@ -7,7 +7,7 @@ use Rattle.hp_base.specs.declared.ty.Const.TheVariants.{B as BoolConst, E as Enu
 use Rattle.hp_obc.specs.declared.machine.Var.{Var}
 use Rattle.hp_obc.specs.Form.{scope}
 use Rattle.hp_obc.specs.Machines.{ObcType, Machine, Obc}
-use Rattle.hp_known.specs.Known.{lookup}
+use Rattle.hp_base.specs.Known.Known.{lookup}
 use Rattle.hp_obctext.specs.Files.{Text, File}
 use Rattle.hp_obctext.specs.Labels.{text_by}
 use Rattle.hp_obctext.specs.declared.labels.Labels.{Labels}

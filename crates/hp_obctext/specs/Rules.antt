@@ -16,7 +16,7 @@ use Rattle.hp_obc.specs.declared.machine.Mem.{Mem}
 use Rattle.hp_obc.specs.Form.{is_short}
 use Rattle.hp_obc.specs.Machines.{ObcType}
 use Rattle.hp_obctext.specs.Files.{Steps, Step, Branches, Text, File, done, and_then, set, call, restart, case_of, no_branch, more_branches}
-use Rattle.hp_known.specs.Known.{lookup, with_entry}
+use Rattle.hp_base.specs.Known.Known.{lookup, with_entry}
 
 -- what is known of names
 abbrev pub Table : Type 0 → Type 0

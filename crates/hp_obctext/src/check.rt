@@ -1,15 +1,15 @@
 //! Whether the words of a text keep the rules of form.
 ghost use Rattle.std.specs.Prelude.{◌≡◌, ◌∷◌, ◌++◌, [], false, true, drop, is_some, option_map, Some, IfOk, OnOk};
 ghost use Rattle.hp_obctext.specs.Breaches.{passed_one, after};
-ghost use Rattle.hp_known.specs.Known.{lookup};
+ghost use Rattle.hp_base.specs.Known.Known.{lookup};
 ghost use Rattle.hp_obctext.specs.NamesView.{types_seen, names_seen, kind_seen, maybe_kind_seen};
 ghost use Rattle.hp_obctext.specs.Rules.{in_constructors, with_constructors, in_type, with_type, in_types, with_types, no_types, in_vars, with_vars, in_mems, with_mems, in_insts, with_insts, in_section, in_op, wanted, in_args, first_ty, with_instance, in_set, is_output, with_output, in_outs, is_input, in_inputs, in_call};
 
 use crate::found::Found;
 use crate::names::{Kind, Names, Types, agree, kind_of};
 use crate::text::Text;
+use hp_base::known::Known;
 use hp_base::{Name, Ty};
-use hp_known::Known;
 use hp_obc::{Arg, Mem, ObcOp, ObcType, Var};
 use std::alloc::{AllocError, Global};
 

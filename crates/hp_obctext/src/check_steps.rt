@@ -3,7 +3,7 @@ ghost use Rattle.std.specs.Prelude.{◌≡◌, [], true, map, length, option_map
 ghost use Rattle.hp_obctext.specs.Breaches.{passed_one, after};
 ghost use Rattle.hp_obctext.specs.Files.{branches_of};
 ghost use Rattle.hp_obctext.specs.Found.{labels_seen};
-ghost use Rattle.hp_known.specs.Known.{lookup};
+ghost use Rattle.hp_base.specs.Known.Known.{lookup};
 ghost use Rattle.hp_obctext.specs.NamesView.{types_seen, names_seen, kind_seen, maybe_kind_seen};
 ghost use Rattle.hp_obctext.specs.Rules.{inputs_of, outputs_of, in_call, is_choice, labels_of_ty, cons_of, in_step, in_steps, in_branches, all_vars, context_of, with_vars, with_mems, with_insts, in_section, in_insts, in_names, in_declarations, in_machine, in_machines, in_file};
 ghost use Rattle.hp_obctext.specs.StepView.{step_seen, branch_seen};
@@ -18,8 +18,8 @@ use crate::labels::Labels;
 use crate::names::{Kind, Names, Types};
 use crate::steps::{Branch, Step, Steps};
 use crate::text::{File, Text};
+use hp_base::known::Known;
 use hp_base::{Name, Ty};
-use hp_known::Known;
 use hp_obc::{Arg, Var};
 use std::alloc::{AllocError, Global};
 

@@ -5,7 +5,7 @@ ghost use Rattle.hp_base.specs.Bytes.{is_blank};
 ghost use Rattle.hp_obctext.specs.Lexing.{words, goes_on, BeginsWord};
 
 use hp_base::{is_blank_byte, is_capital_letter, is_digit_byte, is_small_letter, is_word_part};
-use hp_spelling::is_name_part;
+use hp_obc::spelling::is_name_part;
 
 /// Whether a byte goes on with a word that begins with another.
 fn continues(first: u8, byte: u8) -> bool

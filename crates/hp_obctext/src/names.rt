@@ -1,13 +1,13 @@
 //! What is known of names while form is checked.
 ghost use Rattle.std.specs.Prelude.{◌≡◌, List, ℕ, Some, option_map, IfSome};
-ghost use Rattle.hp_known.specs.Known.{lookup};
+ghost use Rattle.hp_base.specs.Known.Known.{lookup};
 ghost use Rattle.hp_obctext.specs.NamesView.{types_seen, names_seen, kind_seen, maybe_kind_seen};
 ghost use Rattle.hp_obctext.specs.Rules.{is_known, same_ty, agree, const_ty, arg_ty};
 ghost use Rattle.std.specs.Str.{bytes_eq};
 
 use crate::text::Text;
+use hp_base::known::Known;
 use hp_base::{Const, Name, Ty};
-use hp_known::Known;
 use hp_obc::{Arg, ObcType};
 
 /// The types by their names, and by their constructors.

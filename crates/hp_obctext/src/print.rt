@@ -15,8 +15,8 @@ use crate::error::ObcErr;
 use crate::labels::Labels;
 use crate::page::Page;
 use crate::scope::{Scope, known_types};
+use hp_base::known::Known;
 use hp_base::{Const, Name, Ty};
-use hp_known::Known;
 use hp_obc::{Arg, Cmd, Cmds, Machine, Mem, Obc, ObcOp, ObcType, Var};
 use std::alloc::{AllocError, Global};
 

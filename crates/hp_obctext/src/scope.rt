@@ -2,11 +2,11 @@
 ghost use Rattle.std.specs.Prelude.{◌≡◌, ◌++◌, List, ℕ, map, OnOk, IfOk};
 ghost use Rattle.hp_obc.specs.Form.{scope, mem_vars};
 ghost use Rattle.hp_obctext.specs.Found.{var_entries, type_entries, labels_at, labels_seen, named};
-ghost use Rattle.hp_known.specs.Known.{lookup};
+ghost use Rattle.hp_base.specs.Known.Known.{lookup};
 
 use crate::labels::Labels;
+use hp_base::known::Known;
 use hp_base::{Name, Ty};
-use hp_known::Known;
 use hp_obc::{Machine, Mem, ObcType, Var};
 use std::alloc::{AllocError, Global};
 

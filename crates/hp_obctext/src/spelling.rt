@@ -4,8 +4,8 @@ ghost use Rattle.hp_obctext.specs.Spelling.{name_of, constructor_of, ty_of, labe
 
 use hp_base::{Const, Name, Ty};
 use hp_lines::read_int;
+use hp_obc::spelling::{spells_constructor, spells_name};
 use hp_obc::{Arg, ObcOp};
-use hp_spelling::{spells_constructor, spells_name};
 use std::alloc::{AllocError, Global};
 
 #[tactic(auto, using(crate::proofs::SpellingLaws::names_are_short))]

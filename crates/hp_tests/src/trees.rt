@@ -1,7 +1,7 @@
 //! Copies of trees, and which trees are the same: no clause says that memory is enough for them.
 use crate::program_of;
 use hp_base::{Name, Span};
-use hp_causal::{Point, PointKind};
+use hp_meaning::causal::{Point, PointKind};
 use hp_tree::{Item, Program};
 use std::alloc::Global;
 use std::process::Abort;

@@ -9,7 +9,7 @@ use Rattle.hp_tree.specs.declared.block.Arm as code_arm
 use Rattle.hp_tree.specs.declared.block.State as code_state
 use Rattle.hp_tree.specs.BlockView.{eqn_seen, arm_seen, state_seen}
 use Rattle.hp_tree.specs.Blocks.{Decl, eqns_of, arms_of, states_of}
-use Rattle.hp_known.specs.Known.{lookup}
+use Rattle.hp_base.specs.Known.Known.{lookup}
 use Rattle.hp_typing.specs.Scopes.{Scope, inside}
 use Rattle.hp_typing.specs.Types.{cons_type}
 use Rattle.hp_typing.specs.Breaches.{Breach, found_after}

@@ -19,7 +19,7 @@ use Rattle.hp_typing.specs.Scopes.{Scope, with_variables, inside, behind}
 use Rattle.hp_typing.specs.Seen.{conses_seen, conses_told}
 use Rattle.hp_typing.specs.Uses.{nowhere, only, both, how, use_on, use_in_eqns, use_in_eqn, use_in_block, uses_in_arms, uses_in_states}
 use Rattle.hp_typing.specs.Claims.{stands_once}
-use Rattle.hp_first.specs.First.{sooner}
+use Rattle.hp_base.specs.First.First.{sooner}
 use Rattle.hp_typing.specs.Breaches.{Breach, place_of, found_among, found_after, breaches, of_variable, of_other, of_variables, of_others}
 use Rattle.hp_typing.specs.Definedness.{conses_of_parts, conses_of_arms, in_constructors, in_expr, in_exprs, in_parts, in_transitions, in_variables, in_others, in_block, in_eqn, in_eqns, in_arms, in_states, in_item, in_items, equations}
 use Rattle.hp_typing.proofs.UseCases.{beside-never, beside-assoc}

@@ -16,8 +16,8 @@ use Rattle.hp_typing.specs.Definitions.{SomeDefines, DefineAtMostOnce, DefineWho
 use Rattle.hp_typing.specs.DefinitionRules.{WellDefined}
 use Rattle.hp_typing.specs.Definedness.{definition_claims}
 use Rattle.hp_typing.specs.Claims.{Claim, wants, has_equation, has_none, stands_once, claims}
-use Rattle.hp_first.specs.First.{IsFirst, sooner}
-use Rattle.hp_first.proofs.FirstLaws.{first_some, first_none, first_none_of}
+use Rattle.hp_base.specs.First.First.{IsFirst, sooner}
+use Rattle.hp_base.proofs.FirstLemmas.FirstLaws.{first_some, first_none, first_none_of}
 use Rattle.hp_typing.specs.Breaches.{Breach, wrong, undefined, twice, branch, place_of, same_is, text_of, of_variable, of_other, breach_in, breaches, found_after, or_else, AreBreachesOf, NamesFirst, error_of}
 use Rattle.hp_typing.proofs.UseLaws.{Says, says_eqns}
 use Rattle.hp_typing.proofs.RuleLaws.{is_self, program_law}

@@ -6,8 +6,8 @@ use Rattle.std.proofs.lemmas.Bool.Decides.{nat_tests}
 use Rattle.std.proofs.Math.Seq.{drop-cons}
 use Rattle.std.proofs.Math.Numerals.{add-one}
 use Rattle.hp_base.specs.declared.span.Span.{Span}
-use Rattle.hp_first.specs.First.{sooner, merged}
-use Rattle.hp_first.proofs.FirstLaws.{merged-fold}
+use Rattle.hp_base.specs.First.First.{sooner, merged}
+use Rattle.hp_base.proofs.FirstLemmas.FirstLaws.{merged-fold}
 use Rattle.hp_typing.specs.Breaches.{Breach, place_of, breach_in, breaches, found_after}
 use Rattle.hp_typing.specs.Claims.{Claim}
 

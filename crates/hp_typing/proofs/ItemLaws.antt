@@ -1,7 +1,7 @@
 -- Types and items, element by element.
 use Rattle.std.proofs.Common.{◌≡◌, ℕ, ◌+◌, ◌<◌, get_or, length, drop, List, Option, ap, ◌∙◌}
 use Rattle.hp_tree.specs.declared.program.Item.{Item}
-use Rattle.hp_known.specs.Known.{with_entry}
+use Rattle.hp_base.specs.Known.Known.{with_entry}
 use Rattle.hp_typing.specs.Scopes.{Scope, behind, with_constructors}
 use Rattle.hp_typing.specs.Breaches.{Breach, found_after}
 use Rattle.hp_typing.specs.Claims.{in_item, in_items}

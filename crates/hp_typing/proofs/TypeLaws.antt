@@ -18,7 +18,7 @@ use Rattle.hp_typing.specs.Types.{place, type_of, types_in, cons_type, parts_fit
 use Rattle.hp_typing.specs.declared.kind.Kind.{Kind}
 use Rattle.hp_typing.specs.Seen.{kind_told}
 use Rattle.hp_typing.specs.Scopes.{Scope}
-use Rattle.hp_first.specs.First.{merged}
+use Rattle.hp_base.specs.First.First.{merged}
 use Rattle.hp_typing.specs.Breaches.{Breach, place_of, found_with, found_after}
 use Rattle.hp_typing.specs.Claims.{wants, tested, in_expr, in_exprs, in_parts, in_operands, in_pairs, in_known, in_inputs}
 use Rattle.hp_typing.proofs.FoundLaws.{drop-next, drop-end, found_after-append, found_after-nil, merged-found_after}

@@ -2,7 +2,7 @@
 use Rattle.std.specs.Prelude.{◌≡◌, ℕ, Bool, true, false, nat_eq, List, [], ◌∷◌, ◌++◌, Option, is_some, if◌then◌else◌, fold, count_by, Contains, ◌↔◌}
 use Rattle.std.specs.Str.{bytes_eq}
 use Rattle.hp_base.specs.declared.span.Span.{Span}
-use Rattle.hp_first.specs.First.{IsFirst, sooner, merged}
+use Rattle.hp_base.specs.First.First.{IsFirst, sooner, merged}
 use Rattle.hp_typing.specs.declared.error.Is.{Is}
 use Rattle.hp_typing.specs.declared.error.Is.TheVariants.{Bool as is_bool, Int as is_int, Enum as is_enum, Row as is_row}
 use Rattle.hp_typing.specs.declared.error.TypeErr.{TypeErr}

@@ -15,7 +15,7 @@ use Rattle.hp_tree.specs.Blocks.{Decl, Block, block, Eqns, no_eqn, more_eqns, Eq
 use Rattle.hp_tree.specs.Programs.{Contract, Node}
 use Rattle.hp_typing.specs.declared.error.Is.{Is}
 use Rattle.hp_typing.specs.declared.error.Is.TheVariants.{Bool as is_bool, Int as is_int, Enum as is_enum, Row as is_row}
-use Rattle.hp_known.specs.Known.{lookup}
+use Rattle.hp_base.specs.Known.Known.{lookup}
 use Rattle.hp_tree.specs.Meaning.{controls_of}
 use Rattle.hp_typing.specs.Scopes.{Scope, nothing, with_variables, inside, inside_node, behind}
 use Rattle.hp_typing.specs.Types.{type_of, types_in, outputs_in, all_typed, constant_type, cons_type, type_of_one, operand, place}

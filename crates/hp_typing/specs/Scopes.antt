@@ -5,7 +5,7 @@ use Rattle.hp_tree.specs.declared.program.Item.{Item}
 use Rattle.hp_tree.specs.declared.program.Item.TheVariants.{TypeItem, NodeItem}
 use Rattle.hp_tree.specs.Blocks.{Decl, Block, block}
 use Rattle.hp_tree.specs.Programs.{Node, TypeDecl}
-use Rattle.hp_known.specs.Known.{with_entry}
+use Rattle.hp_base.specs.Known.Known.{with_entry}
 pub use Rattle.hp_typing.specs.declared.scope.Scope.{Scope}
 
 -- before the first item nothing is known

@@ -15,7 +15,7 @@ use Rattle.hp_tree.specs.declared.expr.Op2.TheVariants.{And, Or, Xor, Imp, Eq, N
 use Rattle.hp_tree.specs.Expressions.{Expr, constant, variable, last_of, one, two, choose, pre, fby, arrow, when_is, merge, call, Exprs, no_expr, more_exprs, Parts, no_part, more_parts}
 use Rattle.hp_tree.specs.Blocks.{Decl}
 use Rattle.hp_tree.specs.Programs.{Node, TypeDecl}
-use Rattle.hp_known.specs.Known.{lookup}
+use Rattle.hp_base.specs.Known.Known.{lookup}
 use Rattle.hp_typing.specs.Scopes.{Scope}
 
 -- whether two types are the same

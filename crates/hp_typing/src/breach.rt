@@ -5,8 +5,8 @@ ghost use Rattle.hp_typing.specs.Seen.{kind_told, shape_seen};
 ghost use Rattle.hp_typing.specs.Breaches.{found_after};
 
 use crate::kind::{Constructor, Kind, Shape};
+use hp_base::first::{Placed, note};
 use hp_base::{Name, Span};
-use hp_first::{Placed, note};
 use std::marker::Model;
 
 /// How a place breaks the rules.

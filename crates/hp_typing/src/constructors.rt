@@ -13,8 +13,8 @@ ghost use Rattle.hp_typing.specs.Breaches.{found_after};
 use crate::breach::{Breach, Fault};
 use crate::kind::{Constructor, Kind};
 use crate::scope::Scope;
+use hp_base::first::note;
 use hp_base::{Name, Span};
-use hp_first::note;
 use hp_tree::{Arm, Cons, Expr};
 use std::alloc::{AllocError, Global};
 

@@ -17,8 +17,8 @@ use crate::kind::Kind;
 use crate::merges::{check_merges, check_transitions};
 use crate::scope::Scope;
 use crate::uses::{Use, Uses, join};
+use hp_base::first::note;
 use hp_base::{Name, Span};
-use hp_first::note;
 use hp_tree::{Arm, Block, Decl, Eqn, Expr, State};
 use std::alloc::{AllocError, Global};
 

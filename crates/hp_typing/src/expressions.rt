@@ -1,7 +1,7 @@
 //! The types of expressions.
 ghost use Rattle.std.specs.Prelude.{◌≡◌, ◌++◌, drop};
 ghost use Rattle.hp_tree.specs.Expressions.{exprs_of, parts_of};
-ghost use Rattle.hp_known.specs.Known.{lookup};
+ghost use Rattle.hp_base.specs.Known.Known.{lookup};
 ghost use Rattle.hp_typing.specs.Seen.{kind_seen, kind_told, decls_told};
 ghost use Rattle.hp_typing.specs.Types.{type_of, types_in, two_type, if_type, pair_type, merge_type, parts_fit, single, place, agrees, args_fit, all_typed, input_type, outputs_in, operand, answer, type_of_one};
 ghost use Rattle.hp_typing.specs.Claims.{wants, tested, in_two, in_if, in_operands, in_outputs, in_expr, in_exprs, in_parts, in_pairs, in_call, in_test};
@@ -10,8 +10,8 @@ ghost use Rattle.hp_typing.specs.Breaches.{found_with, found_after};
 use crate::breach::{Breach, want, want_choice, want_shape};
 use crate::kind::{Kind, Shape, chooses};
 use crate::scope::Scope;
+use hp_base::first::note_all;
 use hp_base::{Name, Span};
-use hp_first::note_all;
 use hp_tree::{Cons, Decl, Expr, ExprKind, Op1, Op2};
 
 /// Where the expression begins.

@@ -2,7 +2,7 @@
 ghost use Rattle.std.specs.Prelude.{◌≡◌, OnOk};
 ghost use Rattle.hp_tree.specs.Expressions.{exprs_of, parts_of};
 ghost use Rattle.hp_typing.specs.Definedness.{conses_of_parts, in_constructors, in_expr, in_exprs, in_parts, in_transitions, in_condition};
-ghost use Rattle.hp_known.specs.Known.{lookup};
+ghost use Rattle.hp_base.specs.Known.Known.{lookup};
 ghost use Rattle.hp_typing.specs.Breaches.{found_after};
 ghost use Rattle.hp_typing.specs.Types.{constructors_of};
 

@@ -11,7 +11,7 @@ use crate::declarations::{add_variables, check_decls};
 use crate::expressions::check_test;
 use crate::scope::Scope;
 use hp_base::Name;
-use hp_known::Known;
+use hp_base::known::Known;
 use hp_tree::{Block, Contract, Decl, Expr, Item, Node, TypeDecl, controls_of};
 use std::alloc::{AllocError, Global};
 

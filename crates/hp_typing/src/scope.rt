@@ -1,12 +1,12 @@
 ghost use Rattle.std.specs.Prelude.{◌≡◌, ◌≤◌, length, OnOk, option_map};
-ghost use Rattle.hp_known.specs.Known.{lookup, with_entry};
+ghost use Rattle.hp_base.specs.Known.Known.{lookup, with_entry};
 ghost use Rattle.hp_typing.specs.Scopes.{nothing, left};
 ghost use Rattle.hp_typing.specs.Seen.{kind_told};
 ghost use Rattle.hp_typing.specs.Types.{constant_type, cons_type, enum_of};
 
 use crate::kind::Kind;
 use hp_base::Name;
-use hp_known::Known;
+use hp_base::known::Known;
 use hp_tree::{Cons, Const, Decl, Node, Ty, TypeDecl};
 use std::alloc::{AllocError, Global};
 

@@ -11,11 +11,11 @@ use Rattle.hp_diagram.specs.Diagrams.{Diagrams, Has, IsNode, IsReduced, branch_a
 use Rattle.hp_diagram.proofs.Canonical.{leaf_cases}
 use Rattle.hp_quant.specs.declared.line.Line.{Line}
 use Rattle.hp_quant.specs.Lines.{node_of}
-use Rattle.hp_certmade.specs.Lines.{AreMade, line_of, number_in}
-use Rattle.hp_certmade.specs.Walks as table
-use Rattle.hp_certmade.proofs.FunctionLaws.{AreLinesOf, visited}
-use Rattle.hp_certmade.proofs.PlaceLaws.{Covers, number_small}
-use Rattle.hp_certmade.proofs.WalkLaws.{ArePlaced, IsPlaced}
+use Rattle.hp_cert.specs.Certmade.Lines.{AreMade, line_of, number_in}
+use Rattle.hp_cert.specs.Certmade.Walks as table
+use Rattle.hp_cert.proofs.CertmadeLemmas.FunctionLaws.{AreLinesOf, visited}
+use Rattle.hp_cert.proofs.CertmadeLemmas.PlaceLaws.{Covers, number_small}
+use Rattle.hp_cert.proofs.CertmadeLemmas.WalkLaws.{ArePlaced, IsPlaced}
 use Rattle.hp_verdicts.specs.Canonical.{AreCanonical, Walks, WalksAll, diagrams_of, seen, visit}
 use Rattle.hp_verdicts.proofs.CanonicalLaws.{reference}
 use Rattle.hp_verdicts.proofs.ReachLaws.{line_of_node, same_length}

@@ -8,8 +8,8 @@ use Rattle.hp_base.specs.declared.limit.What.TheVariants.{Text}
 use Rattle.hp_boolx.specs.Machine.{Machine}
 use Rattle.hp_cert.specs.Checked.{Proves}
 use Rattle.hp_cert.specs.declared.checking.Proved.TheVariants.{Lose}
-use Rattle.hp_certtext.specs.Certificates.{Certificate}
-use Rattle.hp_certtext.specs.Texts.{cert_text}
+use Rattle.hp_cert.specs.Certtext.Certificates.{Certificate}
+use Rattle.hp_cert.specs.Certtext.Texts.{cert_text}
 use Rattle.hp_abstract.specs.Machines.{IsMachineOf}
 use Rattle.hp_tree.specs.declared.program.Item.{Item}
 use Rattle.hp_tree.specs.declared.program.Item.TheVariants.{TypeItem, NodeItem}

@@ -11,10 +11,10 @@ use Rattle.hp_boolx.proofs.SolvedLaws.{certificate-lose}
 use Rattle.hp_cert.specs.Checked.{Proves, Shows}
 use Rattle.hp_cert.specs.Proving.{HasCount, HasVars, HasWidths, HoldsAtFirst, InScope, ReadsBelow, set_of}
 use Rattle.hp_cert.specs.declared.checking.Proved.TheVariants as proved
-use Rattle.hp_certmade.specs.Lines.{AreMade, references}
-use Rattle.hp_certmade.specs.Made as made
-use Rattle.hp_certmade.proofs.FunctionLaws.{visited}
-use Rattle.hp_certtext.specs.Certificates.{Certificate, Claim, lose, win}
+use Rattle.hp_cert.specs.Certmade.Lines.{AreMade, references}
+use Rattle.hp_cert.specs.Certmade.Made as made
+use Rattle.hp_cert.proofs.CertmadeLemmas.FunctionLaws.{visited}
+use Rattle.hp_cert.specs.Certtext.Certificates.{Certificate, Claim, lose, win}
 use Rattle.hp_diagram.specs.declared.reference.Ref.{Ref}
 use Rattle.hp_diagram.specs.Diagrams.{Diagrams, function, Has, IsReduced, Means, valuation}
 use Rattle.hp_quant.specs.declared.line.Line.{Line}

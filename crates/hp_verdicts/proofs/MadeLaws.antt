@@ -6,9 +6,9 @@ use Rattle.hp_boolx.specs.declared.machine.BoolMachine.TheInside.{Inside}
 use Rattle.hp_cert.specs.Checked.{Proves}
 use Rattle.hp_cert.specs.declared.checking.Proved.{Proved}
 use Rattle.hp_cert.specs.declared.checking.Proved.TheVariants as proved
-use Rattle.hp_certmade.specs.Made as made
-use Rattle.hp_certtext.specs.Certificates.{Certificate}
-use Rattle.hp_certtext.specs.declared.error.CertErr.{CertErr}
+use Rattle.hp_cert.specs.Certmade.Made as made
+use Rattle.hp_cert.specs.Certtext.Certificates.{Certificate}
+use Rattle.hp_cert.specs.declared.certtext.error.CertErr.{CertErr}
 use Rattle.hp_control.specs.Controlling.{AreFunctions}
 use Rattle.hp_diagram.specs.declared.reference.Ref.{Ref}
 use Rattle.hp_diagram.specs.Diagrams.{Diagrams, IsReduced, Keeps}

@@ -5,9 +5,9 @@ use Rattle.hp_boolx.specs.Machine.{IsMachine, Machine, game}
 use Rattle.hp_boolx.specs.Search.{Bits}
 use Rattle.hp_boolx.proofs.GateLaws.{game-form}
 use Rattle.hp_boolx.proofs.SolvedLaws.{choice-one}
-use Rattle.hp_certmade.specs.Lines.{references}
-use Rattle.hp_certtext.specs.Certificates.{Claim, lose, win}
-use Rattle.hp_certtext.specs.Texts.{cert_text}
+use Rattle.hp_cert.specs.Certmade.Lines.{references}
+use Rattle.hp_cert.specs.Certtext.Certificates.{Claim, lose, win}
+use Rattle.hp_cert.specs.Certtext.Texts.{cert_text}
 use Rattle.hp_quant.specs.declared.line.Line.{Line}
 use Rattle.hp_quant.specs.Lines.{line_function}
 use Rattle.hp_synth.specs.Valued.{Valued, earlies, states}

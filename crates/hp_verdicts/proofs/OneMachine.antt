@@ -4,9 +4,9 @@ use Rattle.hp_boolx.specs.Game.{Game}
 use Rattle.hp_boolx.specs.Machine.{IsMachine, Machine, game, variables}
 use Rattle.hp_boolx.specs.Search.{Bits}
 use Rattle.hp_abstract.specs.Machines.{IsMachineOf}
-use Rattle.hp_certmade.specs.Lines.{references}
-use Rattle.hp_certtext.specs.Certificates.{Certificate}
-use Rattle.hp_certtext.specs.Texts.{cert_text}
+use Rattle.hp_cert.specs.Certmade.Lines.{references}
+use Rattle.hp_cert.specs.Certtext.Certificates.{Certificate}
+use Rattle.hp_cert.specs.Certtext.Texts.{cert_text}
 use Rattle.hp_circuit.specs.declared.circuit.Circuit.{Circuit}
 use Rattle.hp_circuit.specs.declared.circuit.Role.{Role}
 use Rattle.hp_circuit.specs.declared.circuit.Role.TheVariants as role

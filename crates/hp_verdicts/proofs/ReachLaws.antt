@@ -11,10 +11,10 @@ use Rattle.hp_diagram.specs.Diagrams.{Diagrams, branch_at, branch_of, function, 
 use Rattle.hp_diagram.proofs.Canonical.{function-at_high, function-at_low, same_from_functions, with_value, with_value-other}
 use Rattle.hp_quant.specs.declared.line.Line.{Line}
 use Rattle.hp_cert.specs.Proving.{Reaches, ReadsBelow}
-use Rattle.hp_certmade.specs.Lines.{line_of, number_in}
-use Rattle.hp_certmade.proofs.FunctionLaws.{AreLinesOf}
-use Rattle.hp_certmade.proofs.PlaceLaws.{number_large, number_small, place_contains}
-use Rattle.hp_certmade.proofs.WalkLaws.{ArePlaced, IsPlaced}
+use Rattle.hp_cert.specs.Certmade.Lines.{line_of, number_in}
+use Rattle.hp_cert.proofs.CertmadeLemmas.FunctionLaws.{AreLinesOf}
+use Rattle.hp_cert.proofs.CertmadeLemmas.PlaceLaws.{number_large, number_small, place_contains}
+use Rattle.hp_cert.proofs.CertmadeLemmas.WalkLaws.{ArePlaced, IsPlaced}
 
 abbrev pub Valuation : Type 0
 Valuation = ℕ → Bool

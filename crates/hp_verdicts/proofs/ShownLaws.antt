@@ -11,11 +11,11 @@ use Rattle.hp_cert.specs.Proving.{set_of, functions_of, ReadsBelow, HoldsAt, Has
 use Rattle.hp_cert.specs.declared.checking.Proved.{Proved}
 use Rattle.hp_cert.specs.declared.checking.Proved.TheVariants as proved
 use Rattle.hp_cert.proofs.CheckLaws.{not_refused}
-use Rattle.hp_certtext.specs.Certificates.{Certificate, Claim, win, lose}
-use Rattle.hp_certtext.specs.Texts.{IsCertText}
-use Rattle.hp_certtext.specs.declared.error.CertErr.{CertErr}
-use Rattle.hp_certtext.specs.declared.error.CertErr.TheVariants as error
-use Rattle.hp_certtext.proofs.Answering.{cert_read, no_cert, same_cert}
+use Rattle.hp_cert.specs.Certtext.Certificates.{Certificate, Claim, win, lose}
+use Rattle.hp_cert.specs.Certtext.Texts.{IsCertText}
+use Rattle.hp_cert.specs.declared.certtext.error.CertErr.{CertErr}
+use Rattle.hp_cert.specs.declared.certtext.error.CertErr.TheVariants as error
+use Rattle.hp_cert.proofs.CerttextLemmas.Answering.{cert_read, no_cert, same_cert}
 use Rattle.hp_quant.specs.declared.line.Line.{Line}
 use Rattle.hp_verdicts.specs.Laws.{NodeShownLaw}
 use Rattle.hp_verdicts.specs.Verified.{IsChecked, IsUnproved, RefusesBy}

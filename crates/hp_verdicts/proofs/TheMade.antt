@@ -8,9 +8,9 @@ use Rattle.hp_boolx.specs.Machine.{IsMachine, Machine, game, variables}
 use Rattle.hp_boolx.specs.Search.{Bits, Set}
 use Rattle.hp_boolx.specs.Solved.{IsChoice, IsLose, IsWin}
 use Rattle.hp_cert.specs.declared.checking.Proved.TheVariants as proved
-use Rattle.hp_certmade.specs.Lines.{references}
-use Rattle.hp_certmade.specs.Made as made
-use Rattle.hp_certtext.specs.Certificates.{Certificate, Claim, lose, win}
+use Rattle.hp_cert.specs.Certmade.Lines.{references}
+use Rattle.hp_cert.specs.Certmade.Made as made
+use Rattle.hp_cert.specs.Certtext.Certificates.{Certificate, Claim, lose, win}
 use Rattle.hp_control.specs.Controlling.{AreFunctions}
 use Rattle.hp_diagram.specs.declared.reference.Ref.{Ref}
 use Rattle.hp_diagram.specs.Diagrams.{Diagrams, Has, IsReduced, Means, function}

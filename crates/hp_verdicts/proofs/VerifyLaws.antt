@@ -9,12 +9,12 @@ use Rattle.hp_boolx.specs.Machine.{Machine, game}
 use Rattle.hp_cert.specs.Checked.{Proves, Refuses}
 use Rattle.hp_cert.specs.declared.checking.Proved.{Proved}
 use Rattle.hp_cert.specs.declared.checking.Proved.TheVariants as proved
-use Rattle.hp_certtext.specs.Certificates.{Certificate}
-use Rattle.hp_certtext.specs.Refusals as text
-use Rattle.hp_certtext.specs.Texts.{IsCertText}
-use Rattle.hp_certtext.specs.Written.{IsTooLong}
-use Rattle.hp_certtext.specs.declared.error.CertErr.{CertErr}
-use Rattle.hp_certtext.specs.declared.error.CertErr.TheVariants as error
+use Rattle.hp_cert.specs.Certtext.Certificates.{Certificate}
+use Rattle.hp_cert.specs.Certtext.Refusals as text
+use Rattle.hp_cert.specs.Certtext.Texts.{IsCertText}
+use Rattle.hp_cert.specs.Certtext.Written.{IsTooLong}
+use Rattle.hp_cert.specs.declared.certtext.error.CertErr.{CertErr}
+use Rattle.hp_cert.specs.declared.certtext.error.CertErr.TheVariants as error
 use Rattle.hp_verdicts.specs.Verified.{IsChecked, IsUnproved, RefusesBy}
 
 -- an error, or want of memory, as an answer

@@ -9,12 +9,12 @@ use Rattle.std.proofs.lemmas.Option.{slice_get-map}
 use Rattle.hp_boolx.specs.Machine.{Machine, game, variables}
 use Rattle.hp_cert.specs.declared.checking.Proved.{Proved}
 use Rattle.hp_cert.specs.declared.checking.Proved.TheVariants as proved
-use Rattle.hp_certmade.specs.Lines.{references}
-use Rattle.hp_certtext.specs.Certificates.{Certificate, Claim, win, lose, IsShort, IsRef, AreWidths, AreLines, IsClaim, HasForm}
-use Rattle.hp_certtext.specs.Pieces.{Pieces, joined}
-use Rattle.hp_certtext.specs.Texts as texts
-use Rattle.hp_certtext.specs.Texts.{cert_pieces, cert_text, decimals, line}
-use Rattle.hp_certtext.proofs.WrittenLaws.{joined_append}
+use Rattle.hp_cert.specs.Certmade.Lines.{references}
+use Rattle.hp_cert.specs.Certtext.Certificates.{Certificate, Claim, win, lose, IsShort, IsRef, AreWidths, AreLines, IsClaim, HasForm}
+use Rattle.hp_cert.specs.Certtext.Pieces.{Pieces, joined}
+use Rattle.hp_cert.specs.Certtext.Texts as texts
+use Rattle.hp_cert.specs.Certtext.Texts.{cert_pieces, cert_text, decimals, line}
+use Rattle.hp_cert.proofs.CerttextLemmas.WrittenLaws.{joined_append}
 use Rattle.hp_diagram.specs.Diagrams.{IsReduced}
 use Rattle.hp_obc.specs.Form.{is_name}
 use Rattle.hp_quant.specs.declared.line.Line.{Line}

@@ -9,8 +9,8 @@ use Rattle.hp_boolx.specs.Machine.{Machine, game}
 use Rattle.hp_cert.specs.Checked.{Proves}
 use Rattle.hp_cert.specs.declared.checking.Proved.{Proved}
 use Rattle.hp_cert.specs.declared.checking.Proved.TheVariants as proved
-use Rattle.hp_certtext.specs.Certificates.{Certificate, Claim, lose, win}
-use Rattle.hp_certtext.specs.Texts.{cert_text}
+use Rattle.hp_cert.specs.Certtext.Certificates.{Certificate, Claim, lose, win}
+use Rattle.hp_cert.specs.Certtext.Texts.{cert_text}
 use Rattle.hp_abstract.specs.Machines.{IsMachineOf, IsRefused}
 use Rattle.hp_abstract.specs.declared.error.AbsErr.TheVariants as abstract_error
 use Rattle.hp_tree.specs.declared.program.Item.{Item}

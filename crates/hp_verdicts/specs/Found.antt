@@ -6,7 +6,7 @@ use Rattle.hp_boolx.specs.Search.{Set}
 use Rattle.hp_boolx.specs.Solved.{IsLose, IsWin}
 use Rattle.hp_cert.specs.Checked.{Proves}
 use Rattle.hp_cert.specs.declared.checking.Proved.{Proved}
-use Rattle.hp_certtext.specs.Certificates.{Certificate}
+use Rattle.hp_cert.specs.Certtext.Certificates.{Certificate}
 use Rattle.hp_diagram.specs.declared.reference.Ref.{Ref}
 use Rattle.hp_diagram.specs.Diagrams.{Diagrams, Means}
 use Rattle.hp_synth.specs.Kept.{AllMean}

@@ -5,8 +5,8 @@ use Rattle.hp_boolx.specs.Game.{Forced, Game, Safe}
 use Rattle.hp_boolx.specs.Machine.{IsMachine, Machine, game, variables}
 use Rattle.hp_boolx.specs.Search.{Bits}
 use Rattle.hp_boolx.specs.Solved.{IsChoice}
-use Rattle.hp_certmade.specs.Lines.{references}
-use Rattle.hp_certtext.specs.Certificates.{Certificate, Claim, lose, win}
+use Rattle.hp_cert.specs.Certmade.Lines.{references}
+use Rattle.hp_cert.specs.Certtext.Certificates.{Certificate, Claim, lose, win}
 use Rattle.hp_quant.specs.declared.line.Line.{Line}
 use Rattle.hp_quant.specs.Lines.{line_function}
 use Rattle.hp_synth.specs.Valued.{Valued, earlies, states}

@@ -5,13 +5,13 @@ use Rattle.hp_base.specs.declared.limit.What.TheVariants.{Text}
 use Rattle.hp_boolx.specs.Machine.{Machine}
 use Rattle.hp_abstract.specs.Machines.{IsMachineOf}
 use Rattle.hp_cert.specs.declared.checking.Proved.{Proved}
-use Rattle.hp_certtext.specs.Certificates.{Certificate}
-use Rattle.hp_certtext.specs.Texts.{IsCertText}
-use Rattle.hp_certtext.specs.Written.{IsTooLong}
+use Rattle.hp_cert.specs.Certtext.Certificates.{Certificate}
+use Rattle.hp_cert.specs.Certtext.Texts.{IsCertText}
+use Rattle.hp_cert.specs.Certtext.Written.{IsTooLong}
 use Rattle.hp_cert.specs.Checked.{Proves, Refuses}
-use Rattle.hp_certtext.specs.declared.error.CertErr.{CertErr}
-use Rattle.hp_certtext.specs.declared.error.CertErr.TheVariants as error
-use Rattle.hp_certtext.specs.Refusals.{IsRefused}
+use Rattle.hp_cert.specs.declared.certtext.error.CertErr.{CertErr}
+use Rattle.hp_cert.specs.declared.certtext.error.CertErr.TheVariants as error
+use Rattle.hp_cert.specs.Certtext.Refusals.{IsRefused}
 use Rattle.hp_tree.specs.declared.program.Item.{Item}
 use Rattle.hp_tree.specs.Programs.{Node}
 use Rattle.hp_verdicts.specs.Decided.{Holds}

@@ -4,8 +4,8 @@ ghost use Rattle.hp_base.specs.Limits.{most};
 ghost use Rattle.hp_base.specs.declared.limit.What.TheVariants as what;
 ghost use Rattle.hp_boolx.specs.Machine.{game, variables};
 ghost use Rattle.hp_cert.specs.declared.checking.Proved.TheVariants as proved;
-ghost use Rattle.hp_certtext.specs.Texts.{cert_text};
-ghost use Rattle.hp_certtext.specs.declared.error.CertErr.TheVariants as cert_error;
+ghost use Rattle.hp_cert.specs.Certtext.Texts.{cert_text};
+ghost use Rattle.hp_cert.specs.declared.certtext.error.CertErr.TheVariants as cert_error;
 ghost use Rattle.hp_synth.specs.Verdicts.{IsSolved, IsWon};
 ghost use Rattle.hp_verdicts.specs.Found.{AreRanks, IsFound, IsOf, IsSafeSet};
 ghost use Rattle.hp_verdicts.specs.TheCertificate.{said_widths};
@@ -13,8 +13,8 @@ ghost use Rattle.hp_verdicts.specs.declared.error.ContractErr.TheVariants as err
 
 use crate::error::ContractErr;
 use hp_boolx::BoolMachine;
-use hp_certmade::{lose_cert, win_cert};
-use hp_certtext::{Cert, CertErr, write_cert};
+use hp_cert::certmade::{lose_cert, win_cert};
+use hp_cert::certtext::{Cert, CertErr, write_cert};
 use hp_control::functions;
 use hp_diagram::{Ref, Table};
 use hp_synth::{Solved, Verdict};

@@ -7,7 +7,7 @@ use crate::certificate::{certificate, text_of};
 use crate::error::ContractErr;
 use crate::machine::{is_wide, machine_of};
 use hp_boolx::BoolMachine;
-use hp_certtext::Cert;
+use hp_cert::certtext::Cert;
 use hp_synth::solve;
 use hp_tree::{Node, Program};
 use std::alloc::Global;

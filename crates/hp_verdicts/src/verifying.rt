@@ -1,12 +1,12 @@
 //! Certificates of contracts, checked.
 ghost use Rattle.std.specs.Prelude.{◌≡◌, ◌⊎◌, IfOk, IfErr};
 ghost use Rattle.hp_cert.specs.declared.checking.Proved as proof;
-ghost use Rattle.hp_certtext.specs.declared.error.CertErr as refusal;
+ghost use Rattle.hp_cert.specs.declared.certtext.error.CertErr as refusal;
 ghost use Rattle.hp_verdicts.specs.Verified.{IsChecked, RefusesBy};
 
 use hp_boolx::BoolMachine;
+use hp_cert::certtext::{CertErr, read_cert};
 use hp_cert::{Proved, check};
-use hp_certtext::{CertErr, read_cert};
 use std::alloc::Global;
 
 /// What the text of a certificate proves of a contract's machine, whoever wrote it; or the first test that the text fails.

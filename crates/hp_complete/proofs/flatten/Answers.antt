@@ -1,6 +1,6 @@
 use Rattle.std.proofs.Common.{◌≡◌, List, subst, ap, ◌∙◌}
 use Rattle.hp_tree.specs.declared.program.Item.{Item}
-use Rattle.hp_made.specs.Making.{Known}
+use Rattle.law_equations.specs.Made.Making.{Known}
 use Rattle.hp_complete.specs.Declaring.{known_of}
 use Rattle.hp_complete.specs.Made.{AreMadeOf}
 use Rattle.hp_complete.specs.Tables.{known_in}

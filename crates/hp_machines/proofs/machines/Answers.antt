@@ -7,10 +7,10 @@ use Rattle.hp_complete.specs.Declaring.{known_of}
 use Rattle.hp_complete.specs.Made.{AreMadeOf}
 use Rattle.hp_complete.specs.Signatures.{AreFlat, places_of}
 use Rattle.hp_machines.specs.Machined.{AreMachinesOf}
-use Rattle.hp_made.specs.Types.{obc_types_of}
+use Rattle.law_equations.specs.Made.Types.{obc_types_of}
 use Rattle.hp_machines.specs.Making.{AreMade}
 use Rattle.hp_machines.specs.NotBuilt.{HasNoMachines}
-use Rattle.hp_regular.specs.Regular.{EqnsRegular}
+use Rattle.hp_form.specs.Regular.Regular.{EqnsRegular}
 use Rattle.hp_machines.proofs.HeadingLaws.{are_machines}
 use Rattle.hp_machines.proofs.NotBuiltLaws.{not_regular, no_form, says_of_form}
 use Rattle.hp_machines.proofs.machines.Goals as goal

@@ -1,5 +1,5 @@
 use Rattle.std.proofs.Common.{◌≡◌, ◌≤◌, length, drop}
-use Rattle.hp_declared.specs.Tables.{said_in}
+use Rattle.hp_tables.specs.Declarations.Tables.{said_in}
 use Rattle.hp_drawing.specs.Told.{counts_of}
 use Rattle.hp_abstract.proofs.table.counts_of.Given as goal
 

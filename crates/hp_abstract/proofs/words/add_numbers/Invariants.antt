@@ -1,7 +1,7 @@
 use Rattle.std.proofs.Common.{◌≡◌, drop, map}
 use Rattle.hp_tree.specs.Blocks.{states_of}
 use Rattle.hp_tree.specs.BlockView.{state_seen}
-use Rattle.hp_declared.specs.Tables.{said_in}
+use Rattle.hp_tables.specs.Declarations.Tables.{said_in}
 use Rattle.hp_drawing.specs.Places.{put_numbers}
 use Rattle.hp_abstract.proofs.words.add_numbers.Given as goal
 

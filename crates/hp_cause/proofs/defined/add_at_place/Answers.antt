@@ -1,6 +1,6 @@
 use Rattle.std.proofs.Common.{Some, sym, ap, ◌∙◌}
 use Rattle.hp_cause.specs.Around.{of_place}
-use Rattle.hp_defining.specs.Layers.{sight}
+use Rattle.hp_tables.specs.Defining.Layers.{sight}
 use Rattle.hp_cause.specs.Told.{facts_seen, with_more}
 use Rattle.hp_cause.proofs.AroundLaws.{name-beyond}
 use Rattle.hp_cause.proofs.GrowLaws.{more-nil}

@@ -1,8 +1,8 @@
 use Rattle.std.proofs.Common.{◌≡◌, Some, IfSome, OnOk, sym, ap, subst, ◌∙◌}
 use Rattle.hp_cause.specs.Around.{of_places, places_from}
 use Rattle.hp_cause.specs.Gathering.{of_defined}
-use Rattle.hp_defining.specs.Names.{listed}
-use Rattle.hp_defining.specs.Layers.{sight}
+use Rattle.hp_tables.specs.Defining.Names.{listed}
+use Rattle.hp_tables.specs.Defining.Layers.{sight}
 use Rattle.hp_cause.specs.Told.{facts_seen, names_seen, with_more}
 use Rattle.hp_cause.proofs.AroundLaws.{all-walked}
 use Rattle.hp_cause.proofs.defined.add_defined.Goals as goal

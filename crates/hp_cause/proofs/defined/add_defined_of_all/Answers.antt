@@ -1,7 +1,7 @@
 use Rattle.std.proofs.Common.{◌+◌, ℕ, List, [], Bor, Some, get_or, drop, sym, ap, ◌∙◌}
 use Rattle.std.proofs.lemmas.List.{get_or_default}
 use Rattle.hp_cause.specs.Gathering.{of_defined}
-use Rattle.hp_defining.specs.Layers.{is_said, sight}
+use Rattle.hp_tables.specs.Defining.Layers.{is_said, sight}
 use Rattle.hp_cause.specs.Told.{facts_seen, names_seen, with_more}
 use Rattle.hp_cause.proofs.GrowLaws.{next-defined}
 use Rattle.hp_cause.proofs.defined.add_defined_of_all.Goals as goal

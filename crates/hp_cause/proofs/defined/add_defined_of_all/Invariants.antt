@@ -1,6 +1,6 @@
 use Rattle.std.proofs.Common.{◌≡◌, Some, drop}
 use Rattle.hp_cause.specs.Gathering.{of_defined}
-use Rattle.hp_defining.specs.Layers.{is_said, sight}
+use Rattle.hp_tables.specs.Defining.Layers.{is_said, sight}
 use Rattle.hp_cause.specs.Told.{facts_seen, names_seen, with_more}
 use Rattle.hp_cause.proofs.defined.add_defined_of_all.Given as goal
 

@@ -1,7 +1,7 @@
 use Rattle.std.proofs.Common.{◌+◌, [], ◌∷◌, drop, sym, ap, ◌∙◌}
 use Rattle.hp_tree.specs.Expressions.{exprs_of, parts_of}
 use Rattle.hp_cause.specs.Gathering.{of_exprs, of_parts}
-use Rattle.hp_defining.specs.Layers.{sight}
+use Rattle.hp_tables.specs.Defining.Layers.{sight}
 use Rattle.hp_cause.specs.Told.{facts_seen, names_seen, with_more}
 use Rattle.hp_cause.specs.Vertices.{calls_in, calls_in_all, calls_in_parts}
 use Rattle.hp_cause.proofs.GrowLaws.{next-arg, next-part, count-args, count-parts, numbers-on}

@@ -2,7 +2,7 @@ use Rattle.std.proofs.Common.{◌≡◌, ◌+◌, ◌*◌, [], ◌∷◌, drop}
 use Rattle.hp_tree.specs.Expressions.{exprs_of, parts_of}
 use Rattle.hp_tree.specs.Sizes.{nodes, nodes_of_all, nodes_of_parts}
 use Rattle.hp_cause.specs.Gathering.{of_exprs, of_parts}
-use Rattle.hp_defining.specs.Layers.{sight}
+use Rattle.hp_tables.specs.Defining.Layers.{sight}
 use Rattle.hp_cause.specs.Told.{facts_seen, names_seen, with_more}
 use Rattle.hp_cause.specs.Vertices.{calls_in_all, calls_in_parts}
 use Rattle.hp_cause.proofs.expression.+gather.Given as goal

@@ -2,7 +2,7 @@ use Rattle.std.proofs.Common.{◌+◌, ℕ, List, [], Bor, get_or, drop, sym, ap
 use Rattle.std.proofs.lemmas.List.{get_or_default}
 use Rattle.hp_cause.specs.Facts.{depend}
 use Rattle.hp_cause.specs.Gathering.{on_clock}
-use Rattle.hp_defining.specs.Layers.{sight}
+use Rattle.hp_tables.specs.Defining.Layers.{sight}
 use Rattle.hp_cause.specs.Told.{facts_seen, names_seen, with_more}
 use Rattle.hp_cause.proofs.GrowLaws.{next-on_clock}
 use Rattle.hp_cause.proofs.expression.add_clock.Goals as goal

@@ -1,6 +1,6 @@
 use Rattle.std.proofs.Common.{◌+◌, drop, sym, ap, ◌∙◌}
 use Rattle.hp_cause.specs.Gathering.{of_tests}
-use Rattle.hp_defining.specs.Layers.{sight}
+use Rattle.hp_tables.specs.Defining.Layers.{sight}
 use Rattle.hp_cause.specs.Told.{facts_seen, with_more}
 use Rattle.hp_cause.specs.Vertices.{calls_in, own_of_test, size_of_tests}
 use Rattle.hp_cause.proofs.GrowLaws.{next-test, count-tests, numbers-after}

@@ -1,6 +1,6 @@
 use Rattle.std.proofs.Common.{◌≡◌, ◌+◌, drop}
 use Rattle.hp_cause.specs.Gathering.{of_tests}
-use Rattle.hp_defining.specs.Layers.{sight}
+use Rattle.hp_tables.specs.Defining.Layers.{sight}
 use Rattle.hp_cause.specs.Told.{facts_seen, with_more}
 use Rattle.hp_cause.specs.Vertices.{size_of_tests}
 use Rattle.hp_cause.proofs.expression.gather_tests.Given as goal

@@ -2,7 +2,7 @@ use Rattle.std.proofs.Common.{◌≡◌, ◌+◌, ◌++◌, Some, map, drop, sym
 use Rattle.hp_tree.specs.Blocks.{eqns_of, arms_of, states_of}
 use Rattle.hp_tree.specs.BlockView.{eqn_seen, arm_seen, state_seen}
 use Rattle.hp_cause.specs.Gathering.{of_block, of_eqn, of_eqns, of_arms, of_inside, of_state, of_states}
-use Rattle.hp_defining.specs.Layers.{sight}
+use Rattle.hp_tables.specs.Defining.Layers.{sight}
 use Rattle.hp_cause.specs.Told.{facts_seen, front, names_seen, with_more}
 use Rattle.hp_cause.specs.Vertices.{own_size, size_inside, size_of, size_of_all, size_of_arms, size_of_states, size_of_tests}
 use Rattle.hp_tree.specs.Meaning.{names_of as declared_names}

@@ -3,7 +3,7 @@ use Rattle.hp_tree.specs.Blocks.{eqns_of, arms_of, states_of}
 use Rattle.hp_tree.specs.BlockView.{eqn_seen, arm_seen, state_seen}
 use Rattle.hp_tree.specs.Sizes.{lines, lines_of_eqn, lines_of_eqns, lines_of_arms, lines_of_states}
 use Rattle.hp_cause.specs.Gathering.{of_eqns, of_arms, of_states}
-use Rattle.hp_defining.specs.Layers.{sight}
+use Rattle.hp_tables.specs.Defining.Layers.{sight}
 use Rattle.hp_cause.specs.Told.{facts_seen, front, names_seen, with_more}
 use Rattle.hp_cause.specs.Vertices.{size_of_all, size_of_arms, size_of_states}
 use Rattle.hp_cause.proofs.gather.+gather.Given as goal

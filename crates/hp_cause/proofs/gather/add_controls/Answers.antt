@@ -1,5 +1,5 @@
 use Rattle.std.proofs.Common.{◌≡◌, ◌+◌, Some, drop, sym, ap, ◌∙◌}
-use Rattle.hp_causal.specs.declared.point.PointKind.TheVariants as kind
+use Rattle.hp_meaning.specs.declared.causal.point.PointKind.TheVariants as kind
 use Rattle.hp_cause.specs.Facts.{stand}
 use Rattle.hp_cause.specs.Gathering.{of_controls}
 use Rattle.hp_cause.specs.Told.{facts_seen, with_more}

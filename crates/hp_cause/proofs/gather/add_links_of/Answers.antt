@@ -1,7 +1,7 @@
 use Rattle.std.proofs.Common.{◌≡◌, ◌+◌, drop, sym, ap, ◌∙◌}
 use Rattle.hp_cause.specs.Facts.{read}
 use Rattle.hp_cause.specs.Gathering.{of_links}
-use Rattle.hp_defining.specs.Layers.{own_of, sight}
+use Rattle.hp_tables.specs.Defining.Layers.{own_of, sight}
 use Rattle.hp_cause.specs.Told.{facts_seen, names_seen, with_more}
 use Rattle.hp_cause.proofs.GrowLaws.{next-link}
 use Rattle.hp_cause.proofs.gather.add_links_of.Goals as goal

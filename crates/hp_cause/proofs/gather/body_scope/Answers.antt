@@ -1,6 +1,6 @@
 use Rattle.std.proofs.Common.{◌≡◌, [], ◌∷◌, ◌++◌, length, ap, ◌∙◌}
 use Rattle.hp_tree.specs.Meaning.{controls_of, names_of as declared_names}
-use Rattle.hp_defining.specs.Layers.{numbered, says, says_numbers}
+use Rattle.hp_tables.specs.Defining.Layers.{numbered, says, says_numbers}
 use Rattle.hp_cause.specs.Gathering.{own_sight, seen_controls, seen_in}
 use Rattle.hp_cause.specs.Vertices.{first_of_body}
 use Rattle.hp_cause.proofs.TableLaws.{body-own, body-seen}

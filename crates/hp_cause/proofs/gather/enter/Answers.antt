@@ -1,6 +1,6 @@
 use Rattle.std.proofs.Common.{ap, ◌∙◌}
 use Rattle.hp_cause.specs.Gathering.{links_of}
-use Rattle.hp_defining.specs.Layers.{sight}
+use Rattle.hp_tables.specs.Defining.Layers.{sight}
 use Rattle.hp_cause.specs.Told.{facts_seen, front, with_more}
 use Rattle.hp_cause.proofs.TableLaws.{seen-entered, links-entered}
 use Rattle.hp_cause.proofs.gather.enter.Goals as goal

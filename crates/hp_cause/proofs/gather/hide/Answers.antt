@@ -2,8 +2,8 @@ use Rattle.std.proofs.Common.{◌≡◌, ℕ, Bool, List, [], Some, ap, ◌∙�
 use Rattle.hp_tree.specs.BlockView.{eqn_seen}
 use Rattle.hp_cause.specs.Facts.{Fact}
 use Rattle.hp_cause.specs.Gathering.{Sight, of_defined}
-use Rattle.hp_defining.specs.Names.{names_of}
-use Rattle.hp_defining.specs.Layers.{is_said, says_seen, sight}
+use Rattle.hp_tables.specs.Defining.Names.{names_of}
+use Rattle.hp_tables.specs.Defining.Layers.{is_said, says_seen, sight}
 use Rattle.hp_cause.specs.Told.{facts_seen, names_seen, with_more}
 use Rattle.hp_cause.proofs.EntryLaws.{listed-defined, sight-within}
 use Rattle.hp_cause.proofs.gather.hide.Goals as goal

@@ -1,5 +1,5 @@
 use Rattle.std.proofs.Common.{[], ◌∷◌, ◌++◌, ap, ◌∙◌}
-use Rattle.hp_defining.specs.Layers.{says_seen, sight}
+use Rattle.hp_tables.specs.Defining.Layers.{says_seen, sight}
 use Rattle.hp_cause.specs.Told.{names_seen}
 use Rattle.hp_cause.proofs.TableLaws.{sight-declared}
 use Rattle.hp_cause.proofs.gather.observer_scope.Goals as goal

@@ -1,6 +1,6 @@
 use Rattle.std.proofs.Common.{◌≡◌, ◌+◌, drop, sym, ap, ◌∙◌}
 use Rattle.hp_cause.specs.Gathering.{in_list, vertices_of}
-use Rattle.hp_defining.specs.Layers.{sight}
+use Rattle.hp_tables.specs.Defining.Layers.{sight}
 use Rattle.hp_cause.specs.Told.{with_more}
 use Rattle.hp_cause.proofs.GrowLaws.{next-vertex}
 use Rattle.hp_cause.proofs.gather.vertices_of.Goals as goal

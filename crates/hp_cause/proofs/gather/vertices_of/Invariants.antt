@@ -1,6 +1,6 @@
 use Rattle.std.proofs.Common.{◌≡◌, drop}
 use Rattle.hp_cause.specs.Gathering.{vertices_of}
-use Rattle.hp_defining.specs.Layers.{sight}
+use Rattle.hp_tables.specs.Defining.Layers.{sight}
 use Rattle.hp_cause.specs.Told.{with_more}
 use Rattle.hp_cause.proofs.gather.vertices_of.Given as goal
 

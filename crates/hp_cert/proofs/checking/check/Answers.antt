@@ -1,6 +1,6 @@
 use Rattle.std.proofs.Common.{Result, refl, subst}
 use Rattle.std.specs.Prelude.{IfOk}
-use Rattle.hp_certtext.specs.declared.error.CertErr.{CertErr}
+use Rattle.hp_cert.specs.declared.certtext.error.CertErr.{CertErr}
 use Rattle.hp_cert.specs.Checked.{Proves}
 use Rattle.hp_cert.specs.declared.checking.Proved.{Proved}
 use Rattle.hp_cert.specs.declared.checking.Proved.TheVariants as proved

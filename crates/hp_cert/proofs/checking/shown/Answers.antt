@@ -1,6 +1,6 @@
 use Rattle.std.proofs.Common.{◌≡◌, ◌+◌, ℕ, suc, List, Some, sym, ap, subst, ◌∙◌, true≢false, arith}
-use Rattle.hp_certtext.specs.Certificates.{Claim, lose, Certificate}
-use Rattle.hp_certtext.specs.CertView.{claim_seen, cert_seen}
+use Rattle.hp_cert.specs.Certtext.Certificates.{Claim, lose, Certificate}
+use Rattle.hp_cert.specs.Certtext.CertView.{claim_seen, cert_seen}
 use Rattle.hp_quant.specs.declared.line.Line.{Line}
 use Rattle.hp_cert.specs.Checked.{Shows, FailsStep, FailsRank}
 use Rattle.hp_cert.specs.Conditions.{FirstFailing}

@@ -1,8 +1,8 @@
 use Rattle.std.proofs.Common.{◌≡◌, ◌↔◌, ◌+◌, ◌<◌, ◌-◌, IsTrue, length, map, get_or, sym, ap, subst, ◌∙◌, arith}
 use Rattle.std.proofs.lemmas.List.{get_or_default}
 use Rattle.hp_boolx.specs.Solved.{rank}
-use Rattle.hp_certtext.specs.Certificates.{Claim, lose, IsClaim}
-use Rattle.hp_certtext.specs.CertView.{claim_seen}
+use Rattle.hp_cert.specs.Certtext.Certificates.{Claim, lose, IsClaim}
+use Rattle.hp_cert.specs.Certtext.CertView.{claim_seen}
 use Rattle.hp_cert.specs.Proving.{set_of, HoldsAt}
 use Rattle.hp_cert.proofs.LineLaws.{last_rank}
 use Rattle.hp_cert.proofs.conditions.holds_at.Goals as goal

@@ -1,7 +1,7 @@
 use Rattle.std.proofs.Common.{◌≡◌, ◌↔◌, ◌+◌, ℕ, IsTrue, List, All, sym, ap, subst, rules}
 use Rattle.std.specs.Prelude.{IfOk}
-use Rattle.hp_certtext.specs.Certificates.{Claim, Certificate}
-use Rattle.hp_certtext.specs.CertView.{claim_seen, cert_seen}
+use Rattle.hp_cert.specs.Certtext.Certificates.{Claim, Certificate}
+use Rattle.hp_cert.specs.Certtext.CertView.{claim_seen, cert_seen}
 use Rattle.hp_quant.specs.declared.line.Line.{Line}
 use Rattle.hp_cert.specs.Proving.{InScope, ReadsBelow}
 use Rattle.hp_cert.proofs.fits.in_scope.Goals as goal

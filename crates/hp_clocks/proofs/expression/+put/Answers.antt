@@ -1,7 +1,7 @@
 use Rattle.std.proofs.Common.{Err, ap, subst}
 use Rattle.hp_tree.specs.Expressions.{exprs_of, parts_of, constant, variable, last_of, choose, when_is, merge, call}
 use Rattle.hp_tree.specs.declared.expr.ExprKind.TheVariants as kind
-use Rattle.hp_causal.specs.Clocked.{IsOn, ExprsOn, PartsOn}
+use Rattle.hp_meaning.specs.Causal.Clocked.{IsOn, ExprsOn, PartsOn}
 use Rattle.hp_clocks.specs.Layers.{sight}
 use Rattle.hp_clocks.specs.Scopes.{standing, Grows}
 use Rattle.hp_clocks.proofs.Unifying.{ok_map}

@@ -1,5 +1,5 @@
 use Rattle.std.proofs.Common.{◌+◌, ◌*◌, drop}
-use Rattle.hp_causal.specs.Clocked.{ExprsOn, PartsOn}
+use Rattle.hp_meaning.specs.Causal.Clocked.{ExprsOn, PartsOn}
 use Rattle.hp_tree.specs.Expressions.{exprs_of, parts_of}
 use Rattle.hp_tree.specs.Sizes.{nodes, nodes_of_all, nodes_of_parts}
 use Rattle.hp_clocks.specs.Layers.{sight}

@@ -1,7 +1,7 @@
 use Rattle.std.proofs.Common.{map, ap, ◌∙◌}
 use Rattle.hp_tree.specs.Blocks.{eqns_of}
 use Rattle.hp_tree.specs.BlockView.{eqn_seen}
-use Rattle.hp_defining.specs.Names.{names_in}
+use Rattle.hp_tables.specs.Defining.Names.{names_in}
 use Rattle.hp_clocks.specs.Layers.{says, says_names, says_locals, says_by}
 use Rattle.hp_clocks.proofs.DefinedLaws.{if_map}
 use Rattle.hp_clocks.proofs.layer.layer_by.Goals as goal

@@ -2,7 +2,7 @@ use Rattle.std.proofs.Common.{map, sym, ap, ◌∙◌}
 use Rattle.hp_tree.specs.Blocks.{eqns_of}
 use Rattle.hp_tree.specs.BlockView.{eqn_seen}
 use Rattle.hp_clocks.specs.Names.{with_more}
-use Rattle.hp_defining.specs.Names.{controls_in}
+use Rattle.hp_tables.specs.Defining.Names.{controls_in}
 use Rattle.hp_clocks.specs.Units.{number_in}
 use Rattle.hp_clocks.specs.Putting.{own_locals}
 use Rattle.hp_clocks.specs.Layers.{says, says_names, says_by, says_own, cells_by, no_entry}

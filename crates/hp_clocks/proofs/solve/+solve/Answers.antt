@@ -6,7 +6,7 @@ use Rattle.hp_tree.specs.declared.block.Eqn.{Eqn as CodeEqn}
 use Rattle.hp_tree.specs.declared.block.Arm.{Arm as CodeArm}
 use Rattle.hp_tree.specs.declared.block.State.{State as CodeState}
 use Rattle.hp_tree.proofs.BlockLists.{lines-at_eqn, lines-at_arm, lines-at_state}
-use Rattle.hp_causal.specs.Points.{span_of}
+use Rattle.hp_meaning.specs.Causal.Points.{span_of}
 use Rattle.hp_clocks.specs.declared.layer.Layer.{Layer}
 use Rattle.hp_clocks.specs.Layers.{sight}
 use Rattle.hp_clocks.specs.Names.{with_more}

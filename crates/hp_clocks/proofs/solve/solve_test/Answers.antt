@@ -1,5 +1,5 @@
 use Rattle.std.proofs.Common.{ap, ◌∙◌}
-use Rattle.hp_causal.specs.Points.{span_of}
+use Rattle.hp_meaning.specs.Causal.Points.{span_of}
 use Rattle.hp_clocks.specs.Layers.{sight}
 use Rattle.hp_clocks.proofs.Seeing.{spanned}
 use Rattle.hp_clocks.proofs.UnitLaws.{test_solves}

@@ -1,5 +1,5 @@
 use Rattle.std.proofs.Common.{◌+◌, List, drop, [], ◌∷◌, Err, refl, sym, ap, ◌∙◌, arith}
-use Rattle.hp_causal.specs.Points.{span_of}
+use Rattle.hp_meaning.specs.Causal.Points.{span_of}
 use Rattle.hp_clocks.specs.Layers.{sight}
 use Rattle.hp_clocks.specs.Names.{with_more}
 use Rattle.hp_clocks.specs.Units.{conditions, tested, tests, test_of, Right}

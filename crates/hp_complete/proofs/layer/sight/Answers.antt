@@ -1,5 +1,5 @@
 use Rattle.std.proofs.Common.{◌-◌, take, sym, ap, ◌∙◌, arith}
-use Rattle.hp_made.specs.Making.{or_entry}
+use Rattle.law_equations.specs.Made.Making.{or_entry}
 use Rattle.hp_complete.specs.Layers.{inner_first, seen_if, sight}
 use Rattle.hp_complete.proofs.LayerLaws.{sight-next}
 use Rattle.hp_complete.proofs.layer.sight.Goals as goal

@@ -1,5 +1,5 @@
 use Rattle.std.proofs.Common.{◌≡◌, ◌++◌, take, drop}
-use Rattle.hp_made.specs.Making.{stem}
+use Rattle.law_equations.specs.Made.Making.{stem}
 use Rattle.hp_complete.proofs.naming.stem.Given as goal
 
 abbrev pub invariant-loop-i : goal.invariant-loop-i

@@ -1,9 +1,9 @@
 use Rattle.std.proofs.Common.{◌≡◌, ◌+◌, length, map, subst, sym, ap, ◌∙◌, arith}
 use Rattle.std.specs.Prelude.{All}
-use Rattle.hp_flows.specs.Scheduling.{IsRanked}
+use Rattle.law_equations.specs.Meaning.Scheduling.{IsRanked}
 use Rattle.hp_tree.specs.Meaning.{controls_of}
 use Rattle.hp_tree.specs.Programs.{Node}
-use Rattle.hp_made.specs.Making.{Sketch, next, nothing_made, numbers_from, sketch_node}
+use Rattle.law_equations.specs.Made.Making.{Sketch, next, nothing_made, numbers_from, sketch_node}
 use Rattle.hp_complete.specs.Drafting.{filled, signed_made}
 use Rattle.hp_complete.specs.Drafts.{place_of, sketch_of}
 use Rattle.hp_complete.specs.Ordering.{IsCircular, SaysTrue, unplaced}

@@ -3,7 +3,7 @@ use Rattle.std.specs.List.{flat_map}
 use Rattle.std.proofs.lemmas.List.{get_or_default}
 use Rattle.hp_flat.specs.declared.equation.Atom.{Atom}
 use Rattle.hp_flat.specs.declared.equation.Atom.TheVariants.{Variable}
-use Rattle.hp_flows.specs.Fitting.{atom_variables}
+use Rattle.law_equations.specs.Meaning.Fitting.{atom_variables}
 use Rattle.hp_complete.specs.Edges.{edges_to}
 use Rattle.hp_complete.specs.Names.{with_more}
 use Rattle.hp_complete.proofs.EdgeSteps.{next-atom}

@@ -1,6 +1,6 @@
 use Rattle.std.proofs.Common.{◌≡◌, drop}
 use Rattle.std.specs.List.{flat_map}
-use Rattle.hp_flows.specs.Fitting.{atom_variables}
+use Rattle.law_equations.specs.Meaning.Fitting.{atom_variables}
 use Rattle.hp_complete.specs.Edges.{edges_to}
 use Rattle.hp_complete.specs.Names.{with_more}
 use Rattle.hp_complete.proofs.order.add_atoms.Given as goal

@@ -1,6 +1,6 @@
 use Rattle.std.proofs.Common.{◌+◌, ℕ, get_or, drop, sym, ap, ◌∙◌}
 use Rattle.std.proofs.lemmas.List.{get_or_default}
-use Rattle.hp_flows.specs.Scheduling.{clock_variables}
+use Rattle.law_equations.specs.Meaning.Scheduling.{clock_variables}
 use Rattle.hp_complete.specs.Edges.{edges_to}
 use Rattle.hp_complete.specs.Names.{with_more}
 use Rattle.hp_complete.proofs.EdgeSteps.{next-step}

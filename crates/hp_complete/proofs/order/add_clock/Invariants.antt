@@ -1,5 +1,5 @@
 use Rattle.std.proofs.Common.{◌≡◌, drop}
-use Rattle.hp_flows.specs.Scheduling.{clock_variables}
+use Rattle.law_equations.specs.Meaning.Scheduling.{clock_variables}
 use Rattle.hp_complete.specs.Edges.{edges_to}
 use Rattle.hp_complete.specs.Names.{with_more}
 use Rattle.hp_complete.proofs.order.add_clock.Given as goal

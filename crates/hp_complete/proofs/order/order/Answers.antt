@@ -1,5 +1,5 @@
 use Rattle.std.proofs.Common.{map, sym, ap, subst, ◌∙◌}
-use Rattle.hp_flows.specs.Scheduling.{IsRanked}
+use Rattle.law_equations.specs.Meaning.Scheduling.{IsRanked}
 use Rattle.hp_graph.specs.Graphs.{IsSortedBy}
 use Rattle.hp_complete.specs.Edges.{edges_of, placed}
 use Rattle.hp_complete.specs.Ordering.{unplaced}

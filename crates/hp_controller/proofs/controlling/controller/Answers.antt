@@ -1,7 +1,7 @@
 use Rattle.std.proofs.Common.{◌+◌, sym, ap₂, subst, ◌∙◌}
 use Rattle.hp_boolx.specs.Machine.{Machine, game}
 use Rattle.hp_boolx.specs.MachineView.{machine_seen}
-use Rattle.hp_certmade.specs.Made.{HaveFunctions}
+use Rattle.hp_cert.specs.Certmade.Made.{HaveFunctions}
 use Rattle.hp_control.specs.Controlling.{AreFunctions}
 use Rattle.hp_controller.specs.Controllers.{node_of_lines}
 use Rattle.hp_controller.specs.Controlling.{IsController}

@@ -1,6 +1,6 @@
 use Rattle.std.proofs.Common.{◌+◌, drop, sym, ap, ◌∙◌}
 use Rattle.hp_tree.specs.Expressions.{parts_of}
-use Rattle.hp_defining.specs.Layers.{sight}
+use Rattle.hp_tables.specs.Defining.Layers.{sight}
 use Rattle.hp_init.specs.Asks.{of_parts}
 use Rattle.hp_init.specs.Goals.{with_more}
 use Rattle.hp_init.proofs.AskLaws.{asked-parts}

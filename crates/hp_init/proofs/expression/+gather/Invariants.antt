@@ -1,7 +1,7 @@
 use Rattle.std.proofs.Common.{◌≡◌, ◌+◌, ◌*◌, drop}
 use Rattle.hp_tree.specs.Expressions.{exprs_of, parts_of}
 use Rattle.hp_tree.specs.Sizes.{nodes, nodes_of_all, nodes_of_parts}
-use Rattle.hp_defining.specs.Layers.{sight}
+use Rattle.hp_tables.specs.Defining.Layers.{sight}
 use Rattle.hp_init.specs.Asks.{of_exprs, of_parts}
 use Rattle.hp_init.specs.Goals.{with_more}
 use Rattle.hp_init.proofs.expression.+gather.Given as goal

@@ -1,6 +1,6 @@
 use Rattle.std.proofs.Common.{[], ◌∷◌, ◌++◌, ap, ◌∙◌}
 use Rattle.hp_tree.specs.Meaning.{names_of as declared}
-use Rattle.hp_defining.specs.Layers.{says_numbers}
+use Rattle.hp_tables.specs.Defining.Layers.{says_numbers}
 use Rattle.hp_init.proofs.GatherLaws.{begun}
 use Rattle.hp_init.proofs.gather.begin.Goals as goal
 

@@ -2,8 +2,8 @@ use Rattle.std.proofs.Common.{◌≡◌, [], ◌∷◌, ◌++◌, map, ap, ◌�
 use Rattle.hp_tree.specs.Blocks.{eqns_of}
 use Rattle.hp_tree.specs.BlockView.{eqn_seen}
 use Rattle.hp_tree.specs.Meaning.{names_of as declared}
-use Rattle.hp_defining.specs.Names.{names_in}
-use Rattle.hp_defining.specs.Layers.{says, says_numbers, says_seen, sight}
+use Rattle.hp_tables.specs.Defining.Names.{names_in}
+use Rattle.hp_tables.specs.Defining.Layers.{says, says_numbers, says_seen, sight}
 use Rattle.hp_init.specs.Asks.{seen_in}
 use Rattle.hp_init.specs.Gathered.{seen_at}
 use Rattle.hp_init.proofs.EntryLaws.{seen_as, seen-entered}

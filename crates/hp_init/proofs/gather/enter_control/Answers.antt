@@ -1,6 +1,6 @@
 use Rattle.std.proofs.Common.{ap, ◌∙◌}
 use Rattle.hp_tree.specs.BlockView.{eqn_seen}
-use Rattle.hp_defining.specs.Layers.{sight}
+use Rattle.hp_tables.specs.Defining.Layers.{sight}
 use Rattle.hp_init.proofs.EntryLaws.{sight-within}
 use Rattle.hp_init.proofs.gather.enter_control.Goals as goal
 

@@ -1,5 +1,5 @@
 use Rattle.std.proofs.Common.{◌≡◌, drop}
-use Rattle.hp_defining.specs.Layers.{sight}
+use Rattle.hp_tables.specs.Defining.Layers.{sight}
 use Rattle.hp_init.specs.Asks.{of_decls}
 use Rattle.hp_init.specs.Goals.{with_more}
 use Rattle.hp_init.proofs.gather.gather_decls.Given as goal

@@ -1,5 +1,5 @@
 use Rattle.std.proofs.Common.{◌≡◌, ◌+◌, drop, sym, ap, ◌∙◌}
-use Rattle.hp_defining.specs.Layers.{sight}
+use Rattle.hp_tables.specs.Defining.Layers.{sight}
 use Rattle.hp_init.specs.Asks.{to_want, tell_name, of_path}
 use Rattle.hp_init.specs.Goals.{with_more}
 use Rattle.hp_init.proofs.AskLaws.{asked-path}

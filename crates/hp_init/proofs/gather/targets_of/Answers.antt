@@ -1,5 +1,5 @@
 use Rattle.std.proofs.Common.{◌≡◌, ◌+◌, drop, sym, ap, ◌∙◌}
-use Rattle.hp_defining.specs.Layers.{sight}
+use Rattle.hp_tables.specs.Defining.Layers.{sight}
 use Rattle.hp_init.specs.Asks.{targets_of}
 use Rattle.hp_init.specs.Goals.{with_more, target_of}
 use Rattle.hp_init.proofs.AskLaws.{targets-next}

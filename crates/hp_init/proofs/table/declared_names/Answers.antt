@@ -1,6 +1,6 @@
 use Rattle.std.proofs.Common.{◌≡◌, ◌-◌, drop, is_some, ap, ◌∙◌, arith}
 use Rattle.hp_init.specs.Tables.{declared_in}
-use Rattle.hp_defining.specs.Layers.{put_at}
+use Rattle.hp_tables.specs.Defining.Layers.{put_at}
 use Rattle.hp_init.proofs.TableLaws.{declared-next}
 use Rattle.hp_init.proofs.table.declared_names.Goals as goal
 

@@ -3,8 +3,8 @@ use Rattle.std.proofs.lemmas.Map.Text.{hash_map_updates_str}
 use Rattle.std.specs.Str.{bytes_eq}
 use Rattle.std.specs.Map.{lookup}
 use Rattle.hp_init.specs.Tables.{holds}
-use Rattle.hp_defining.specs.Layers.{put_at}
-use Rattle.hp_defining.proofs.LayerLaws.{chosen}
+use Rattle.hp_tables.specs.Defining.Layers.{put_at}
+use Rattle.hp_tables.proofs.DefiningLemmas.LayerLaws.{chosen}
 use Rattle.hp_init.proofs.table.put.Goals as goal
 
 pub returns : goal.returns

@@ -1,7 +1,7 @@
 use Rattle.std.proofs.Common.{List, ◌++◌}
 use Rattle.std.specs.List.{AllByRecursion}
 use Rattle.hp_obc.specs.Machines.{Machine}
-use Rattle.hp_regular.specs.Regular.{EqnsRegular}
+use Rattle.hp_form.specs.Regular.Regular.{EqnsRegular}
 use Rattle.hp_machines.specs.Making.{AreMade}
 use Rattle.hp_machines.proofs.node.machines_of.Given as goal
 

@@ -1,6 +1,6 @@
 use Rattle.std.proofs.Common.{◌≡◌, ◌+◌, ◌++◌, ◌∷◌, [], take, ap, sym, ◌∙◌, rules}
 use Rattle.std.proofs.lemmas.List.{take_more}
-use Rattle.hp_made.specs.Types.{obc_types_of}
+use Rattle.law_equations.specs.Made.Types.{obc_types_of}
 use Rattle.hp_machines.proofs.HeadingLaws.{obc_types_append}
 use Rattle.hp_machines.proofs.types.obc_types.Goals as goal
 

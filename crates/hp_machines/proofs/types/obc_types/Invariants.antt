@@ -1,5 +1,5 @@
 use Rattle.std.proofs.Common.{◌≡◌, take}
-use Rattle.hp_made.specs.Types.{obc_types_of}
+use Rattle.law_equations.specs.Made.Types.{obc_types_of}
 use Rattle.hp_machines.proofs.types.obc_types.Given as goal
 
 abbrev pub invariant-loop-item : goal.invariant-loop-item

@@ -1,7 +1,7 @@
 use Rattle.std.proofs.Common.{◌++◌, ◌∷◌, ap, ◌∙◌, codes}
 use Rattle.hp_obctext.specs.Files.{each, type_words, machine_words}
 use Rattle.hp_obctext.specs.Found.{type_entries}
-use Rattle.hp_known.specs.Known.{lookup}
+use Rattle.hp_base.specs.Known.Known.{lookup}
 use Rattle.hp_obctext.specs.Words.{fixed, printed}
 use Rattle.hp_obctext.proofs.RoundTrip.{printed_text}
 use Rattle.hp_obctext.proofs.Saying.{all_found}

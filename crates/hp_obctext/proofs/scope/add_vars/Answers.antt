@@ -1,6 +1,6 @@
 use Rattle.std.proofs.Common.{◌+◌, ◌++◌, drop, ap, sym, ◌∙◌}
 use Rattle.hp_obctext.specs.Found.{var_entries}
-use Rattle.hp_known.specs.Known.{lookup}
+use Rattle.hp_base.specs.Known.Known.{lookup}
 use Rattle.hp_obctext.proofs.LookupLaws.{next_entry, all_added}
 use Rattle.hp_obctext.proofs.Writing.{drop-next, drop-end}
 use Rattle.hp_obctext.proofs.scope.add_vars.Goals as goal

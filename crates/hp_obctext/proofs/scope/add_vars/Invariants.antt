@@ -1,6 +1,6 @@
 use Rattle.std.proofs.Common.{◌≡◌, ℕ, List, ◌++◌, drop}
 use Rattle.hp_obctext.specs.Found.{var_entries}
-use Rattle.hp_known.specs.Known.{lookup}
+use Rattle.hp_base.specs.Known.Known.{lookup}
 use Rattle.hp_obctext.proofs.scope.add_vars.Given as goal
 
 abbrev pub invariant-loop-var : goal.invariant-loop-var

@@ -1,7 +1,7 @@
 use Rattle.std.proofs.Common.{◌+◌, ◌++◌, drop, ap, sym, ◌∙◌}
 use Rattle.hp_obc.specs.Machines.{ObcType}
 use Rattle.hp_obctext.specs.Found.{type_entries}
-use Rattle.hp_known.specs.Known.{lookup, with_entry}
+use Rattle.hp_base.specs.Known.Known.{lookup, with_entry}
 use Rattle.hp_obctext.proofs.LookupLaws.{next_entry, all_added}
 use Rattle.hp_obctext.proofs.Writing.{drop-next, drop-end}
 use Rattle.hp_obctext.proofs.scope.known_types.Goals as goal

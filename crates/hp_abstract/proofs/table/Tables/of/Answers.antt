@@ -1,5 +1,5 @@
 use Rattle.std.proofs.Common.{ℕ, List, Option, ap, ◌∙◌}
-use Rattle.hp_declared.specs.Items as declared
+use Rattle.hp_tables.specs.Declarations.Items as declared
 use Rattle.hp_drawing.specs.Told.{counts_of, none_of}
 use Rattle.hp_abstract.specs.Seen.{constructors_seen, told_in}
 use Rattle.hp_abstract.proofs.TableLaws.{constructors-told, nodes-told}

@@ -1,5 +1,5 @@
 use Rattle.std.proofs.Common.{ℕ, List, Option, ap, ◌∙◌}
-use Rattle.hp_declared.specs.Items as declared
+use Rattle.hp_tables.specs.Declarations.Items as declared
 use Rattle.hp_complete.specs.Signatures.{places_of}
 use Rattle.hp_complete.specs.Tables.{all_bounded}
 use Rattle.hp_complete.proofs.TableLaws.{constructors-bounded}

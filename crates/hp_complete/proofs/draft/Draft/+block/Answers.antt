@@ -1,7 +1,7 @@
 use Rattle.std.proofs.Common.{◌≡◌, [], None, map, sym, ap, ◌∙◌}
 use Rattle.hp_tree.specs.Blocks.{arms_of}
 use Rattle.hp_tree.specs.BlockView.{arm_seen, eqn_seen}
-use Rattle.hp_made.specs.Making.{Inner, each_once, names_of_eqn, in_block, restart_site, with_flag}
+use Rattle.law_equations.specs.Made.Making.{Inner, each_once, names_of_eqn, in_block, restart_site, with_flag}
 use Rattle.hp_complete.specs.Drafting.{block_made, eqn_made, restarted_made, switch_made}
 use Rattle.hp_complete.specs.Drafts.{place_of, sketch_of}
 use Rattle.hp_complete.specs.Names.{names_seen}

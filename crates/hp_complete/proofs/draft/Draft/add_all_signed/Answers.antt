@@ -1,6 +1,6 @@
 use Rattle.std.proofs.Common.{◌+◌, ◌++◌, ◌∷◌, [], drop, sym, ap, ◌∙◌}
 use Rattle.std.proofs.lemmas.List.{append_assoc}
-use Rattle.hp_made.specs.Making.{next, numbers_from}
+use Rattle.law_equations.specs.Made.Making.{next, numbers_from}
 use Rattle.hp_complete.specs.Drafting.{signed_at}
 use Rattle.hp_complete.specs.Places.{saying}
 use Rattle.hp_complete.proofs.DraftLaws.{one-signed}

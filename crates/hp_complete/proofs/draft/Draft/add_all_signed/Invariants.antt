@@ -1,5 +1,5 @@
 use Rattle.std.proofs.Common.{◌≡◌, ◌++◌, drop}
-use Rattle.hp_made.specs.Making.{next, numbers_from}
+use Rattle.law_equations.specs.Made.Making.{next, numbers_from}
 use Rattle.hp_complete.specs.Drafting.{signed_at}
 use Rattle.hp_complete.specs.Drafts.{place_of, sketch_of}
 use Rattle.hp_complete.specs.Places.{saying}

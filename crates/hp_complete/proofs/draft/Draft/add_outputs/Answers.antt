@@ -1,6 +1,6 @@
 use Rattle.std.proofs.Common.{◌≡◌, ◌+◌, ◌++◌, ◌∷◌, [], drop, sym, ap, ◌∙◌}
 use Rattle.std.proofs.lemmas.List.{append_assoc}
-use Rattle.hp_made.specs.Making.{next, numbers_from, with_outputs}
+use Rattle.law_equations.specs.Made.Making.{next, numbers_from, with_outputs}
 use Rattle.hp_complete.proofs.DraftLaws.{one-output}
 use Rattle.hp_complete.specs.Drafts.{place_of, sketch_of}
 use Rattle.hp_complete.proofs.LayerLaws.{drop-next}

@@ -1,5 +1,5 @@
 use Rattle.std.proofs.Common.{◌+◌, Some, drop, sym, ap, ◌∙◌}
-use Rattle.hp_made.specs.Making.{bind, bind_all}
+use Rattle.law_equations.specs.Made.Making.{bind, bind_all}
 use Rattle.hp_complete.specs.Places.{sees}
 use Rattle.hp_complete.specs.Drafts.{place_of, sketch_of}
 use Rattle.hp_complete.proofs.LayerLaws.{drop-next}

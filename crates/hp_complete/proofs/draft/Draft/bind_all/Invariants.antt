@@ -1,5 +1,5 @@
 use Rattle.std.proofs.Common.{◌≡◌, drop}
-use Rattle.hp_made.specs.Making.{bind_all}
+use Rattle.law_equations.specs.Made.Making.{bind_all}
 use Rattle.hp_complete.specs.Drafts.{place_of, sketch_of}
 use Rattle.hp_complete.specs.Places.{sees}
 use Rattle.hp_complete.proofs.draft.Draft.bind_all.Given as goal

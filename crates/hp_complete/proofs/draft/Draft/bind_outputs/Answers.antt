@@ -1,5 +1,5 @@
 use Rattle.std.proofs.Common.{◌+◌, drop, sym, ap, ◌∙◌}
-use Rattle.hp_made.specs.Making.{bind}
+use Rattle.law_equations.specs.Made.Making.{bind}
 use Rattle.hp_complete.specs.Drafting.{bind_each, number_left}
 use Rattle.hp_complete.specs.Drafts.{place_of, sketch_of}
 use Rattle.hp_complete.specs.Places.{sees}

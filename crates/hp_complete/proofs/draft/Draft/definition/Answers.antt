@@ -1,5 +1,5 @@
 use Rattle.std.proofs.Common.{◌∙◌}
-use Rattle.hp_made.specs.Making.{path_for}
+use Rattle.law_equations.specs.Made.Making.{path_for}
 use Rattle.hp_complete.specs.Drafts.{place_of, sketch_of}
 use Rattle.hp_complete.specs.Places.{at_depth}
 use Rattle.hp_complete.proofs.DraftLaws.{entered-back}

@@ -1,5 +1,5 @@
 use Rattle.std.proofs.Common.{◌≡◌, ap, ◌∙◌}
-use Rattle.hp_made.specs.Making.{declared, own_names}
+use Rattle.law_equations.specs.Made.Making.{declared, own_names}
 use Rattle.hp_complete.specs.Drafting.{declared_at, owned_at, remembered_at, standing_of}
 use Rattle.hp_complete.specs.Drafts.{place_of, sketch_of}
 use Rattle.hp_complete.specs.Names.{names_seen}

@@ -1,10 +1,10 @@
 use Rattle.std.proofs.Common.{◌∷◌, ◌++◌, [], ℕ, List, None, Some, sym, ap, ◌∙◌}
 use Rattle.hp_tree.specs.declared.decl.Cons.{Cons}
-use Rattle.hp_made.specs.Making.{path_of}
+use Rattle.law_equations.specs.Made.Making.{path_of}
 use Rattle.hp_complete.specs.Drafting.{entered}
 use Rattle.hp_complete.specs.Drafts.{place_of, sketch_of}
 use Rattle.hp_complete.specs.Places.{at_site}
-use Rattle.hp_telling.specs.Tellings.{at_base, as_of, one_more}
+use Rattle.hp_tables.specs.Telling.Tellings.{at_base, as_of, one_more}
 use Rattle.hp_complete.proofs.DraftLaws.{path-is}
 use Rattle.hp_complete.proofs.draft.Draft.enter_clock.Goals as goal
 

@@ -1,5 +1,5 @@
 use Rattle.std.proofs.Common.{ap, ◌∙◌}
-use Rattle.hp_made.specs.Making.{no_entry}
+use Rattle.law_equations.specs.Made.Making.{no_entry}
 use Rattle.hp_complete.specs.Drafting.{hidden_at, hiding}
 use Rattle.hp_complete.specs.Drafts.{place_of}
 use Rattle.hp_complete.specs.Names.{names_seen}

@@ -1,6 +1,6 @@
 use Rattle.std.proofs.Common.{◌≡◌, length, map, subst, sym, ap, ◌∙◌}
 use Rattle.std.proofs.lemmas.List.{with_items_is}
-use Rattle.hp_flows.specs.Scheduling.{IsRanked}
+use Rattle.law_equations.specs.Meaning.Scheduling.{IsRanked}
 use Rattle.hp_complete.specs.Drafts.{sketch_of}
 use Rattle.hp_complete.specs.Ordering.{unplaced}
 use Rattle.hp_complete.proofs.draft.Draft.order.Goals as goal

@@ -1,7 +1,7 @@
 use Rattle.std.proofs.Common.{◌≡◌, ◌+◌, length, ap, ◌∙◌}
 use Rattle.hp_tree.specs.Meaning.{controls_of}
 use Rattle.hp_tree.specs.Programs.{Node}
-use Rattle.hp_made.specs.Making.{next, numbers_from}
+use Rattle.law_equations.specs.Made.Making.{next, numbers_from}
 use Rattle.hp_complete.specs.Drafts.{place_of, sketch_of}
 use Rattle.hp_complete.proofs.DraftLaws.{signed-next}
 use Rattle.hp_complete.proofs.draft.Draft.sign.Goals as goal

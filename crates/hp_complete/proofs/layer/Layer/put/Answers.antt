@@ -2,7 +2,7 @@ use Rattle.std.proofs.Common.{◌≡◌, ℕ, List, Some, ap, ◌∙◌}
 use Rattle.std.proofs.lemmas.Map.Text.{hash_map_updates_str}
 use Rattle.std.specs.Str.{bytes_eq}
 use Rattle.std.specs.Map.{lookup}
-use Rattle.hp_made.specs.Making.{put}
+use Rattle.law_equations.specs.Made.Making.{put}
 use Rattle.hp_complete.specs.Layers.{says, seen, seen_if}
 use Rattle.hp_complete.proofs.LayerLaws.{seen-chosen}
 use Rattle.hp_complete.proofs.layer.Layer.put.Goals as goal

@@ -1,8 +1,0 @@
-use Rattle.hp_answered.proofs.AnswerLaws.{some_answers, behave}
-use Rattle.hp_answered.proofs.nodes_answer.Goals as goal
-
-pub returns-clause-some : goal.returns-clause-some
-returns-clause-some c = some_answers
-
-pub returns-clause-behave : goal.returns-clause-behave
-returns-clause-behave c = behave

@@ -1,8 +1,0 @@
-use Rattle.hp_answered.proofs.AnsweredLaws.{answered, all_answered}
-use Rattle.hp_answered.proofs.nodes_answer_as_their_equations.Goals as goal
-
-pub returns-clause-answered : goal.returns-clause-answered
-returns-clause-answered c = answered
-
-pub returns-clause-all : goal.returns-clause-all
-returns-clause-all c = all_answered

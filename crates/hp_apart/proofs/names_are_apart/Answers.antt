@@ -1,8 +1,0 @@
-use Rattle.hp_apart.proofs.ApartLaws.{scoped-law, lowered-law}
-use Rattle.hp_apart.proofs.names_are_apart.Goals as goal
-
-pub returns-clause-scoped : goal.returns-clause-scoped
-returns-clause-scoped c = scoped-law
-
-pub returns-clause-lowered : goal.returns-clause-lowered
-returns-clause-lowered c = lowered-law

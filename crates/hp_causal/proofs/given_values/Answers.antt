@@ -1,8 +1,0 @@
-use Rattle.hp_causal.proofs.given_values.Goals as goal
-use Rattle.hp_causal.proofs.LookedAt.{given_law, abstract_given}
-
-pub returns-clause-real : goal.returns-clause-real
-returns-clause-real c = given_law
-
-pub returns-clause-in_abstraction : goal.returns-clause-in_abstraction
-returns-clause-in_abstraction c = abstract_given

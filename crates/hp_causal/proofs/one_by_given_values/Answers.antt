@@ -1,8 +1,0 @@
-use Rattle.hp_causal.proofs.one_by_given_values.Goals as goal
-use Rattle.hp_causal.proofs.LookedAt.{one_by_controls, one_by_free}
-
-pub returns-clause-reaction : goal.returns-clause-reaction
-returns-clause-reaction c = one_by_controls
-
-pub returns-clause-abstract_instant : goal.returns-clause-abstract_instant
-returns-clause-abstract_instant c = one_by_free

@@ -1,8 +1,0 @@
-use Rattle.hp_causal.proofs.ranks_of_points.Goals as goal
-use Rattle.hp_causal.proofs.Ranking.{ranks_enough, all_ranks_enough}
-
-pub returns-clause-node : goal.returns-clause-node
-returns-clause-node c = ranks_enough
-
-pub returns-clause-program : goal.returns-clause-program
-returns-clause-program c = all_ranks_enough

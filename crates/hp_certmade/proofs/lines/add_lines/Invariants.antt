@@ -1,8 +1,0 @@
-use Rattle.std.proofs.Common.{◌≡◌, ◌++◌, map, take, Some}
-use Rattle.std.specs.Option.{option_map}
-use Rattle.hp_certmade.specs.Lines.{line_of}
-use Rattle.hp_diagram.specs.Diagrams.{branch_at}
-use Rattle.hp_certmade.proofs.lines.add_lines.Given as goal
-
-abbrev pub invariant-loop-index : goal.invariant-loop-index
-invariant-loop-index l = map Some l.lines.items ≡ map Some l.initial.lines.items ++ map (λ i. option_map (line_of l.nodes.keys) (branch_at l.t.nodes i)) (take l.index-index l.indices)

@@ -1,5 +1,0 @@
-use Rattle.hp_certmade.proofs.PlaceLaws.{place_end}
-use Rattle.hp_certmade.proofs.lines.place_of.Goals as goal
-
-pub returns-in-None-clause-place : goal.returns-in-None-clause-place
-returns-in-None-clause-place c = place_end c.args.nodes.now.keys c.args.index c.len-count.ensures.len c.in-None.ensures.index

@@ -1,6 +1,0 @@
-use Rattle.std.proofs.Common.{◌==◌, length, ap, ◌∙◌}
-use Rattle.hp_certtext.proofs.PieceLaws.{no_pieces}
-use Rattle.hp_certtext.proofs.reader.Reader.is_empty.Goals as goal
-
-pub returns : goal.returns
-returns c = c.is_empty.ensures ∙ no_pieces c.self.inside.rest.now ∙ ap (λ z. length z == 0) c.self.view_is

@@ -1,9 +1,0 @@
-use Rattle.std.proofs.Common.{◌≡◌, [], length, codes}
-use Rattle.hp_certtext.specs.Reading.{until, line}
-use Rattle.hp_certtext.proofs.reader.Reader.lines.Given as goal
-
-abbrev pub invariant-loop-lines : goal.invariant-loop-lines
-invariant-loop-lines l = until (codes "d") l.stop line l.lines.items l.self ≡ until (codes "d") l.stop line [] l.initial.self
-
-abbrev pub decreases-loop-lines : goal.decreases-loop-lines
-decreases-loop-lines l = length l.self

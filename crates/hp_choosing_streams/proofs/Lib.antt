@@ -1,6 +1,0 @@
-mod Alike
-mod Signatures
-mod TypeKinds
-mod Streams
-mod Names
-mod Uncontrolled

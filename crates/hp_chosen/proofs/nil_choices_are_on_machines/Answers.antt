@@ -1,5 +1,0 @@
-use Rattle.hp_chosen.proofs.nil_choices_are_on_machines.Goals as goal
-use Rattle.hp_chosen.proofs.Chosen.{on_machines}
-
-pub returns : goal.returns
-returns c = on_machines c.choices_are_on_machines.ensures c.machine_choices_are_kept.ensures.preferred

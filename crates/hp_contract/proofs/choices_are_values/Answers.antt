@@ -1,8 +1,0 @@
-use Rattle.hp_contract.proofs.choices_are_values.Goals as goal
-use Rattle.hp_contract.proofs.ChoiceTypes.{choice_types, typed_controls}
-
-pub returns-clause-choice : goal.returns-clause-choice
-returns-clause-choice c = choice_types
-
-pub returns-clause-run : goal.returns-clause-run
-returns-clause-run c = typed_controls

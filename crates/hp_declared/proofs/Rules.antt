@@ -1,4 +1,0 @@
--- Sets of lemmas that functions name.
-use Rattle.hp_declared.proofs.TableLaws.{constructors-end, drop-end, items-end}
-
-pub ruleset tables = (constructors-end, items-end, drop-end)

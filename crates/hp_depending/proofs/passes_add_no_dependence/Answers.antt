@@ -1,6 +1,0 @@
-use Rattle.hp_depending.proofs.FlatLaw.{both_law}
-use Rattle.hp_depending.proofs.passes_add_no_dependence.Goals as goal
-
-pub returns : goal.returns
-returns c =
-    both_law c.same_reads.ensures c.causal_is_ranked.ensures.node c.clocks_make_no_cycle.ensures c.ranks_are_kept.ensures.node c.ranked_is_causal.ensures c.clocks_are_kept.ensures.node

@@ -1,5 +1,0 @@
-mod Lists
-mod OneInstant
-mod KindLaws
-mod Possible
-mod OneReaction

@@ -1,5 +1,0 @@
-use Rattle.hp_forced.proofs.choices_are_on_machines.Goals as goal
-use Rattle.hp_forced.proofs.OnMachines.{on_machines}
-
-pub returns : goal.returns
-returns c = on_machines c.choices_are_kept.ensures.permitted c.choices_are_kept.ensures.chosen

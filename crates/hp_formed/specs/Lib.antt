@@ -1,4 +1,0 @@
-pub mod Kinds
-pub mod Declaring
-pub mod Scoping
-pub mod Scopes

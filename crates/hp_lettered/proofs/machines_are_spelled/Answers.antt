@@ -1,8 +1,0 @@
-use Rattle.hp_lettered.proofs.Joined.{machine_names, machine_types}
-use Rattle.hp_lettered.proofs.machines_are_spelled.Goals as goal
-
-pub returns-clause-names : goal.returns-clause-names
-returns-clause-names c = machine_names
-
-pub returns-clause-types : goal.returns-clause-types
-returns-clause-types c = machine_types

@@ -1,0 +1,3 @@
+pub mod CausalLemmas
+pub mod ClockingLemmas
+mod ContractLemmas

@@ -1,0 +1,3 @@
+pub mod Causal
+pub mod Clocking
+pub mod Contract

@@ -1,8 +1,0 @@
-use Rattle.hp_mirror.proofs.choices_are_kept.Goals as goal
-use Rattle.hp_mirror.proofs.SameChoices.{same_memory_permitted, same_memory_choice}
-
-pub returns-clause-permitted : goal.returns-clause-permitted
-returns-clause-permitted c = same_memory_permitted
-
-pub returns-clause-chosen : goal.returns-clause-chosen
-returns-clause-chosen c = same_memory_choice

@@ -1,8 +1,0 @@
-use Rattle.hp_readied.proofs.Whole.{single_law, whole_law}
-use Rattle.hp_readied.proofs.ready_programs_become_whole.Goals as goal
-
-pub returns-clause-single : goal.returns-clause-single
-returns-clause-single c = single_law
-
-pub returns-clause-whole : goal.returns-clause-whole
-returns-clause-whole c = whole_law

@@ -1,8 +1,0 @@
-use Rattle.hp_ready_games.proofs.programs_of_texts_are_in_order.Goals as goal
-use Rattle.hp_ready_games.proofs.Ordered.{text_order, all_stand}
-
-pub returns-clause-order : goal.returns-clause-order
-returns-clause-order c = text_order
-
-pub returns-clause-stands : goal.returns-clause-stands
-returns-clause-stands c = all_stand

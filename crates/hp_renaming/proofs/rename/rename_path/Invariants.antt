@@ -1,6 +1,0 @@
-use Rattle.std.proofs.Common.{◌≡◌, take}
-use Rattle.hp_renaming.specs.Renaming.{renamed_path}
-use Rattle.hp_renaming.proofs.rename.rename_path.Given as goal
-
-abbrev pub invariant-loop-cons : goal.invariant-loop-cons
-invariant-loop-cons g l = l.others.items ≡ renamed_path (g.R.Renaming.reads l.naming) (g.R.Renaming.declares l.naming) (take l.cons-index l.path)

@@ -1,9 +1,0 @@
-use Rattle.hp_steered.specs.Laws.{told_by}
-use Rattle.hp_steered.proofs.Entering.{enter-marked}
-use Rattle.hp_steered.proofs.blocks_are_entered.Goals as goal
-
-pub returns : goal.returns
-returns c = record {
-  entered = λ f free t z context names inner ds es spot s ms outside marks placed seen.
-      enter-marked (told_by f free) t z context names inner ds es spot s ms outside (record { marks = marks; placed = placed; seen = seen });
-}

@@ -1,0 +1,4 @@
+pub mod DefiningLemmas
+pub mod DeclarationsLemmas
+pub mod TellingLemmas
+pub mod RenamingLemmas

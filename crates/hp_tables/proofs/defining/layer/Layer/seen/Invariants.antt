@@ -1,0 +1,14 @@
+use Rattle.std.proofs.Common.{◌≡◌, ◌≤◌, length, drop}
+use Rattle.hp_tables.specs.Defining.Seen.{names_seen}
+use Rattle.hp_tables.specs.Defining.Layers.{says, says_seen, sight}
+use Rattle.hp_tables.proofs.defining.layer.Layer.seen.Given as goal
+
+abbrev pub invariant-loop-i : goal.invariant-loop-i
+invariant-loop-i l =
+    record {
+      within : l.i ≤ length l.names;
+      seen : says l.layer ≡ says_seen (names_seen (drop l.i l.names)) (sight l.layers);
+    }
+
+abbrev pub decreases-loop-i : goal.decreases-loop-i
+decreases-loop-i l = l.i

@@ -1,0 +1,4 @@
+pub mod Defining
+pub mod Declarations
+pub mod Telling
+pub mod Renaming

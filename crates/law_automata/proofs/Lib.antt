@@ -1,0 +1,4 @@
+pub mod LoweredLemmas
+pub mod LowerableLemmas
+pub mod ReadiedLemmas
+pub mod ClassedLemmas

@@ -1,0 +1,4 @@
+pub mod Lowered
+pub mod Lowerable
+pub mod Readied
+pub mod Classed

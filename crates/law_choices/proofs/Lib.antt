@@ -1,0 +1,13 @@
+pub mod OneForOneLemmas
+pub mod IndependentLemmas
+pub mod DependingLemmas
+pub mod UndisturbedLemmas
+pub mod OrderedLemmas
+pub mod ClosedLemmas
+pub mod OnClocksLemmas
+pub mod ChoosingLemmas
+pub mod RunsLemmas
+pub mod FilledLemmas
+pub mod FlatLemmas
+mod StreamsLemmas
+pub mod ChosenLemmas

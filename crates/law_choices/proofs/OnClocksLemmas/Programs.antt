@@ -1,0 +1,207 @@
+-- The variables of the equations that are made of a ready program without its automata have clocks.
+use Rattle.std.proofs.Common.{◌≡◌, ℕ, ◌≤◌, Bool, true, false, if◌then◌else◌, List, [], ◌∷◌, ◌++◌, length, map, reverse, Some, refl, sym, ap, subst, ◌∙◌, arith}
+use Rattle.std.specs.List.{All, AllByRecursion}
+use Rattle.std.specs.Str.{bytes_eq}
+use Rattle.std.proofs.lemmas.List.{append_assoc, length-map}
+use Rattle.std.proofs.lemmas.List.Elements.{All-head, All-tail}
+use Rattle.hp_base.specs.declared.ty.Ty.{Ty}
+use Rattle.hp_obc.specs.Form.{HasConstructors, TypesForm}
+use Rattle.hp_obc.specs.Machines.{ObcType}
+use Rattle.hp_tree.specs.declared.program.Item.{Item}
+use Rattle.hp_tree.specs.declared.program.Item.TheVariants.{TypeItem, NodeItem}
+use Rattle.hp_tree.specs.Programs.{TypeDecl, Node}
+use Rattle.hp_tree.specs.Values.{IsOf}
+use Rattle.hp_tree.specs.Meaning.{types_of, node_among}
+use Rattle.hp_meaning.specs.Causal.Clocked.{ClocksRight}
+use Rattle.hp_names.specs.Scopes.{nothing}
+use Rattle.law_judged.specs.Named.Scoped.{EachNode}
+use Rattle.hp_expand.specs.Numbering.{no_node, replaced}
+use Rattle.law_values.specs.Valued.Values.{Classing, class_behind, AreAccepted, scope_behind}
+use Rattle.law_values.specs.Accepted.Laws.{IsReady}
+use Rattle.law_values.proofs.AcceptedLemmas.Assembled.{types_replaced, types_clocked}
+use Rattle.law_values.proofs.AcceptedLemmas.Laws.{accepted}
+use Rattle.hp_automata.specs.Lowering.{Enumerations, enumerations, lowered_item, lowered_program}
+use Rattle.law_automata.specs.Lowered.Laws.{AllClocksRight}
+use Rattle.law_automata.specs.Lowered.Removable.{IsRemovable}
+use Rattle.law_automata.proofs.LoweredLemmas.RightSteps.{all_right_law}
+use Rattle.law_automata.proofs.LowerableLemmas.Texts.{clocked_of, each_reverse}
+use Rattle.hp_flat.specs.Nodes.{FlatNode}
+use Rattle.law_equations.specs.Made.Blocks.{IsPlain}
+use Rattle.law_equations.specs.Made.Making.{Known, flat_type, first_value}
+use Rattle.law_equations.specs.Made.Types.{obc_type_of, obc_types, obc_types_of}
+use Rattle.law_automata.specs.Readied.Laws.{IsWhole}
+use Rattle.law_automata.specs.Readied.Sound.{HasOne, HaveConstructors, SoundBehind}
+use Rattle.law_automata.proofs.ReadiedLemmas.SoundPrograms.{ready_sound_law}
+use Rattle.law_automata.proofs.ReadiedLemmas.Whole.{whole_law}
+use Rattle.law_values.specs.Filled.Firsts.{HasFirst, TypesHaveConstructors, DeclsHaveFirsts, NodeHasFirsts}
+use Rattle.law_values.proofs.FilledLemmas.Ready.{ready_firsts}
+use Rattle.hp_complete.specs.Declaring.{known_of}
+use Rattle.hp_complete.specs.Made.{IsMadeOf, AreMadeOf}
+use Rattle.hp_complete.specs.Signatures.{numbered, type_names, places_of}
+use Rattle.law_equations.specs.Answered.Answering.{AreApart}
+use Rattle.law_wellmade.specs.Timely.Tested.{ConstructorsDiffer, AreTested}
+use Rattle.law_wellmade.proofs.TimelyLemmas.DifferLaws.{differ}
+use Rattle.law_wellmade.proofs.TestedLemmas.TestedPrograms.{tested_law}
+use Rattle.law_wellmade.specs.Begun.Laws.{HasFewTypes}
+use Rattle.law_wellmade.proofs.BegunLemmas.Numbers.{first_good}
+use Rattle.law_wellmade.proofs.BegunLemmas.LoweredFirsts.{lowered_firsts}
+use Rattle.law_wellmade.proofs.BegunLemmas.NamesApart.{lowered_apart}
+use Rattle.law_wellmade.proofs.BegunLemmas.Grounds.{grounded}
+use Rattle.law_wellmade.proofs.RegularLemmas.Expressions.{TypeFacts}
+use Rattle.law_wellmade.proofs.RegularLemmas.TypeLaws.{AreNumbered, OwnNumbers, own_numbers, are_numbered, type_facts}
+use Rattle.law_choices.specs.Closed.Clocking.{HasClocks}
+use Rattle.law_choices.proofs.ClosedLemmas.ClosedLaws.{twice}
+use Rattle.law_choices.specs.OnClocks.Clocks.{ClocksLaw}
+use Rattle.law_choices.proofs.OnClocksLemmas.Arms.{ArmFacts}
+use Rattle.law_choices.proofs.OnClocksLemmas.Nodes.{node_step}
+use Rattle.law_choices.proofs.OnClocksLemmas.MadeClocks.{made_clocks}
+use Rattle.law_choices.proofs.OnClocksLemmas.Headed.{KindsSigned, kinds_signed}
+use Rattle.law_choices.proofs.OnClocksLemmas.ArmNumbers.{AreFew, arm_facts}
+
+-- ---- programs
+
+-- what is made of a node has clocks, and the kinds of the node
+abbrev pub Clocked : List ObcType → Known → Node → Type 0
+Clocked obc k n = (f : FlatNode) → IsMadeOf k n f → HasClocks obc f × KindsSigned obc k n f
+
+all_clocked : (obc : List ObcType) (k : Known) (items : List Item) (fs : List FlatNode) → AreMadeOf k items fs → EachNode (Clocked obc k) items → AllByRecursion (HasClocks obc) fs
+all_clocked obc k [] [] made h = tt
+all_clocked obc k [] (f ∷ fs) made h = absurd made
+all_clocked obc k (TypeItem t ∷ items) fs made h = all_clocked obc k items fs made h
+all_clocked obc k (NodeItem n ∷ items) [] made h = absurd made
+all_clocked obc k (NodeItem n ∷ items) (f ∷ fs) made h = ((h.0 f made.0).0, all_clocked obc k items fs made.1 h.1)
+
+no_variables : (items : List Item) → (scope_behind items).variables ≡ []
+no_variables [] = refl
+no_variables (TypeItem t ∷ items) = no_variables items
+no_variables (NodeItem n ∷ items) = no_variables items
+
+outputs_first : (types : List TypeDecl) (items : List Item) → EachNode (NodeHasFirsts types) items → (f : List ℕ) (n : Node) → node_among items f ≡ Some n → DeclsHaveFirsts types n.outputs
+outputs_first types [] h f n e = absurd (cc)
+outputs_first types (TypeItem t ∷ items) h f n e = outputs_first types items h f n e
+outputs_first types (NodeItem m ∷ items) h f n e = by (bytes_eq m.name f) e (outputs_first types items h.1 f n)
+  where
+    by : (b : Bool) → (if b then Some m else node_among items f) ≡ Some n → (node_among items f ≡ Some n → DeclsHaveFirsts types n.outputs) → DeclsHaveFirsts types n.outputs
+    by true e g = let same : m ≡ n = cc in subst (λ (z : Node). DeclsHaveFirsts types z.outputs) same h.0.outputs
+    by false e g = g e
+
+pub each_plain : (items : List Item) → EachNode IsWhole items → EachNode (λ n. IsPlain n.body) items
+each_plain [] h = tt
+each_plain (TypeItem t ∷ items) h = each_plain items h
+each_plain (NodeItem n ∷ items) h = (h.0.plain, each_plain items h.1)
+
+module _ (obc : List ObcType) (program : List Item) (types : List TypeDecl) (arms : ArmFacts obc (known_of program) types) (facts : TypeFacts obc (known_of program) types) (apart : AreApart (reverse program)) where
+  clocked_behind : (later earlier : List Item) → reverse program ≡ later ++ earlier → SoundBehind types earlier → EachNode (NodeHasFirsts types) earlier → EachNode (λ n. IsPlain n.body) earlier → AreTested types earlier → EachNode ClocksRight earlier
+      → EachNode (Clocked obc (known_of program)) earlier
+  clocked_behind later [] e sound firsts plain tested right = tt
+  clocked_behind later (TypeItem t ∷ earlier) e sound firsts plain tested right = clocked_behind (later ++ TypeItem t ∷ []) earlier (e ∙ sym (append_assoc later (TypeItem t ∷ []) earlier)) sound firsts plain tested right
+  clocked_behind later (NodeItem n ∷ earlier) e sound firsts plain tested right = (
+    λ f made.
+        let s =
+        node_step obc f (known_of program) types arms facts (node_among earlier) (outputs_first types earlier firsts.1) (scope_behind earlier) n (no_variables earlier) sound.0 (grounded program later earlier n e apart) firsts.0 plain.0 tested.0 right.0 in
+        (made_clocks obc (known_of program) n f made s.0, kinds_signed obc (known_of program) n f made s.1),
+    clocked_behind (later ++ NodeItem n ∷ []) earlier (e ∙ sym (append_assoc later (NodeItem n ∷ []) earlier)) sound.1 firsts.1 plain.1 tested.1 right.1,
+  )
+
+  nodes_clocked : SoundBehind types (reverse program) → EachNode (NodeHasFirsts types) (reverse program) → EachNode (λ n. IsPlain n.body) (reverse program) → AreTested types (reverse program) → EachNode ClocksRight (reverse program)
+      → EachNode (Clocked obc (known_of program)) program
+  nodes_clocked sound firsts plain tested right =
+      subst (λ xs. EachNode (Clocked obc (known_of program)) xs) (twice program) (each_reverse (Clocked obc (known_of program)) (reverse program) (clocked_behind [] (reverse program) refl sound firsts plain tested right))
+
+-- ---- the clocks of the program
+
+accepted_right : (types : List TypeDecl) (class : Classing) (items : List Item) → AreAccepted types class items → EachNode ClocksRight items
+accepted_right types class [] a = tt
+accepted_right types class (TypeItem t ∷ items) a = accepted_right types class items a
+accepted_right types class (NodeItem n ∷ items) a = (a.0.clocks, accepted_right types (class_behind class) items a.1)
+
+to_all : (items : List Item) → EachNode ClocksRight items → AllClocksRight items
+to_all [] h = tt
+to_all (TypeItem t ∷ items) h = to_all items h
+to_all (NodeItem n ∷ items) h = (h.0, to_all items h.1)
+
+from_all : (items : List Item) → AllClocksRight items → EachNode ClocksRight items
+from_all [] h = tt
+from_all (TypeItem t ∷ items) h = from_all items h
+from_all (NodeItem n ∷ items) h = (h.0, from_all items h.1)
+
+-- a ready program without its automata has right clocks
+ready_right : (program after : List Item) → IsReady program after → IsRemovable after → EachNode ClocksRight (lowered_program after)
+ready_right program after r ok =
+    let a = accepted program after r in
+    let right : EachNode ClocksRight after = subst (EachNode ClocksRight) (twice after) (each_reverse ClocksRight (reverse after) (accepted_right (types_of after) a.0 (reverse after) a.1)) in
+    from_all (lowered_program after) (all_right_law after ok (to_all after right))
+
+-- ---- what types that have form give
+
+pub few_of : (types : List TypeDecl) → All HasConstructors (obc_types types) → AreFew types
+few_of [] h = tt
+few_of (t ∷ types) h = let few = (All-head HasConstructors (obc_type_of t) (obc_types types) h).1 in (omega (arith, few), few_of types (All-tail HasConstructors (obc_type_of t) (obc_types types) h))
+
+pub some_of : (types : List TypeDecl) → All HasConstructors (obc_types types) → TypesHaveConstructors types
+some_of [] h = tt
+some_of (t ∷ types) h =
+    let some = (All-head HasConstructors (obc_type_of t) (obc_types types) h).0 in
+    ((λ e. let none : length t.cons ≡ 0 = ap length e in absurd (omega (arith, some, none))), some_of types (All-tail HasConstructors (obc_type_of t) (obc_types types) h))
+
+pub number_of : (types : List TypeDecl) → length (obc_types types) ≤ 1000 → length types ≤ 65535
+number_of types l = let same = length-map types obc_type_of in omega (arith, l, same)
+
+-- ---- ready programs
+
+pub types_low : (enums : Enumerations) (items : List Item) → types_of (map (lowered_item enums) items) ≡ types_of items
+types_low enums [] = refl
+types_low enums (TypeItem t ∷ items) = ap (λ ts. t ∷ ts) (types_low enums items)
+types_low enums (NodeItem n ∷ items) = types_low enums items
+
+pub names_of_types : (items : List Item) → type_names items ≡ map (λ (t : TypeDecl). t.name) (types_of items)
+names_of_types [] = refl
+names_of_types (TypeItem t ∷ items) = ap (λ xs. t.name ∷ xs) (names_of_types items)
+names_of_types (NodeItem n ∷ items) = names_of_types items
+
+some_one : (cs : List (List ℕ)) → (cs ≡ [] → ⊥) → HasOne cs
+some_one [] f = absurd (f refl)
+some_one (c ∷ cs) f = tt
+
+pub some_constructors : (items : List Item) → TypesHaveConstructors (types_of items) → HaveConstructors items
+some_constructors [] h = tt
+some_constructors (TypeItem t ∷ items) h = (some_one t.cons h.0, some_constructors items h.1)
+some_constructors (NodeItem n ∷ items) h = some_constructors items h
+
+abbrev AreGood : List TypeDecl → List (List ℕ) → Type 0
+AreGood types names = (t : Ty) → HasFirst types t → IsOf types t (first_value (flat_type (numbered 0 names) t))
+
+pub ready_clocked : (program after : List Item) → IsReady program after → IsRemovable after → TypesForm (obc_types_of program) → EachNode (Clocked (obc_types (types_of after)) (known_of (lowered_program after))) (lowered_program after)
+ready_clocked program after r ok form =
+    let full : TypesHaveConstructors (types_of program) = some_of (types_of program) form.counts in
+    let few : HasFewTypes program = number_of (types_of program) form.number in
+    let enums = enumerations [] after in
+    let low = lowered_program after in
+    let clocked = clocked_of (replaced program) after r.clocks in
+    let same : types_of low ≡ types_of after = types_low enums after in
+    let same_all : types_of low ≡ types_of program = same ∙ types_clocked (replaced program) after clocked ∙ types_replaced no_node program in
+    let names : type_names low ≡ type_names program = names_of_types low ∙ ap (λ ts. map (λ (t : TypeDecl). t.name) ts) same_all ∙ sym (names_of_types program) in
+    let firsts : AreGood (types_of low) (type_names low) =
+    subst (λ ns. AreGood (types_of low) ns) (sym names) (subst (λ ts. AreGood ts (type_names program)) (sym same_all) (first_good program nothing r.named few)) in
+    let own : OwnNumbers (types_of low) (type_names low) =
+    subst (λ ns. OwnNumbers (types_of low) ns) (sym names) (subst (λ ts. OwnNumbers ts (type_names program)) (sym same_all) (own_numbers program nothing r.named few)) in
+    let numbers : AreNumbered (places_of low) 0 (type_names low) = subst (λ ns. AreNumbered (numbered 0 ns) 0 ns) (sym names) (are_numbered program nothing 0 r.named) in
+    let many : length (types_of low) ≤ 65535 = subst (λ ts. length ts ≤ 65535) (sym same_all) few in
+    let facts = type_facts low numbers many own firsts in
+    let small : AreFew (types_of low) = subst AreFew (sym same_all) (few_of (types_of program) form.counts) in
+    let apart_types : ConstructorsDiffer (types_of low) = subst ConstructorsDiffer (sym same_all) (differ program r.named) in
+    let arms = arm_facts low numbers many small apart_types facts in
+    let some = some_constructors program full in
+    let sound : SoundBehind (types_of low) (reverse low) = subst (λ ts. SoundBehind ts (reverse low)) (sym same) (ready_sound_law program after r ok some) in
+    let tested : AreTested (types_of low) (reverse low) = subst (λ ts. AreTested ts (reverse low)) (sym same) (tested_law program after r ok some) in
+    let have : EachNode (NodeHasFirsts (types_of low)) (reverse low) =
+    each_reverse (NodeHasFirsts (types_of low)) low (subst (λ ts. EachNode (NodeHasFirsts ts) low) (sym same) (lowered_firsts (types_of after) enums after (ready_firsts program after r full))) in
+    let plain : EachNode (λ n. IsPlain n.body) (reverse low) = each_reverse (λ n. IsPlain n.body) low (each_plain low (whole_law program after r ok)) in
+    let right : EachNode ClocksRight (reverse low) = each_reverse ClocksRight low (ready_right program after r ok) in
+    let apart = lowered_apart program after r.named clocked in
+    let all = nodes_clocked (obc_types (types_of low)) low (types_of low) arms facts apart sound have plain tested right in
+    subst (λ ts. EachNode (Clocked (obc_types ts) (known_of low)) low) same all
+
+pub clocks_law : ClocksLaw
+clocks_law program after r ok form fs made =
+    all_clocked (obc_types (types_of after)) (known_of (lowered_program after)) (lowered_program after) fs made (ready_clocked program after r ok form)

@@ -1,0 +1,230 @@
+-- The nodes that are made of a ready program without its automata are well made.
+use Rattle.std.proofs.Common.{◌≡◌, ℕ, ◌≤◌, Bool, true, false, nat_eq, ◌||◌, List, [], ◌∷◌, ◌++◌, length, map, reverse, refl, sym, ap, subst, ◌∙◌, arith}
+use Rattle.std.specs.List.{All, AllByRecursion, IsDistinct}
+use Rattle.std.specs.Str.{bytes_eq}
+use Rattle.std.proofs.lemmas.List.{append_assoc}
+use Rattle.std.proofs.lemmas.List.Elements.{All-head, All-tail}
+use Rattle.std.proofs.lemmas.Slice.Eq.{bytes_eq-Decides}
+use Rattle.hp_base.specs.declared.value.Value.{Value}
+use Rattle.hp_obc.specs.Form.{HasConstructors, TypesForm}
+use Rattle.hp_obc.specs.Machines.{ObcType}
+use Rattle.hp_tree.specs.declared.program.Item.{Item}
+use Rattle.hp_tree.specs.declared.program.Item.TheVariants.{TypeItem, NodeItem}
+use Rattle.hp_tree.specs.Blocks.{Decl}
+use Rattle.hp_tree.specs.Operators.{filled}
+use Rattle.hp_tree.specs.Programs.{TypeDecl, Node}
+use Rattle.hp_tree.specs.Instant.{Place}
+use Rattle.hp_tree.specs.Meaning.{types_of, names_of, nodes, declares}
+use Rattle.law_judged.specs.Named.Scoped.{EachNode}
+use Rattle.hp_expand.specs.Numbering.{no_node, replaced}
+use Rattle.law_values.specs.Accepted.Laws.{IsReady}
+use Rattle.law_values.proofs.AcceptedLemmas.Assembled.{types_replaced, types_clocked}
+use Rattle.hp_automata.specs.Lowering.{enumerations, lowered_program}
+use Rattle.law_automata.specs.Lowered.Removable.{IsRemovable}
+use Rattle.law_automata.proofs.LowerableLemmas.Texts.{clocked_of, each_reverse}
+use Rattle.hp_flat.specs.declared.node.Variable.{Variable}
+use Rattle.hp_flat.specs.Equations.{FlatEqn}
+use Rattle.hp_flat.specs.Nodes.{FlatNode}
+use Rattle.law_equations.specs.Meaning.Kinding.{HasValue, Callees, EqnKinds, IsWellMade, OneReactionLaw}
+use Rattle.law_equations.specs.Meaning.Scheduling.{IsRanked, DefinesNoInput}
+use Rattle.law_equations.specs.Meaning.Solving.{TargetsDiffer}
+use Rattle.law_equations.specs.Made.Blocks.{DeclaredOnce}
+use Rattle.law_equations.specs.Made.Laws.{unplaced, NodeReady}
+use Rattle.law_equations.specs.Made.Making.{Known, sketch_node}
+use Rattle.law_equations.specs.Made.Standing.{Knows}
+use Rattle.law_equations.specs.Made.Types.{obc_type_of, obc_types, obc_types_of}
+use Rattle.law_equations.proofs.MadeLemmas.MadeLaw.{stands-for}
+use Rattle.law_automata.specs.Readied.Laws.{IsWhole}
+use Rattle.law_automata.proofs.ReadiedLemmas.Whole.{whole_law}
+use Rattle.hp_complete.specs.Declaring.{known_of}
+use Rattle.hp_complete.specs.KnownLaw.{ItemsFit}
+use Rattle.hp_complete.specs.Made.{IsMadeOf, AreMadeOf}
+use Rattle.hp_complete.specs.Signatures.{type_names}
+use Rattle.hp_complete.proofs.KnownLaws.{known}
+use Rattle.law_equations.specs.Fitting.Fitting.{TargetsLaw}
+use Rattle.law_wellmade.specs.Timely.Tested.{ConstructorsDiffer, AreTested}
+use Rattle.law_wellmade.proofs.TimelyLemmas.DifferLaws.{differ}
+use Rattle.law_wellmade.proofs.TestedLemmas.TestedPrograms.{tested_law}
+use Rattle.law_wellmade.specs.Begun.Laws.{Begins}
+use Rattle.law_wellmade.proofs.BegunLemmas.BegunLaws.{begun}
+use Rattle.law_wellmade.specs.Regular.Kinds.{IsKnownType}
+use Rattle.law_wellmade.proofs.RegularLemmas.RegularLaws.{variables_typed}
+use Rattle.law_choices.specs.Closed.Closed.{IsClosed}
+use Rattle.law_choices.specs.Closed.Clocking.{HasClocks}
+use Rattle.law_choices.specs.Closed.Exclusive.{IsAlwaysExclusive}
+use Rattle.law_choices.proofs.ClosedLemmas.ClosedLaws.{each_other, each_both, twice, closed_law}
+use Rattle.law_choices.proofs.ClosedLemmas.Clocking.{fit_law}
+use Rattle.law_choices.proofs.ClosedLemmas.Exclusive.{exclusive_law}
+use Rattle.law_choices.specs.OnClocks.WellMade.{callees_of, MadeLaw, ReactionsLaw}
+use Rattle.law_choices.proofs.OnClocksLemmas.Programs.{each_plain, some_of, number_of, types_low, names_of_types, some_constructors, clocks_law}
+use Rattle.law_choices.proofs.OnClocksLemmas.CallKinds.{kinds_agree}
+
+-- ---- what is made of each node
+
+module _ (k : Known) (P : FlatNode → Type 0) where
+  -- so it is of what is made of a node, wherever its equations stand
+  abbrev WhereMade : Node → Type 0
+  WhereMade n = (f : FlatNode) → IsMadeOf k n f → P f
+
+  all_where : (items : List Item) (fs : List FlatNode) → AreMadeOf k items fs → EachNode WhereMade items → AllByRecursion P fs
+  all_where [] [] made h = tt
+  all_where [] (f ∷ fs) made h = absurd made
+  all_where (TypeItem t ∷ items) fs made h = all_where items fs made h
+  all_where (NodeItem n ∷ items) [] made h = absurd made
+  all_where (NodeItem n ∷ items) (f ∷ fs) made h = (h.0 f made.0, all_where items fs made.1 h.1)
+
+  each_where : (items : List Item) → ((n : Node) → WhereMade n) → EachNode WhereMade items
+  each_where [] h = tt
+  each_where (TypeItem t ∷ items) h = each_where items h
+  each_where (NodeItem n ∷ items) h = (h n, each_where items h)
+
+abbrev Differ : FlatEqn → Type 0
+Differ e = IsDistinct nat_eq e.targets
+
+module _ (law : TargetsLaw) (k : Known) where
+  placed : (es : List FlatEqn) → AllByRecursion Differ (map unplaced es) → AllByRecursion Differ es
+  placed [] h = tt
+  placed (e ∷ es) h = (h.0, placed es h.1)
+
+  stripped : (es : List FlatEqn) → AllByRecursion Differ es → AllByRecursion Differ (map unplaced es)
+  stripped [] h = tt
+  stripped (e ∷ es) h = (h.0, stripped es h.1)
+
+  targets_differ : (n : Node) (f : FlatNode) → IsMadeOf k n f → TargetsDiffer f
+  targets_differ n f made = placed f.eqns (subst (AllByRecursion Differ) (sym made.eqns) (stripped (sketch_node k n).eqns (law k n)))
+
+-- ---- what is known of names
+
+once_differ : (ds : List Decl) → DeclaredOnce ds → IsDistinct bytes_eq (names_of ds)
+unfolding IsDistinct
+once_differ [] h = tt
+once_differ (d ∷ ds) h = (others d.name ds h.0, once_differ ds h.1)
+  where
+    others : (x : List ℕ) (ds : List Decl) → declares ds x ≡ false → AllByRecursion (λ y. bytes_eq x y ≡ false) (names_of ds)
+    others x [] e = tt
+    others x (d ∷ ds) e = by (bytes_eq d.name x) refl (declares ds x) e (others x ds)
+      where
+        not_same : (b : Bool) → bytes_eq x d.name ≡ b → bytes_eq d.name x ≡ false → b ≡ false
+        not_same true i j = absurd (let r : false ≡ true = sym j ∙ (bytes_eq-Decides d.name x).1 (sym ((bytes_eq-Decides x d.name).0 i)) in cc)
+        not_same false i j = refl
+
+        by : (b : Bool) → bytes_eq d.name x ≡ b → (c : Bool) → (b || c) ≡ false → (c ≡ false → AllByRecursion (λ y. bytes_eq x y ≡ false) (names_of ds)) → (bytes_eq x d.name ≡ false) × AllByRecursion (λ y. bytes_eq x y ≡ false) (names_of ds)
+        by true i c e f = absurd cc
+        by false i c e f = (not_same (bytes_eq x d.name) refl i, f e)
+
+items_fit : (items : List Item) → All HasConstructors (obc_types_of items) → EachNode IsWhole items → ItemsFit items
+items_fit [] h whole = tt
+items_fit (TypeItem t ∷ items) h whole =
+    let few = (All-head HasConstructors (obc_type_of t) (obc_types_of items) h).1 in
+    (omega (arith, few), items_fit items (All-tail HasConstructors (obc_type_of t) (obc_types_of items) h) whole)
+items_fit (NodeItem n ∷ items) h whole = (once_differ n.outputs whole.0.outputs, items_fit items h whole.1)
+
+names_made : (types : List TypeDecl) → map (λ (t : TypeDecl). t.name) types ≡ map (λ (t : ObcType). t.name) (obc_types types)
+names_made [] = refl
+names_made (t ∷ types) = ap (λ xs. t.name ∷ xs) (names_made types)
+
+-- ---- no input is defined
+
+module _ (program : List Item) (outputs : List ℕ → List (List ℕ)) (knows : Knows (types_of program) outputs (known_of program)) where
+  no_inputs_behind : (later earlier : List Item) → reverse program ≡ later ++ earlier → (b : (fills : List ℕ → Place → Value) × Begins program fills) → EachNode IsWhole earlier → EachNode (WhereMade (known_of program) DefinesNoInput) earlier
+  no_inputs_behind later [] e b whole = tt
+  no_inputs_behind later (TypeItem t ∷ earlier) e b whole = no_inputs_behind (later ++ TypeItem t ∷ []) earlier (e ∙ sym (append_assoc later (TypeItem t ∷ []) earlier)) b whole
+  no_inputs_behind later (NodeItem n ∷ earlier) e b whole = (
+    λ f made.
+        let ready : NodeReady (known_of program) (b.0 n.name) n =
+        record {
+          inputs = whole.0.inputs;
+          controls = whole.0.controls;
+          outputs = whole.0.outputs;
+          plain = whole.0.plain;
+          defined = whole.0.defined;
+          nothing_else = whole.0.nothing_else;
+          first_values = b.1.ready later earlier n e;
+        } in
+        (stands-for (types_of program) outputs (known_of program) (b.0 n.name) n f knows ready made.inputs made.outputs made.eqns).equations.no_inputs,
+    no_inputs_behind (later ++ NodeItem n ∷ []) earlier (e ∙ sym (append_assoc later (NodeItem n ∷ []) earlier)) b whole.1,
+  )
+
+-- ---- nodes that are well made
+
+-- what is known of a node, but for its clocks
+record IsSound (types : List ObcType) (callees : Callees) (f : FlatNode) : Type 0 where
+  ranked : IsRanked f.eqns
+  no_inputs : DefinesNoInput f
+  targets_differ : TargetsDiffer f
+  values : AllByRecursion (λ (v : Variable). HasValue types v.ty) f.variables
+  kinds : AllByRecursion (EqnKinds types callees f.variables) f.eqns
+
+well_made : (types : List ObcType) (callees : Callees) (f : FlatNode) → IsSound types callees f → (IsClosed f × IsAlwaysExclusive f) × HasClocks types f → IsWellMade types callees f
+well_made types callees f s h =
+    record {
+      ranked = s.ranked;
+      no_inputs = s.no_inputs;
+      targets_differ = s.targets_differ;
+      values = s.values;
+      kinds = s.kinds;
+      fit = λ now p. fit_law types f s.ranked h.0.0 h.0.1 h.1 now p;
+    }
+
+module _ (P Q : FlatNode → Type 0) where
+  pair_up : (fs : List FlatNode) → AllByRecursion P fs → AllByRecursion Q fs → AllByRecursion (λ f. P f × Q f) fs
+  pair_up fs a b = each_both P Q (λ f. P f × Q f) (λ f p q. (p, q)) fs a b
+
+pub ready_knows : (program after : List Item) → IsReady program after → IsRemovable after → TypesForm (obc_types_of program)
+    → let low = lowered_program after in Knows (types_of low) (nodes (types_of low) filled (reverse low)).outputs (known_of low)
+ready_knows program after r ok form =
+    let low = lowered_program after in
+    let clocked = clocked_of (replaced program) after r.clocks in
+    let same : types_of low ≡ types_of after = types_low (enumerations [] after) after in
+    let same_all : types_of low ≡ types_of program = same ∙ types_clocked (replaced program) after clocked ∙ types_replaced no_node program in
+    let names : type_names low ≡ type_names program = names_of_types low ∙ ap (λ ts. map (λ (t : TypeDecl). t.name) ts) same_all ∙ sym (names_of_types program) in
+    let apart_names : IsDistinct bytes_eq (type_names low) = subst (IsDistinct bytes_eq) (sym (names ∙ names_of_types program ∙ names_made (types_of program))) form.names.1 in
+    let many : length (types_of low) ≤ 65535 = subst (λ ts. length ts ≤ 65535) (sym same_all) (number_of (types_of program) form.number) in
+    let fit : ItemsFit low = items_fit low (subst (λ ts. All HasConstructors (obc_types ts)) (sym same_all) form.counts) (whole_law program after r ok) in
+    known filled low apart_names many fit
+
+pub made_law : TargetsLaw → MadeLaw
+made_law law program after r ok form short fs made =
+    let full = some_of (types_of program) form.counts in
+    let few = number_of (types_of program) form.number in
+    let enums = enumerations [] after in
+    let low = lowered_program after in
+    let k = known_of low in
+    let types = obc_types (types_of after) in
+    let callees = callees_of after in
+    let clocked = clocked_of (replaced program) after r.clocks in
+    let same : types_of low ≡ types_of after = types_low enums after in
+    let same_all : types_of low ≡ types_of program = same ∙ types_clocked (replaced program) after clocked ∙ types_replaced no_node program in
+    let whole = whole_law program after r ok in
+    let knows = ready_knows program after r ok form in
+    let outputs = (nodes (types_of low) filled (reverse low)).outputs in
+    let apart : ConstructorsDiffer (types_of low) = subst ConstructorsDiffer (sym same_all) (differ program r.named) in
+    let tested_after = tested_law program after r ok (some_constructors program full) in
+    let tested : AreTested (types_of low) (reverse low) = subst (λ ts. AreTested ts (reverse low)) (sym same) tested_after in
+    let closed = closed_law program after r ok full few fs made in
+    let exclusive = exclusive_law (types_of low) outputs k low fs knows apart (each_plain low whole) tested made in
+    let clocks = clocks_law program after r ok form fs made in
+    let ranked = all_where k (λ f. IsRanked f.eqns) low fs made (each_where k (λ f. IsRanked f.eqns) low (λ n f m. m.ranked)) in
+    let differ_all = all_where k TargetsDiffer low fs made (each_where k TargetsDiffer low (targets_differ law k)) in
+    let inputs_behind = no_inputs_behind low outputs knows [] (reverse low) refl (begun program after r ok full few) (each_reverse IsWhole low whole) in
+    let inputs =
+    all_where k DefinesNoInput low fs made
+    (subst (λ xs. EachNode (WhereMade k DefinesNoInput) xs) (twice low) (each_reverse (WhereMade k DefinesNoInput) (reverse low) inputs_behind)) in
+    let Values : FlatNode → Type 0 = λ f. AllByRecursion (λ (v : Variable). HasValue types v.ty) f.variables in
+    let Kinds : FlatNode → Type 0 = λ f. AllByRecursion (EqnKinds types callees f.variables) f.eqns in
+    let values : AllByRecursion Values fs =
+    each_other (λ f. AllByRecursion (λ (v : Variable). IsKnownType types v.ty × HasValue types v.ty) f.variables) Values
+    (λ f h. each_other (λ (v : Variable). IsKnownType types v.ty × HasValue types v.ty) (λ (v : Variable). HasValue types v.ty) (λ v q. q.1) f.variables h) fs (variables_typed program after r ok full few tested_after fs made) in
+    let kinded : AllByRecursion Kinds fs = kinds_agree program after r ok full few short fs made in
+    let first = pair_up (λ f. IsRanked f.eqns) DefinesNoInput fs ranked inputs in
+    let second = pair_up Values Kinds fs values kinded in
+    let third = pair_up (λ f. IsRanked f.eqns × DefinesNoInput f) TargetsDiffer fs first differ_all in
+    let sound : AllByRecursion (IsSound types callees) fs =
+    each_both (λ f. (IsRanked f.eqns × DefinesNoInput f) × TargetsDiffer f) (λ f. Values f × Kinds f) (IsSound types callees)
+    (λ f p q. record { ranked = p.0.0; no_inputs = p.0.1; targets_differ = p.1; values = q.0; kinds = q.1 }) fs third second in
+    each_both (IsSound types callees) (λ f. (IsClosed f × IsAlwaysExclusive f) × HasClocks types f) (IsWellMade types callees) (λ f s h. well_made types callees f s h) fs sound
+    (pair_up (λ f. IsClosed f × IsAlwaysExclusive f) (HasClocks types) fs (pair_up IsClosed IsAlwaysExclusive fs closed exclusive) clocks)
+
+pub reactions_law : TargetsLaw → OneReactionLaw → ReactionsLaw
+reactions_law law one program after r ok form short fs made answers typed =
+    each_other (IsWellMade (obc_types (types_of after)) (callees_of after)) _ (λ f w inputs h. one (obc_types (types_of after)) (callees_of after) answers f w typed inputs h) fs (made_law law program after r ok form short fs made)

@@ -1,0 +1,6 @@
+pub mod Alike
+pub mod Signatures
+pub mod TypeKinds
+pub mod Streams
+pub mod Names
+pub mod Uncontrolled

@@ -1,0 +1,6 @@
+use Rattle.law_choices.proofs.DependingLemmas.FlatLaw.{both_law}
+use Rattle.law_choices.proofs.depending.passes_add_no_dependence.Goals as goal
+
+pub returns : goal.returns
+returns c =
+    both_law c.same_reads.ensures c.causal_is_ranked.ensures.node c.clocks_make_no_cycle.ensures c.ranks_are_kept.ensures.node c.ranked_is_causal.ensures c.clocks_are_kept.ensures.node

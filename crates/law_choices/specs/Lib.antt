@@ -1,0 +1,13 @@
+pub mod OneForOne
+pub mod Independent
+pub mod Depending
+pub mod Undisturbed
+pub mod Ordered
+pub mod Closed
+pub mod OnClocks
+pub mod Choosing
+pub mod Runs
+pub mod Filled
+pub mod Flat
+pub mod Streams
+pub mod Chosen

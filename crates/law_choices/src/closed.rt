@@ -1,0 +1,25 @@
+//! Laws: clocked equations that are made of a program read nothing that is undefined, define nothing twice, and fit where variables have clocks.
+//!
+//! The functions here do nothing: each is a law, which its contract states.
+#![tactic(auto)]
+
+ghost use Rattle.law_choices.specs.Closed.Clocking.{FitLaw, SomeLaw, WellMadeLaw};
+ghost use Rattle.law_choices.specs.Closed.Closed.{ClosedLaw};
+ghost use Rattle.law_choices.specs.Closed.Exclusive.{ExclusiveLaw};
+
+/// Each variable of a node is an input or a target of an equation, and so is each that stands in an equation.
+pub fn equations_are_closed()
+    ensures { ClosedLaw }
+{}
+
+/// Whatever the values at an instant are, no two equations that are there define one variable.
+pub fn equations_are_exclusive()
+    ensures { ExclusiveLaw }
+{}
+
+/// Where the variables of a closed node have clocks, whatever is read is there at each possible instant; so a node that has shape is well made.
+pub fn clocks_fit()
+    ensures fit { FitLaw }
+    ensures made { WellMadeLaw }
+    ensures some { SomeLaw }
+{}

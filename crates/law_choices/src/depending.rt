@@ -1,0 +1,41 @@
+//! Laws: clocked equations depend on no more of what a node is given than the node does.
+//!
+//! The functions here do nothing: each is a law, which its contract states.
+#![tactic(auto)]
+
+ghost use Rattle.law_choices.specs.Depending.Laws.{BothLaw, NodeLaw, VariablesLaw};
+ghost use Rattle.law_choices.specs.Depending.Targets.{TargetsLaw};
+
+use hp_meaning::causal::{causal_is_ranked, clocks_make_no_cycle, ranked_is_causal, same_reads};
+use law_automata::lowered::{clocks_are_kept, ranks_are_kept};
+
+/// Where a name of the body on the base clock does not depend on an input or a controllable variable, the variable of clocked equations that stands for it does not.
+pub fn flattening_adds_no_dependence()
+    ensures { NodeLaw }
+{
+    causal_is_ranked();
+    clocks_make_no_cycle();
+    same_reads();
+}
+
+/// So it is where automata are removed first.
+pub fn passes_add_no_dependence()
+    ensures { BothLaw }
+{
+    causal_is_ranked();
+    clocks_are_kept();
+    clocks_make_no_cycle();
+    ranked_is_causal();
+    ranks_are_kept();
+    same_reads();
+}
+
+/// The variables of outputs stand for their names in the body, and the first variables for what is given.
+pub fn variables_of_outputs_and_inputs()
+    ensures { VariablesLaw }
+{}
+
+/// A variable that stands for a name of the body, as that of an output, is a target of an equation.
+pub fn names_are_targets()
+    ensures { TargetsLaw }
+{}

@@ -1,0 +1,16 @@
+//! Laws: with the values of controllable variables given, one reaction and one meaning, and the choice is the machine's.
+#![tactic(auto)]
+
+pub mod choosing;
+pub mod chosen;
+pub mod closed;
+pub mod depending;
+pub mod filled;
+pub mod flat;
+pub mod independent;
+pub mod on_clocks;
+pub mod one_for_one;
+pub mod ordered;
+pub mod runs;
+pub mod streams;
+pub mod undisturbed;

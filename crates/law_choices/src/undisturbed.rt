@@ -1,0 +1,28 @@
+//! Laws: in ready programs no pass adds a dependence on what a node is given.
+//!
+//! The functions here do nothing: each is a law, which its contract states.
+#![tactic(auto)]
+
+ghost use Rattle.law_choices.specs.Undisturbed.Laws.{ApartLaw, ReadyLaw};
+
+use crate::depending::passes_add_no_dependence;
+use crate::independent::{automata_add_no_dependence, independent_names_stay_so};
+use hp_meaning::causal::{ranked_is_causal, ranks_of_points};
+use law_values::accepted::ready_programs_are_accepted;
+
+/// Controllable variables of a ready program are neither inputs nor outputs.
+pub fn controls_are_apart()
+    ensures { ApartLaw }
+{}
+
+/// In a ready program an output or a local on the base clock depends on no more inputs and controllable variables without automata, and neither does its variable in clocked equations.
+pub fn ready_programs_keep_dependence()
+    ensures { ReadyLaw }
+{
+    automata_add_no_dependence();
+    independent_names_stay_so();
+    passes_add_no_dependence();
+    ranked_is_causal();
+    ranks_of_points();
+    ready_programs_are_accepted();
+}

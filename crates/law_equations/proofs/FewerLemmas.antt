@@ -1,0 +1,14 @@
+pub mod Members
+pub mod OrderLaws
+pub mod AlikeLaws
+pub mod CopyFacts
+pub mod SameReads
+pub mod RetargetLaws
+pub mod SubstituteLaws
+pub mod ScheduledLaws
+pub mod RetargetForms
+pub mod SubstituteForms
+pub mod NormalLaws
+pub mod CompiledLaws
+pub mod Worked
+pub mod KindedForms

@@ -1,0 +1,12 @@
+pub mod Naming
+pub mod Labels
+pub mod Nested
+pub mod Placing
+pub mod Passing
+pub mod Storing
+pub mod MemoryLaws
+pub mod Declared
+pub mod StepLaws
+pub mod RunLaws
+pub mod ConstantLaws
+pub mod ProgramLaws

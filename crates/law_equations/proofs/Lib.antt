@@ -1,0 +1,8 @@
+mod MeaningLemmas
+pub mod FlattenedLemmas
+pub mod MadeLemmas
+pub mod FollowedLemmas
+pub mod FewerLemmas
+pub mod ShapedLemmas
+pub mod AnsweredLemmas
+mod FittingLemmas

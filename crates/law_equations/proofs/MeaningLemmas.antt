@@ -1,0 +1,5 @@
+pub mod Lists
+pub mod OneInstant
+pub mod KindLaws
+pub mod Possible
+pub mod OneReaction

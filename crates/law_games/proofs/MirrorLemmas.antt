@@ -1,0 +1,12 @@
+pub mod SameGames
+pub mod Worked
+pub mod SlotLists
+pub mod Realised
+pub mod Called
+pub mod Rows
+pub mod NodeGiven
+pub mod SameMemories
+pub mod FilledOne
+pub mod SameFilled
+pub mod WorkedGame
+pub mod SameChoices

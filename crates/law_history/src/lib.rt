@@ -1,0 +1,5 @@
+//! Laws: the machines of a program give its stream history.
+#![tactic(auto)]
+
+pub mod counted;
+pub mod streams;

@@ -1,0 +1,6 @@
+pub mod TypedLemmas
+pub mod NamedLemmas
+pub mod ReplacedLemmas
+pub mod PlainLemmas
+pub mod OnceLemmas
+pub mod ClockedLemmas

@@ -1,0 +1,3 @@
+pub mod ValuedLemmas
+pub mod AcceptedLemmas
+pub mod FilledLemmas

@@ -1,0 +1,11 @@
+pub mod Spelled
+pub mod Timely
+pub mod Acyclic
+pub mod Nested
+pub mod Tested
+pub mod Begun
+pub mod Lettered
+pub mod Apart
+pub mod Suited
+pub mod Regular
+pub mod Parted

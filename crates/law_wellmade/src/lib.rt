@@ -1,0 +1,14 @@
+//! Laws: the clocked equations of a program are well made: in time, in no circle, regular, with names and clocks as machines ask.
+#![tactic(auto)]
+
+pub mod acyclic;
+pub mod apart;
+pub mod begun;
+pub mod lettered;
+pub mod nested;
+pub mod parted;
+pub mod regular;
+pub mod spelled;
+pub mod suited;
+pub mod tested;
+pub mod timely;
