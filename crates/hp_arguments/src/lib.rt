@@ -1,4 +1,4 @@
-//! The words of a call, read by `clap`: a command with one argument, two or three, and with no options.
+//! The words of a call, read by `clap`: a command with one argument, two or three, and with no options. Invariant: the arguments are the words behind the command, unchanged. Used by `hp_driver`.
 #![tactic(auto)]
 
 ghost use Rattle.std.specs.Prelude.{◌≡◌, ◌≢◌, ℕ, List, [], true, IfOk, MatchOption, false, drop, map};

@@ -1,4 +1,4 @@
-//! What every crate speaks of: names and their bytes, places in a text, values and their kinds, and limits.
+//! What every crate speaks of: names and their bytes, places in a text, values, kinds, arithmetic of 32 bits, limits. Invariant: a name has at most 255 bytes of its alphabet, a value is of its kind. Used by all crates.
 #![tactic(auto)]
 
 mod byte;

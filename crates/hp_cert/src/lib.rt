@@ -1,4 +1,4 @@
-//! Certificates, checked: what one says of a Boolean machine is proved, whoever wrote it, or it is refused.
+//! Certificates: their text both ways, made of diagrams, and checked. Invariant: what an accepted certificate says of a Boolean machine is so, whoever wrote it. Used by `hp_verdicts`, `hp_games`, `hp_controller`.
 #![tactic(auto)]
 
 pub mod certmade;

@@ -61,7 +61,7 @@ fn finished(
 }
 
 /// The machine of a circuit whose wires have these first gates.
-fn joined(
+fn with_gates(
     alloc: Global,
     name: &Name,
     circuit: &Circuit,
@@ -111,7 +111,7 @@ fn built(
     let mut gates = first_gates(alloc)?;
     let made = make_all(alloc, circuit, &places, order, &mut gates)?;
     let starts = all_starts(alloc, &made)?;
-    joined(
+    with_gates(
         alloc, name, circuit, &places, steered, &starts, counts, gates,
     )
 }

@@ -1,4 +1,4 @@
-//! What a source text is compiled to, or its refusal.
+//! The front: the program of a source text, judged, arranged and ordered, or why it is refused. Invariant: the refusal is that of the first judgement that fails. Used by `hp_driver`.
 #![tactic(auto)]
 
 mod arranging;

@@ -386,14 +386,14 @@ impl<'d, 'a> Draft<'d, 'a> {
         }
         let test = self.expr(cond)?;
         self.hide(names)?;
-        self.restarted(test, body)?;
+        self.reset_body(test, body)?;
         Ok(())
     }
 
     /// A block that begins anew where the variable is true.
     #[cycle(block)]
     #[tactic(auto, using(crate::proofs::Rules::lines))]
-    fn restarted(&mut self, test: usize, body: &'a Block) -> Result<(), AllocError>
+    fn reset_body(&mut self, test: usize, body: &'a Block) -> Result<(), AllocError>
         ensures sketch { OnOk result (sketch_of self.new ≡ (restarted_made (place_of self.old) test body.now (sketch_of self.old)).1) }
         ensures place { OnOk result (place_of self.new ≡ within (restarted_made (place_of self.old) test body.now (sketch_of self.old)).0 (place_of self.old)) }
         ensures back { OnOk result (left (place_of self.new) ≡ place_of self.old) }

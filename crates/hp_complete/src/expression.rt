@@ -192,7 +192,7 @@ impl<'d, 'a> Draft<'d, 'a> {
     {
         let test = self.tested(name)?;
         let merged = self.parts(test, parts)?;
-        let variable = self.merged(merged, FlatTy::Bool)?;
+        let variable = self.merge_variable(merged, FlatTy::Bool)?;
         Ok(variable)
     }
 
@@ -231,14 +231,14 @@ impl<'d, 'a> Draft<'d, 'a> {
         self.push_step(test, number)?;
         let value = self.expr(part)?;
         let ty = self.ty(value);
-        let variable = self.merged(merged, ty)?;
+        let variable = self.merge_variable(merged, ty)?;
         self.copy_to(variable, value)?;
         self.leave_clock(depth);
         Ok(variable)
     }
 
     /// The variable of a merge, which has one, or gets one of this type.
-    fn merged(&mut self, merged: Option<usize>, ty: FlatTy) -> Result<usize, AllocError>
+    fn merge_variable(&mut self, merged: Option<usize>, ty: FlatTy) -> Result<usize, AllocError>
         ensures sketch { OnOk result (sketch_of self.new ≡ (merged_variable merged ty (sketch_of self.old)).0) }
         ensures number { IfOk result (λ x. x ≡ (merged_variable merged ty (sketch_of self.old)).1) }
         ensures place { OnOk result (place_of self.new ≡ place_of self.old) }

@@ -1,4 +1,4 @@
-//! A circuit as it is drawn: its parts, and what is drawn of a node, as plain data.
+//! The circuit of a node's contract as a definition over plain data, which `hp_abstract` computes. Invariant: definitions alone, and laws of its slots. Used by `hp_abstract`, `hp_verdicts` and the laws.
 #![tactic(auto)]
 
 ghost use Rattle.hp_drawing.specs.Laws.{SlotsPlannedLaw};

@@ -1,4 +1,4 @@
-//! The commands of the tool.
+//! The commands of the tool: words, sources, machines that are run, the trace loop, the top call. Invariant: each answer is a row of `specs/Outcome`, with its cause. Used by `hp_main`, `hp_rows`.
 #![tactic(auto)]
 
 mod certificate;

@@ -1,4 +1,4 @@
-//! Inlined calls, the shapes of contracts, and what is counted of a program.
+//! Inlined calls replaced by equations, the shapes of contracts, and what is counted of a program. Invariant: no inlined call is left, and new names hold a `$`, which no source name does. Used by `hp_compile`.
 #![tactic(auto)]
 
 ghost use Rattle.std.specs.Prelude.{◌≡◌, ◌↔◌, IfErr, IfOk, OnOk};

@@ -1,4 +1,4 @@
-//! Clocked equations: what a node is between its tree and its machine.
+//! Clocked equations: what a node is between its tree and its machine. Invariant: variables are numbers, each equation defines its targets on one clock. Used by the passes from `hp_complete` to `hp_toobc`.
 #![tactic(auto)]
 
 mod equation;

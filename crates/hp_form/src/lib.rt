@@ -1,4 +1,4 @@
-//! Whether types and machines have form.
+//! Whether types, machines and clocked equations have the form that is asked for. Invariant: a yes is that they have it. Used by `hp_machines`.
 #![tactic(auto)]
 
 mod command;

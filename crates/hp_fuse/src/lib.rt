@@ -1,4 +1,4 @@
-//! Neighbouring cases of machines, joined.
+//! Neighbouring cases of machines, joined. Invariant: the step does the same to every store. Used by `hp_machines`.
 #![tactic(auto)]
 
 mod error;

@@ -1,5 +1,7 @@
-//! Solves Boolean machines that are written as lines (`data/README.md`), and says what it finds: the safe states and the choice at each of them, or the states from which
-//! a violation is forced in one instant, in two, and so on. Or it says the certificate of each machine, and what texts of certificates prove of it.
+//! A program beside the tool: it solves Boolean machines that are written as lines (`data/README.md`). Invariant: each answer is the exact one. Used by tests alone.
+//!
+//! It says what it finds: the safe states and the choice at each of them, or the states from which a violation is forced in one instant, in two, and so on. Or it says
+//! the certificate of each machine, and what texts of certificates prove of it.
 #![tactic(auto)]
 
 mod answer;

@@ -1,4 +1,4 @@
-//! The outside as traits: a folder, a console and a sink for diagnostics.
+//! The outside as traits: a folder, a console and a sink for diagnostics, with objects in memory and real ones. Invariant: each call says what it did to what the object holds, and each failure is counted. Used by `hp_driver`, `hp_main`, `hp_games`, `hp_rows`.
 //!
 //! Each says what a call does to what it holds, where it tells that, and counts its faults, so that a caller
 //! which answers that a call failed can be held to it.

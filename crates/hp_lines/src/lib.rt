@@ -1,4 +1,4 @@
-//! The lines of a trace: the values that a line spells, and the line of some values. What stops a reader of words.
+//! The lines of a trace: the values that a line spells, and the line of some values. Invariant: a refusal names the first wrong word, and taking in a line takes no memory. Used by `hp_driver`, `hp_obctext`, `hp_cert`.
 #![tactic(auto)]
 
 mod number;

@@ -1,4 +1,4 @@
-//! The program `hept`: the commands over the real files, console and diagnostics.
+//! The program `hept`: the commands over the real files, console and diagnostics. Invariant: the status is that of the top call. Used by people and scripts.
 #![tactic(auto)]
 
 use hp_driver::{Status, run_tool};

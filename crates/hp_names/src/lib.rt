@@ -1,4 +1,4 @@
-//! The names of a program: each is declared, once in its scope, and known where it is used.
+//! The names of a program: each is declared, once in its scope, and known where it is used. Invariant: the refusal is the first breach in the text. Used by `hp_compile`.
 #![tactic(auto)]
 
 ghost use Rattle.std.specs.Prelude.{◌≡◌, ◌↔◌, [], OnOk, IfOk, IfErr};

@@ -1,4 +1,4 @@
-//! Needless copies are taken out of clocked equations.
+//! Needless copies taken out of clocked equations. Invariant: outputs keep their values at every instant. Used by `hp_machines`.
 #![tactic(auto)]
 
 mod copy;

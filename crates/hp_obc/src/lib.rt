@@ -1,4 +1,4 @@
-//! Machines with a step and a reset: their types, their form and what they mean.
+//! Machines with a step and a reset: their types, their form and what they mean. Invariant: a machine that has form sets what is declared, at its type, and calls machines before it. Used by the passes from `hp_toobc` on.
 #![tactic(auto)]
 
 mod command;

@@ -1,4 +1,4 @@
-//! The text of machines, both ways.
+//! The text of machines, both ways. Invariant: what is printed reads back as the same machines; a refusal names the first token that is wrong. Used by `hp_driver`.
 #![tactic(auto)]
 
 mod check;

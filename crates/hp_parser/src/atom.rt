@@ -210,6 +210,6 @@ impl<'t> Reader<'t> {
         ensures { Gives measured_seen result self.new (read_convert (of_sample (measured_seen left)) sample_read self.old) }
     {
         let sample = self.sample()?;
-        Ok(left.sampled(self.alloc, sample)?)
+        Ok(left.with_sample(self.alloc, sample)?)
     }
 }

@@ -274,20 +274,20 @@ impl<'t> Reader<'t> {
         ensures { Gives eqn_seen result self.new (control_read nest self.old) }
     {
         if self.is_keyword(Keyword::Switch) {
-            self.switched(nest)
+            self.parse_switch(nest)
         } else if self.is_keyword(Keyword::If) {
-            self.branched(nest)
+            self.parse_if(nest)
         } else if self.is_keyword(Keyword::Reset) {
-            self.restarted(nest)
+            self.parse_reset(nest)
         } else {
-            self.moded(nest)
+            self.parse_automaton(nest)
         }
     }
 
     /// `switch e | c do .. end`
     #[cycle(equations)]
     #[tactic(auto, using(crate::proofs::EquationRounds::switched_parts))]
-    fn switched(&mut self, nest: usize) -> Result<Eqn, Stop>
+    fn parse_switch(&mut self, nest: usize) -> Result<Eqn, Stop>
         requires { 2 ≤ nest }
         ensures { Gives eqn_seen result self.new (switched_read nest self.old) }
     {
@@ -327,7 +327,7 @@ impl<'t> Reader<'t> {
 
     /// `if e then .. else .. end`, a `switch` whose arms have the places of `then` and `else`.
     #[cycle(equations)]
-    fn branched(&mut self, nest: usize) -> Result<Eqn, Stop>
+    fn parse_if(&mut self, nest: usize) -> Result<Eqn, Stop>
         requires { 2 ≤ nest }
         ensures { Gives eqn_seen result self.new (branched_read nest self.old) }
     {
@@ -355,7 +355,7 @@ impl<'t> Reader<'t> {
 
     /// `reset .. every e`
     #[cycle(equations)]
-    fn restarted(&mut self, nest: usize) -> Result<Eqn, Stop>
+    fn parse_reset(&mut self, nest: usize) -> Result<Eqn, Stop>
         requires { 2 ≤ nest }
         ensures { Gives eqn_seen result self.new (restarted_read nest self.old) }
     {
@@ -369,7 +369,7 @@ impl<'t> Reader<'t> {
     /// `automaton state .. end`
     #[cycle(equations)]
     #[tactic(auto, using(crate::proofs::EquationRounds::moded_parts))]
-    fn moded(&mut self, nest: usize) -> Result<Eqn, Stop>
+    fn parse_automaton(&mut self, nest: usize) -> Result<Eqn, Stop>
         requires { 2 ≤ nest }
         ensures { Gives eqn_seen result self.new (moded_read nest self.old) }
     {

@@ -25,7 +25,7 @@ impl<'t> Reader<'t> {
         ensures within { IfOk result (λ m. m.height < depth) }
     {
         if !self.is_keyword(Keyword::If) {
-            return self.arrowed(mode, depth);
+            return self.parse_arrow(mode, depth);
         }
         if depth < 2 {
             return Err(TOO_DEEP);
@@ -42,12 +42,12 @@ impl<'t> Reader<'t> {
     /// `a -> b`, or `a`.
     #[cycle(expression)]
     #[tactic(auto, using(crate::proofs::DescentLaws::arrowed_rules))]
-    fn arrowed(&mut self, mode: Mode, depth: usize) -> Result<Measured, Stop>
+    fn parse_arrow(&mut self, mode: Mode, depth: usize) -> Result<Measured, Stop>
         requires { 1 ≤ depth }
         ensures read { Gives measured_seen result self.new (arrowed_read mode depth self.old) }
         ensures within { IfOk result (λ m. m.height < depth) }
     {
-        let left = self.sampled(mode, depth)?;
+        let left = self.parse_samples(mode, depth)?;
         if !self.is_arrow(mode) {
             return Ok(left);
         }
@@ -62,7 +62,7 @@ impl<'t> Reader<'t> {
     /// `a when c(x) whenot y ..`
     #[cycle(expression)]
     #[tactic(auto, using(crate::proofs::DescentLaws::sampled_rules))]
-    fn sampled(&mut self, mode: Mode, depth: usize) -> Result<Measured, Stop>
+    fn parse_samples(&mut self, mode: Mode, depth: usize) -> Result<Measured, Stop>
         requires { 1 ≤ depth }
         ensures read { Gives measured_seen result self.new (sampled_read mode depth self.old) }
         ensures within { IfOk result (λ m. m.height < depth) }
@@ -90,7 +90,7 @@ impl<'t> Reader<'t> {
             if depth - left.height < 2 {
                 return Err(TOO_DEEP);
             }
-            left = self.joined(mode, depth, level, left)?;
+            left = self.parse_operation(mode, depth, level, left)?;
             if !level.is_repeated() {
                 return Ok(left);
             }
@@ -115,7 +115,7 @@ impl<'t> Reader<'t> {
     /// An operator with its operand, behind the operand `left`.
     #[cycle(expression)]
     #[tactic(auto, using(crate::proofs::DescentLaws::operand_rank_most), unfolding(crate::specs::Descent::joined_read))]
-    fn joined(
+    fn parse_operation(
         &mut self,
         mode: Mode,
         depth: usize,
@@ -129,7 +129,7 @@ impl<'t> Reader<'t> {
     {
         let word = self.operator(level)?;
         let right = self.operand(mode, depth - 1, level.behind())?;
-        Ok(left.joined(self.alloc, level, word, right)?)
+        Ok(left.with_operand(self.alloc, level, word, right)?)
     }
 
     /// `not a`, `- a`, `pre a`, or an operand without.
@@ -172,7 +172,7 @@ impl<'t> Reader<'t> {
             return self.last_value();
         }
         if self.is_merge(mode) {
-            return self.merged(mode, depth);
+            return self.parse_merge(mode, depth);
         }
         if self.is_inlined(mode) {
             return self.inlined_call(mode, depth);
@@ -273,7 +273,7 @@ impl<'t> Reader<'t> {
     /// `merge x (c -> e) ..`
     #[cycle(expression)]
     #[tactic(auto, using(crate::proofs::DescentLaws::two_yes, crate::proofs::DescentLaws::two_no), unfolding(crate::specs::Descent::merged_read))]
-    fn merged(&mut self, mode: Mode, depth: usize) -> Result<Measured, Stop>
+    fn parse_merge(&mut self, mode: Mode, depth: usize) -> Result<Measured, Stop>
         requires { 1 ≤ depth }
         ensures read { Gives measured_seen result self.new (merged_read mode depth self.old) }
         ensures within { IfOk result (λ m. m.height < depth) }

@@ -284,7 +284,7 @@ impl Measured {
     }
 
     /// `e when c(x)`
-    pub fn sampled(self, alloc: Global, sample: Sample) -> Result<Measured, AllocError>
+    pub fn with_sample(self, alloc: Global, sample: Sample) -> Result<Measured, AllocError>
         requires { self.height < usize.MAX }
         ensures { IfOk result (λ m. measured_seen m ≡ of_sample (measured_seen self) (sample_seen sample)) }
     {
@@ -336,7 +336,7 @@ impl Measured {
     }
 
     /// An operator of a level between two operands.
-    pub fn joined(
+    pub fn with_operand(
         self,
         alloc: Global,
         level: Level,

@@ -99,13 +99,13 @@ impl Printer {
             ExprKind::Name(name) => self.small(name),
             ExprKind::Last(name) => self.last(name),
             ExprKind::One(op, a) => self.prefixed(*op, a),
-            ExprKind::Two(op, a, b) => self.joined(*op, a, b),
+            ExprKind::Two(op, a, b) => self.operation(*op, a, b),
             ExprKind::If(condition, yes, no) => self.conditional(condition, yes, no),
             ExprKind::Pre(a) => self.previous(a),
             ExprKind::Fby(a, b) => self.delayed(a, b),
             ExprKind::Arrow(a, b) => self.initialised(a, b),
-            ExprKind::When(a, cons, name) => self.sampled(a, cons, name),
-            ExprKind::Merge(name, parts) => self.merged(name, parts),
+            ExprKind::When(a, cons, name) => self.sample(a, cons, name),
+            ExprKind::Merge(name, parts) => self.merge(name, parts),
             ExprKind::Call {
                 node,
                 inlined,
@@ -130,7 +130,7 @@ impl Printer {
     }
 
     #[cycle(expressions)]
-    fn joined(&mut self, op: Op2, a: &Expr, b: &Expr) -> Result<(), AllocError>
+    fn operation(&mut self, op: Op2, a: &Expr, b: &Expr) -> Result<(), AllocError>
         ensures { OnOk result (self.new ≡ written_after self.old (expression_tokens (two nowhere op a.now b.now))) }
     {
         self.operand(Level::before(op), a)?;
@@ -177,7 +177,7 @@ impl Printer {
     }
 
     #[cycle(expressions)]
-    fn sampled(&mut self, a: &Expr, cons: &Cons, name: &Name) -> Result<(), AllocError>
+    fn sample(&mut self, a: &Expr, cons: &Cons, name: &Name) -> Result<(), AllocError>
         ensures { OnOk result (self.new ≡ written_after self.old (expression_tokens (when_is nowhere a.now cons.now name.now))) }
     {
         self.operand(Level::Sample, a)?;
@@ -186,7 +186,7 @@ impl Printer {
     }
 
     #[cycle(expressions)]
-    fn merged(&mut self, name: &Name, parts: &[(Cons, Expr)]) -> Result<(), AllocError>
+    fn merge(&mut self, name: &Name, parts: &[(Cons, Expr)]) -> Result<(), AllocError>
         ensures { OnOk result (self.new ≡ written_after self.old (expression_tokens (merge nowhere name.now (parts_of parts.now)))) }
     {
         self.word(Keyword::Merge)?;

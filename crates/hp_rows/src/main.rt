@@ -1,5 +1,4 @@
-//! Runs tables of rows: calls of the tool over objects in memory, with what each must do. `data/README.md` says how a table
-//! is written.
+//! A program beside the tool: it runs tables of rows, calls of the tool over objects in memory, with what each must do (`data/README.md`). Invariant: a row passes where the call did just that. Used by the gate alone.
 #![tactic(auto)]
 
 mod bytes;

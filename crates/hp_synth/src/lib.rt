@@ -1,4 +1,4 @@
-//! Boolean machines, solved: nothing is forced and the safe states are known, or in how many instants a violation is forced.
+//! Boolean machines, solved: nothing is forced and the safe states are known, or in how many instants a violation is forced. Invariant: the count is the least. Used by `hp_control`, `hp_cert`, `hp_verdicts`.
 #![tactic(auto)]
 
 mod building;

@@ -1,5 +1,4 @@
-//! The tests of all crates that no row of `hp_rows` can show: objects of the outside, tokens, trees, printed texts, executors,
-//! diagrams and machines of contracts.
+//! The tests of all crates that no row of `hp_rows` can show: objects of the outside, tokens, trees, printed texts, executors, diagrams and machines of contracts. Invariant: no other crate has a test. Used by the gate alone.
 #![tactic(auto)]
 
 #[cfg(test)]

@@ -108,7 +108,7 @@ fn marked(
 }
 
 /// Some x1 makes one of the two true.
-fn joined(alloc: Global, rt: &impl Abort, t: &mut Table, f: Ref, g: Ref) -> Result<Ref, Fail> {
+fn either_of(alloc: Global, rt: &impl Abort, t: &mut Table, f: Ref, g: Ref) -> Result<Ref, Fail> {
     assert!(rt; t.has(f));
     assert!(rt; t.has(g));
     assert!(rt; 3 <= t.vars());
@@ -156,7 +156,7 @@ fn check_joined(alloc: Global, rt: &impl Abort, t: &mut Table) -> Result<(), Fai
     let f = ite(rt, t, x0, x1, zero())?;
     let g = ite(rt, t, x1, zero(), x2)?;
     let one_of = ite(rt, t, x0, one(), x2)?;
-    assert_eq!(rt; joined(alloc, rt, t, f, g)?, one_of, "either_marked");
+    assert_eq!(rt; either_of(alloc, rt, t, f, g)?, one_of, "either_marked");
     Ok(())
 }
 

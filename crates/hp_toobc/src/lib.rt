@@ -1,4 +1,4 @@
-//! The machine of scheduled equations.
+//! The machine of scheduled equations. Invariant: a step of the machine is an instant of the equations. Used by `hp_machines`.
 #![tactic(auto)]
 
 mod command;

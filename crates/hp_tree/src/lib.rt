@@ -1,5 +1,4 @@
-//! The syntax tree of a program. Contracts see each part of it as a data type or a record of specs/, so that two trees are
-//! equal whatever their pointers and capacities.
+//! The syntax tree of a program and the meaning of streams over it. Invariant: contracts see each part as data of specs/, so that two trees are equal whatever their pointers and capacities. Used by all passes over the tree.
 #![tactic(auto)]
 
 mod block;

@@ -1,4 +1,4 @@
-//! What is decided of the contracts of a ready program is so in the games of these contracts.
+//! Laws of `hp_verdicts`: what is decided of the contracts of a ready program is so in the games of these contracts, and machines of programs whose contracts are kept keep them. Used by `hp_driver`.
 //!
 //! The functions here do nothing: each is a law, which its contract states.
 #![tactic(auto)]

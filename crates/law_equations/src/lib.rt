@@ -1,4 +1,4 @@
-//! What clocked equations mean; laws: those of a node answer as it does, and their machines follow them.
+//! What clocked equations mean, and laws of `hp_complete`, `hp_schedule`, `hp_normal`, `hp_toobc`, `hp_fuse`: the equations of a node answer as it does, and their machines follow them. Used by these passes and the laws above.
 #![tactic(auto)]
 
 pub mod answered;

@@ -1,4 +1,4 @@
-//! Laws: the game of a contract is the game of a machine that mirrors its node.
+//! Laws of contracts: the game of a contract is the game of a machine that mirrors its node. Used by `law_drawing`, `law_mirror`, `law_choices`, `law_decided`.
 #![tactic(auto)]
 
 pub mod abstracted;

@@ -1,4 +1,4 @@
-//! Laws: in judged programs expressions have their types, names are in their scopes and have one equation each, also where inlined calls are replaced.
+//! Laws of `hp_names`, `hp_typing`, `hp_expand`, `hp_clocks`: in judged programs expressions have their types, names are in their scopes and have one equation each, also where inlined calls are replaced. Used by `hp_compile`, `hp_driver` and the laws above.
 #![tactic(auto)]
 
 pub mod clocked;

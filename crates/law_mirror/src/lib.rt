@@ -1,4 +1,4 @@
-//! Laws: the machine of the circuit of a node mirrors the node, so its game is that of the contract.
+//! Laws of `hp_abstract` and `hp_circuit`: the machine of the circuit of a node mirrors the node, so its game is that of the contract. Used by `law_decided`, `law_choices`.
 #![tactic(auto)]
 
 pub mod carried;

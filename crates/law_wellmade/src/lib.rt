@@ -1,4 +1,4 @@
-//! Laws: the clocked equations of a program are well made: in time, in no circle, regular, with names and clocks as machines ask.
+//! Laws of `hp_automata`, `hp_complete`, `hp_form`: the clocked equations of a program are well made, that is in time, in no circle, regular, with names and clocks as machines ask. Used by `hp_driver` and the laws above.
 #![tactic(auto)]
 
 pub mod acyclic;

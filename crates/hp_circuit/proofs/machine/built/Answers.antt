@@ -19,8 +19,8 @@ make_all-requires-clause-placed c =
     subst (λ (ps : List ℕ). ArePlaced slots circuit.wires.items circuit.shapes.items ps) (sym c.deref-2.ensures.value)
     (placed_all steered slots circuit.wires.items circuit.shapes.items c.args.counts places c.requires.counts many each)
 
-pub joined-requires-clause-wired : goal.joined-requires-clause-wired
-joined-requires-clause-wired c =
+pub with_gates-requires-clause-wired : goal.with_gates-requires-clause-wired
+with_gates-requires-clause-wired c =
     let circuit = c.args.circuit.now in
     let slots = circuit.slots.items in
     let wires = circuit.wires.items in

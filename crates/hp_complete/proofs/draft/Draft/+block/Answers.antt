@@ -23,8 +23,8 @@ eqn-returns-in_ok-switch-in-Switch-clause-sketch t c =
     ∙ (λ j. switch_made p (names j) c.in-Switch.cond (arms_of (map arm_seen (c.deref-in-Switch-2.ensures.value j))) d)
     ∙ sym (ap (λ e. eqn_made p ds (eqn_seen e) d) is)
 
-pub restarted-returns-clause-place : goal.restarted-returns-clause-place
-restarted-returns-clause-place t c =
+pub reset_body-returns-clause-place : goal.reset_body-returns-clause-place
+reset_body-returns-clause-place t c =
     let p = place_of c.args.self.now in
     let d = sketch_of c.args.self.now in
     let x = c.args.test in
@@ -37,5 +37,5 @@ restarted-returns-clause-place t c =
     let inner = c.in_ok-block.ensures.place ∙ (λ j. within (block_made Inner (here j) b (made j)).0 (here j)) in
     c.pop_restart.ensures.place ∙ ap unrestarted c.leave_block.ensures.place ∙ (λ j. unrestarted (at_base (base j) (inner j))) ∙ restart-left p x (restarted_made p x b d).0
 
-pub restarted-returns-clause-back : goal.restarted-returns-clause-back
-restarted-returns-clause-back t c = ap left (restarted-returns-clause-place t c) ∙ within-left _ (place_of c.args.self.now)
+pub reset_body-returns-clause-back : goal.reset_body-returns-clause-back
+reset_body-returns-clause-back t c = ap left (reset_body-returns-clause-place t c) ∙ within-left _ (place_of c.args.self.now)

@@ -31,8 +31,8 @@ decreases-reset l = 6 * lines l.body.now + 3
 abbrev pub decreases-reset_block : goal.decreases-reset_block
 decreases-reset_block l = 6 * lines l.body.now + 2
 
-abbrev pub decreases-restarted : goal.decreases-restarted
-decreases-restarted l = 6 * lines l.body.now + 1
+abbrev pub decreases-reset_body : goal.decreases-reset_body
+decreases-reset_body l = 6 * lines l.body.now + 1
 
 abbrev pub invariant-eqns-loop-eqn : goal.invariant-eqns-loop-eqn
 invariant-eqns-loop-eqn l =

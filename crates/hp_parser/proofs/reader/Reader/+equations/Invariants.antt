@@ -25,17 +25,17 @@ decreases-arms l = 8 * l.nest + 3
 abbrev pub decreases-states : goal.decreases-states
 decreases-states l = 8 * l.nest + 3
 
-abbrev pub decreases-switched : goal.decreases-switched
-decreases-switched l = 8 * l.nest + 4
+abbrev pub decreases-parse_switch : goal.decreases-parse_switch
+decreases-parse_switch l = 8 * l.nest + 4
 
-abbrev pub decreases-branched : goal.decreases-branched
-decreases-branched l = 8 * l.nest + 4
+abbrev pub decreases-parse_if : goal.decreases-parse_if
+decreases-parse_if l = 8 * l.nest + 4
 
-abbrev pub decreases-restarted : goal.decreases-restarted
-decreases-restarted l = 8 * l.nest + 4
+abbrev pub decreases-parse_reset : goal.decreases-parse_reset
+decreases-parse_reset l = 8 * l.nest + 4
 
-abbrev pub decreases-moded : goal.decreases-moded
-decreases-moded l = 8 * l.nest + 4
+abbrev pub decreases-parse_automaton : goal.decreases-parse_automaton
+decreases-parse_automaton l = 8 * l.nest + 4
 
 abbrev pub decreases-control : goal.decreases-control
 decreases-control l = 8 * l.nest + 5

@@ -23,20 +23,20 @@ arguments-returns-in_err-expression-2-clause-read t c =
 pub level-returns-in_err-left-2-clause-read : goal.level-returns-in_err-left-2-clause-read
 level-returns-in_err-left-2-clause-read t c =
     let p = err_from_is_err_and c.from_residual-in_err-left-2.result c.from_residual-in_err-left-2.ensures.1 in
-    rw (p.1, p.2) (stops_with c.in_err-left-2.field-0.0 c.joined.new.self
+    rw (p.1, p.2) (stops_with c.in_err-left-2.field-0.0 c.parse_operation.new.self
     (joined_read c.args.mode c.args.depth c.args.level (measured_seen c.loop-mode.left) c.loop-mode.self) (level_read c.args.mode c.args.depth c.args.level c.args.self.now)
     (λ fault k. sym c.loop-mode.invariant.read
-    ∙ more_fails c.args.mode c.args.depth c.args.level (measured_seen c.loop-mode.left) c.loop-mode.self c.joined.new.self fault (sym c.loop-mode-test.ensures) c.if-depth-left-lt2.false k)
+    ∙ more_fails c.args.mode c.args.depth c.args.level (measured_seen c.loop-mode.left) c.loop-mode.self c.parse_operation.new.self fault (sym c.loop-mode-test.ensures) c.if-depth-left-lt2.false k)
     c.in_err-left-2.ensures.read)
 
-pub merged-returns-clause-within : goal.merged-returns-clause-within
-merged-returns-clause-within t c =
+pub parse_merge-returns-clause-within : goal.parse_merge-returns-clause-within
+parse_merge-returns-clause-within t c =
     let height : c.in_ok-merge.field-0.height ≡ deepest (map (λ (p : FoundPart). measured_seen p.value) c.in_ok-parts.parts.items) =
     ap (λ (m : Measured). m.height) c.in_ok-merge.ensures ∙ ap deepest (values_seen c.in_ok-parts.parts.items) in
     omega (arith, height, c.in_ok-parts.ensures.within)
 
-pub sampled-returns-in_err-left-2-clause-read : goal.sampled-returns-in_err-left-2-clause-read
-sampled-returns-in_err-left-2-clause-read t c =
+pub parse_samples-returns-in_err-left-2-clause-read : goal.parse_samples-returns-in_err-left-2-clause-read
+parse_samples-returns-in_err-left-2-clause-read t c =
     let p = err_from_is_err_and c.from_residual-in_err-left-2.result c.from_residual-in_err-left-2.ensures.1 in
     rw (p.1, p.2) (stops_with c.in_err-left-2.field-0.0 c.when.new.self
     (read_convert (of_sample (measured_seen c.loop-mode.left)) sample_read c.loop-mode.self) (sampled_read c.args.mode c.args.depth c.args.self.now)

@@ -7,8 +7,8 @@ use Rattle.hp_parser.proofs.reader.Reader.+expression.Given as goal
 abbrev pub decreases-arguments : goal.decreases-arguments
 decreases-arguments l = 32 * l.depth
 
-abbrev pub decreases-arrowed : goal.decreases-arrowed
-decreases-arrowed l = 32 * l.depth + 21
+abbrev pub decreases-parse_arrow : goal.decreases-parse_arrow
+decreases-parse_arrow l = 32 * l.depth + 21
 
 abbrev pub decreases-atom : goal.decreases-atom
 decreases-atom l = 32 * l.depth + 3
@@ -22,14 +22,14 @@ decreases-expression l = 32 * l.depth + 22
 abbrev pub decreases-inlined_call : goal.decreases-inlined_call
 decreases-inlined_call l = 32 * l.depth + 2
 
-abbrev pub decreases-joined : goal.decreases-joined
-decreases-joined l = 32 * l.depth
+abbrev pub decreases-parse_operation : goal.decreases-parse_operation
+decreases-parse_operation l = 32 * l.depth
 
 abbrev pub decreases-level : goal.decreases-level
 decreases-level l = 32 * l.depth + level_rank l.level
 
-abbrev pub decreases-merged : goal.decreases-merged
-decreases-merged l = 32 * l.depth + 2
+abbrev pub decreases-parse_merge : goal.decreases-parse_merge
+decreases-parse_merge l = 32 * l.depth + 2
 
 abbrev pub decreases-named : goal.decreases-named
 decreases-named l = 32 * l.depth + 2
@@ -46,8 +46,8 @@ decreases-part l = 32 * l.depth
 abbrev pub decreases-parts : goal.decreases-parts
 decreases-parts l = 32 * l.depth + 1
 
-abbrev pub decreases-sampled : goal.decreases-sampled
-decreases-sampled l = 32 * l.depth + 20
+abbrev pub decreases-parse_samples : goal.decreases-parse_samples
+decreases-parse_samples l = 32 * l.depth + 20
 
 abbrev pub decreases-unary : goal.decreases-unary
 decreases-unary l = 32 * l.depth + 4
@@ -79,11 +79,11 @@ invariant-parts-loop-mode l = record {
 abbrev pub decreases-parts-loop-mode : goal.decreases-parts-loop-mode
 decreases-parts-loop-mode l = length l.self
 
-abbrev pub invariant-sampled-loop-mode : goal.invariant-sampled-loop-mode
-invariant-sampled-loop-mode l = record {
+abbrev pub invariant-parse_samples-loop-mode : goal.invariant-parse_samples-loop-mode
+invariant-parse_samples-loop-mode l = record {
   read : samples_read l.mode l.depth (measured_seen l.left) l.self ≡ sampled_read l.mode l.depth l.fn.self;
   within : l.left.height < l.depth;
 }
 
-abbrev pub decreases-sampled-loop-mode : goal.decreases-sampled-loop-mode
-decreases-sampled-loop-mode l = length l.self
+abbrev pub decreases-parse_samples-loop-mode : goal.decreases-parse_samples-loop-mode
+decreases-parse_samples-loop-mode l = length l.self

@@ -14,8 +14,8 @@ decreases-expression l = 4 * nodes l.expr.now
 abbrev pub decreases-prefixed : goal.decreases-prefixed
 decreases-prefixed l = 4 * nodes l.a.now + 2
 
-abbrev pub decreases-joined : goal.decreases-joined
-decreases-joined l = 4 * (nodes l.a.now + nodes l.b.now) + 2
+abbrev pub decreases-operation : goal.decreases-operation
+decreases-operation l = 4 * (nodes l.a.now + nodes l.b.now) + 2
 
 abbrev pub decreases-conditional : goal.decreases-conditional
 decreases-conditional l = 4 * (nodes l.condition.now + nodes l.yes.now + nodes l.no.now) + 2
@@ -29,11 +29,11 @@ decreases-delayed l = 4 * (nodes l.a.now + nodes l.b.now) + 2
 abbrev pub decreases-initialised : goal.decreases-initialised
 decreases-initialised l = 4 * (nodes l.a.now + nodes l.b.now) + 2
 
-abbrev pub decreases-sampled : goal.decreases-sampled
-decreases-sampled l = 4 * nodes l.a.now + 2
+abbrev pub decreases-sample : goal.decreases-sample
+decreases-sample l = 4 * nodes l.a.now + 2
 
-abbrev pub decreases-merged : goal.decreases-merged
-decreases-merged l = 4 * nodes_of_parts (parts_of l.parts.now) + 3
+abbrev pub decreases-merge : goal.decreases-merge
+decreases-merge l = 4 * nodes_of_parts (parts_of l.parts.now) + 3
 
 abbrev pub decreases-call : goal.decreases-call
 decreases-call l = 4 * nodes_of_all (exprs_of l.args.now) + 3

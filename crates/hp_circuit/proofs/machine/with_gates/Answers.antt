@@ -8,7 +8,7 @@ use Rattle.hp_circuit.specs.Making.{place_at}
 use Rattle.hp_circuit.specs.Placing.{slot_gates, start_number}
 use Rattle.hp_circuit.proofs.EndLaws.{meant_of, machine_is}
 use Rattle.hp_circuit.proofs.PartLaws.{parts_of}
-use Rattle.hp_circuit.proofs.machine.joined.Goals as goal
+use Rattle.hp_circuit.proofs.machine.with_gates.Goals as goal
 
 pub finished-requires : goal.finished-requires
 finished-requires c =
