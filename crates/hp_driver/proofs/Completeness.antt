@@ -25,7 +25,7 @@ use Rattle.hp_driver.specs.Log.{heard, has_ended, HeardFrom}
 use Rattle.hp_driver.specs.Outcome.{Outcome, AreMachines, AreAskedFor, IsMachine, IsAskedFor}
 use Rattle.hp_driver.specs.Systems.{System, of_machine, inputs_of}
 use Rattle.hp_driver.specs.Values.{first_bad}
-use Rattle.hp_driver.specs.declared.trace.BadLine.{BadLine}
+use Rattle.hp_driver.specs.declared.trace_limits.BadLine.{BadLine}
 use Rattle.hp_driver.proofs.GoodLines.{good_so_far}
 use Rattle.hp_driver.proofs.WordLaws.{run_exec, same_words, exec_source, exec_contract, over_machines}
 

@@ -11,14 +11,14 @@ use Rattle.hp_driver.specs.Lines.{whole_lines, last_piece, last_line, lines_of}
 use Rattle.std.specs.Prelude.{Ok, Err}
 use Rattle.hp_driver.specs.LineFaults.{bad}
 use Rattle.hp_driver.specs.Trace.{Machine, answer, said_to, refused_in}
-use Rattle.hp_driver.specs.declared.trace.BadLine.{BadLine}
-use Rattle.hp_driver.specs.declared.trace.Fault.{Fault}
+use Rattle.hp_driver.specs.declared.trace_limits.BadLine.{BadLine}
+use Rattle.hp_driver.specs.declared.trace_limits.Fault.{Fault}
 use Rattle.hp_driver.specs.Log.{heard, said, has_ended}
 use Rattle.hp_driver.specs.Course.{At, Takes, Behind, Moves, Stops, Finishes, BreaksOff, EndsBy, InStep, Closes}
-use Rattle.hp_driver.specs.declared.trace.Stop.{Stop}
-use Rattle.hp_driver.specs.declared.trace.Stop.TheVariants as stop
-use Rattle.hp_driver.specs.declared.trace.End.{End}
-use Rattle.hp_driver.specs.declared.trace.End.TheVariants.{Done, Refused, TakeFailed, PutFailed}
+use Rattle.hp_driver.specs.declared.trace_limits.Stop.{Stop}
+use Rattle.hp_driver.specs.declared.trace_limits.Stop.TheVariants as stop
+use Rattle.hp_driver.specs.declared.trace_limits.End.{End}
+use Rattle.hp_driver.specs.declared.trace_limits.End.TheVariants.{Done, Refused, TakeFailed, PutFailed}
 use Rattle.hp_driver.specs.Hearing.{end_of}
 use Rattle.hp_driver.proofs.TraceLaws.{said_to-takes, refused_in-takes}
 

@@ -9,10 +9,10 @@ use Rattle.hp_lines.specs.declared.read.TheConstants.{MAX_LINE}
 use Rattle.hp_driver.specs.LineFaults.{by_words, bad}
 use Rattle.hp_driver.specs.Lines.{whole_lines, last_piece, last_line, lines_behind, lines_of, IsPiece}
 use Rattle.hp_driver.specs.Values.{reading, inputs_on, first_bad}
-use Rattle.hp_driver.specs.declared.trace.BadLine.{BadLine}
-use Rattle.hp_driver.specs.declared.trace.Fault.{Fault}
-use Rattle.hp_driver.specs.declared.trace.Fault.TheVariants.{Long, Many}
-use Rattle.hp_driver.specs.declared.trace.TheConstants.{MAX_LINES}
+use Rattle.hp_driver.specs.declared.trace_limits.BadLine.{BadLine}
+use Rattle.hp_driver.specs.declared.trace_limits.Fault.{Fault}
+use Rattle.hp_driver.specs.declared.trace_limits.Fault.TheVariants.{Long, Many}
+use Rattle.hp_driver.specs.declared.trace_limits.TheConstants.{MAX_LINES}
 use Rattle.hp_driver.proofs.LineLaws.{IsKnown, known_begins, last_piece_is_piece, lines_behind-append}
 
 -- what the first of some lines makes of the first fault of the others

@@ -12,19 +12,19 @@ use Rattle.hp_driver.specs.Lines.{whole_lines, last_piece, lines_of, lines_behin
 use Rattle.hp_driver.specs.LineFaults.{by_words, bad}
 use Rattle.hp_driver.specs.Trace.{Machine, said_to, refused_in}
 use Rattle.hp_driver.specs.Course.{At, Moves, Refuses, Breaks}
-use Rattle.hp_driver.specs.declared.trace.Stop.{Stop}
-use Rattle.hp_driver.specs.declared.trace.Stop.TheVariants as stop
+use Rattle.hp_driver.specs.declared.trace_limits.Stop.{Stop}
+use Rattle.hp_driver.specs.declared.trace_limits.Stop.TheVariants as stop
 use Rattle.hp_driver.specs.Course.{Stops}
 use Rattle.hp_driver.specs.Hearing.{at, SaysBefore, SaysPending, Hears, IsPast}
 use Rattle.std.specs.Prelude.{Result, Ok, Err, vec_len}
-use Rattle.hp_driver.specs.declared.trace.Hearing.{Hearing}
+use Rattle.hp_driver.specs.declared.trace_limits.Hearing.{Hearing}
 use Rattle.hp_driver.proofs.LineLaws.{lines_behind-append}
 use Rattle.hp_lines.specs.declared.read.TheConstants.{MAX_LINE}
-use Rattle.hp_driver.specs.declared.trace.TheConstants.{MAX_LINES}
+use Rattle.hp_driver.specs.declared.trace_limits.TheConstants.{MAX_LINES}
 use Rattle.hp_lines.specs.declared.read.LineErr.{LineErr}
-use Rattle.hp_driver.specs.declared.trace.BadLine.{BadLine}
-use Rattle.hp_driver.specs.declared.trace.Fault.{Fault}
-use Rattle.hp_driver.specs.declared.trace.Fault.TheVariants.{Line, Long, Many}
+use Rattle.hp_driver.specs.declared.trace_limits.BadLine.{BadLine}
+use Rattle.hp_driver.specs.declared.trace_limits.Fault.{Fault}
+use Rattle.hp_driver.specs.declared.trace_limits.Fault.TheVariants.{Line, Long, Many}
 use Rattle.hp_driver.proofs.TraceLaws.{answer_within, moves_on, stays, speaks, hears_byte, hears_newline, refuses_line, refuses_long, refuses_many, said_to-takes}
 
 same_at : {S : Type 0} (a b : At S) → a.piece ≡ b.piece → a.pending ≡ b.pending → a.number ≡ b.number → a.state ≡ b.state → a ≡ b

@@ -7,7 +7,7 @@ use Rattle.std.proofs.lemmas.List.{take_all, length-drop}
 use Rattle.std.proofs.lemmas.Bool.{lt-ltb, le-leb, le-ltb, lt-leb}
 use Rattle.hp_driver.specs.Lines.{in_first, whole_lines, in_last, last_piece, last_line, lines_behind, IsPiece}
 use Rattle.hp_lines.specs.declared.read.TheConstants.{MAX_LINE}
-use Rattle.hp_driver.specs.declared.trace.TheConstants.{MAX_LINES}
+use Rattle.hp_driver.specs.declared.trace_limits.TheConstants.{MAX_LINES}
 
 at_no_newline : (b : ℕ) (bytes : List ℕ) → (b == 10) ≡ false → whole_lines (b ∷ bytes) ≡ in_first b (whole_lines bytes)
 at_no_newline b bytes e = ap (λ d. if d then [] ∷ whole_lines bytes else in_first b (whole_lines bytes)) e

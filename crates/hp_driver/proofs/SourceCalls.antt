@@ -36,7 +36,7 @@ use Rattle.hp_driver.specs.Controls.{has_controls}
 use Rattle.hp_driver.specs.Outcome.{Outcome, Gives, GivesMoreThan, HasNoProgram, IsHeld, AreCompiled, AreAskedFor, IsAskedFor}
 use Rattle.hp_driver.specs.Systems.{System, inputs_of}
 use Rattle.hp_driver.specs.Values.{first_bad}
-use Rattle.hp_driver.specs.declared.trace.BadLine.{BadLine}
+use Rattle.hp_driver.specs.declared.trace_limits.BadLine.{BadLine}
 use Rattle.hp_driver.proofs.Completeness.{same_text, no_bad_line}
 use Rattle.hp_driver.proofs.GoodContracts.{none_refused}
 use Rattle.hp_driver.proofs.WordLaws.{run_exec, run_compile, exec_compile, check_run, check_exec, check_makes, same_words, check_source, run_source, compile_source, source_contract, over_machines}

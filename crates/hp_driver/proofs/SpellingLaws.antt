@@ -13,8 +13,8 @@ use Rattle.hp_lines.specs.Values.{values_of}
 use Rattle.hp_lines.specs.Refusals.{wrong_word, refusal}
 use Rattle.hp_lines.proofs.ReadLaws.{spelled}
 use Rattle.hp_lines.proofs.KindLaws.{values_are_of_kinds}
-use Rattle.hp_driver.specs.declared.trace.Fault.{Fault}
-use Rattle.hp_driver.specs.declared.trace.TheConstants.{MAX_LINES}
+use Rattle.hp_driver.specs.declared.trace_limits.Fault.{Fault}
+use Rattle.hp_driver.specs.declared.trace_limits.TheConstants.{MAX_LINES}
 use Rattle.hp_driver.specs.LineFaults.{by_words, on_line, bad}
 use Rattle.hp_driver.specs.Trace.{Machine, answer, said_to, refused_in}
 use Rattle.hp_driver.proofs.TraceLaws.{by_tests}

@@ -9,9 +9,9 @@ use Rattle.hp_driver.specs.Trace.{Machine, answer, said_to, refused_in}
 use Rattle.hp_driver.specs.Course.{At, Takes, none, next, Behind, Moves, Refuses}
 use Rattle.hp_lines.specs.declared.read.LineErr.{LineErr}
 use Rattle.hp_lines.specs.declared.read.TheConstants.{MAX_LINE}
-use Rattle.hp_driver.specs.declared.trace.Fault.{Fault}
-use Rattle.hp_driver.specs.declared.trace.Fault.TheVariants.{Long, Many}
-use Rattle.hp_driver.specs.declared.trace.TheConstants.{MAX_LINES}
+use Rattle.hp_driver.specs.declared.trace_limits.Fault.{Fault}
+use Rattle.hp_driver.specs.declared.trace_limits.Fault.TheVariants.{Long, Many}
+use Rattle.hp_driver.specs.declared.trace_limits.TheConstants.{MAX_LINES}
 use Rattle.hp_driver.proofs.LineLaws.{whole_lines-append, last_piece-append, last_piece_is_piece, whole_lines-newline, last_piece-newline, whole_lines-piece, last_piece-piece, push_is_piece, Begins, IsKnown, known_begins, lines_behind-append}
 
 -- what a line gives, by the tests on its number and its length

@@ -1,9 +1,9 @@
 -- The lines of diagnostics that name a line of the trace.
 use Rattle.std.specs.Prelude.{ℕ, List, ◌++◌, codes, decimal}
 use Rattle.hp_lines.specs.declared.read.LineErr.TheVariants.{Count, Word}
-use Rattle.hp_driver.specs.declared.trace.BadLine.{BadLine}
-use Rattle.hp_driver.specs.declared.trace.Fault.{Fault}
-use Rattle.hp_driver.specs.declared.trace.Fault.TheVariants.{Line, Long, Many}
+use Rattle.hp_driver.specs.declared.trace_limits.BadLine.{BadLine}
+use Rattle.hp_driver.specs.declared.trace_limits.Fault.{Fault}
+use Rattle.hp_driver.specs.declared.trace_limits.Fault.TheVariants.{Line, Long, Many}
 
 -- a line of the trace is refused, for the first word that is no value of its input, for its number of words, for its length, or for its own number
 abbrev pub fault_line : Fault → ℕ → List ℕ

@@ -5,11 +5,11 @@ use Rattle.hp_io.specs.declared.console.Event.TheVariants.{Asked}
 use Rattle.hp_driver.specs.Lines.{whole_lines, last_piece, lines_of}
 use Rattle.hp_driver.specs.Log.{heard, said, has_ended}
 use Rattle.hp_driver.specs.Trace.{Machine, answer, said_to, refused_in}
-use Rattle.hp_driver.specs.declared.trace.BadLine.{BadLine}
-use Rattle.hp_driver.specs.declared.trace.End.{End}
-use Rattle.hp_driver.specs.declared.trace.End.TheVariants.{Done, Refused, TakeFailed, PutFailed}
-use Rattle.hp_driver.specs.declared.trace.Stop.{Stop}
-use Rattle.hp_driver.specs.declared.trace.Stop.TheVariants as stop
+use Rattle.hp_driver.specs.declared.trace_limits.BadLine.{BadLine}
+use Rattle.hp_driver.specs.declared.trace_limits.End.{End}
+use Rattle.hp_driver.specs.declared.trace_limits.End.TheVariants.{Done, Refused, TakeFailed, PutFailed}
+use Rattle.hp_driver.specs.declared.trace_limits.Stop.{Stop}
+use Rattle.hp_driver.specs.declared.trace_limits.Stop.TheVariants as stop
 
 -- where a machine stands in a trace: the unfinished line, what is to be said, how many lines were answered, and its state
 pub record At (S : Type 0) : Type 0 where

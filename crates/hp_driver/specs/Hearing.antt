@@ -3,18 +3,18 @@ use Rattle.std.specs.Prelude.{◌≡◌, ℕ, ◌+◌, ◌*◌, ◌≤◌, ◌<�
 use Rattle.hp_io.specs.Faults.{Faults, Rose, Same}
 use Rattle.hp_lines.specs.declared.read.LineErr.{LineErr}
 use Rattle.hp_lines.specs.declared.read.TheConstants.{MAX_LINE}
-use Rattle.hp_driver.specs.declared.trace.BadLine.{BadLine}
-use Rattle.hp_driver.specs.declared.trace.Fault.TheVariants.{Line, Long, Many}
-use Rattle.hp_driver.specs.declared.trace.Stop.{Stop}
-use Rattle.hp_driver.specs.declared.trace.Stop.TheVariants.{Refused, PutFailed}
+use Rattle.hp_driver.specs.declared.trace_limits.BadLine.{BadLine}
+use Rattle.hp_driver.specs.declared.trace_limits.Fault.TheVariants.{Line, Long, Many}
+use Rattle.hp_driver.specs.declared.trace_limits.Stop.{Stop}
+use Rattle.hp_driver.specs.declared.trace_limits.Stop.TheVariants.{Refused, PutFailed}
 use Rattle.hp_driver.specs.LineFaults.{bad}
 use Rattle.hp_driver.specs.Trace.{Machine}
 use Rattle.hp_driver.specs.Course.{At, Moves, Stops, InStep, Closes}
 use Rattle.hp_io.specs.declared.console.Event.{Event}
-use Rattle.hp_driver.specs.declared.trace.End.{End}
-use Rattle.hp_driver.specs.declared.trace.End.TheVariants.{TakeFailed, Refused as RefusedEnd, PutFailed as PutFailedEnd}
-use Rattle.hp_driver.specs.declared.trace.Hearing.{Hearing}
-use Rattle.hp_driver.specs.declared.trace.TheConstants.{MAX_LINES}
+use Rattle.hp_driver.specs.declared.trace_limits.End.{End}
+use Rattle.hp_driver.specs.declared.trace_limits.End.TheVariants.{TakeFailed, Refused as RefusedEnd, PutFailed as PutFailedEnd}
+use Rattle.hp_driver.specs.declared.trace_limits.Hearing.{Hearing}
+use Rattle.hp_driver.specs.declared.trace_limits.TheConstants.{MAX_LINES}
 
 abbrev pub at : {S : Type 0} → S → Hearing → At S
 at s h = record { piece = h.piece.items; pending = h.pending.items; number = h.number; state = s }

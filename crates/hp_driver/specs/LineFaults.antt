@@ -1,9 +1,9 @@
 -- The faults of a line of a trace, by its number, its length and its words.
 use Rattle.std.specs.Prelude.{ℕ, nat_lt, if◌then◌else◌, List, length, Result, Ok, Err}
 use Rattle.hp_lines.specs.declared.read.LineErr.{LineErr}
-use Rattle.hp_driver.specs.declared.trace.BadLine.{BadLine}
-use Rattle.hp_driver.specs.declared.trace.Fault.{Fault}
-use Rattle.hp_driver.specs.declared.trace.Fault.TheVariants.{Line, Long, Many}
+use Rattle.hp_driver.specs.declared.trace_limits.BadLine.{BadLine}
+use Rattle.hp_driver.specs.declared.trace_limits.Fault.{Fault}
+use Rattle.hp_driver.specs.declared.trace_limits.Fault.TheVariants.{Line, Long, Many}
 
 -- what the words of a line give, or what is at fault with them
 abbrev pub by_words : {A : Type 0} → Result A LineErr → Result A Fault

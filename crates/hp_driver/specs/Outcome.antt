@@ -40,7 +40,7 @@ use Rattle.hp_driver.specs.Diagnostics.{refusal_line, too_long_line, no_text_lin
 use Rattle.hp_driver.specs.BadLines.{bad_line_line}
 use Rattle.hp_driver.specs.Controls.{has_controls}
 use Rattle.hp_driver.specs.Command.{IsRunOf, IsCheckOf, IsCompileOf, IsExecOf, IsProveOf, IsVerifyOf, IsOverSource, MakesMachines, IsOverContract, ReadsSource, ReadsFirst, IsNoCommand, usage_line, not_built_line, no_node_line, accepted_text, verdict_text}
-use Rattle.hp_driver.specs.declared.trace.BadLine.{BadLine}
+use Rattle.hp_driver.specs.declared.trace_limits.BadLine.{BadLine}
 
 -- The file holds this text, where the folder tells it.
 abbrev pub Gives : Option Files → List ℕ → List ℕ → Type 0

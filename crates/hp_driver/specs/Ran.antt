@@ -5,8 +5,8 @@ use Rattle.hp_io.specs.declared.console.Event.{Event}
 use Rattle.hp_driver.specs.BadLines.{bad_line_line}
 use Rattle.hp_driver.specs.Hearing.{Course}
 use Rattle.hp_driver.specs.Trace.{Machine}
-use Rattle.hp_driver.specs.declared.trace.BadLine.{BadLine}
-use Rattle.hp_driver.specs.declared.trace.End.TheVariants.{Done, Refused, TakeFailed, PutFailed}
+use Rattle.hp_driver.specs.declared.trace_limits.BadLine.{BadLine}
+use Rattle.hp_driver.specs.declared.trace_limits.End.TheVariants.{Done, Refused, TakeFailed, PutFailed}
 
 -- the events of a trace, the line of its diagnostics, and its status
 module _ {S : Type 0} (machine : Machine S) (start : S) where

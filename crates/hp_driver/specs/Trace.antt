@@ -1,8 +1,8 @@
 -- What a machine says to the lines of a trace, and which line it refuses.
 use Rattle.std.specs.Prelude.{ℕ, suc, List, [], ◌∷◌, ◌++◌, Option, None, Some, Result, Ok, Err}
 use Rattle.hp_lines.specs.declared.read.LineErr.{LineErr}
-use Rattle.hp_driver.specs.declared.trace.BadLine.{BadLine}
-use Rattle.hp_driver.specs.declared.trace.Fault.{Fault}
+use Rattle.hp_driver.specs.declared.trace_limits.BadLine.{BadLine}
+use Rattle.hp_driver.specs.declared.trace_limits.Fault.{Fault}
 use Rattle.hp_driver.specs.LineFaults.{on_line, bad}
 
 -- A machine answers a line and goes into its next state, or it says why it refuses the line.

@@ -7,8 +7,8 @@ use Rattle.hp_lines.specs.declared.read.LineErr.{LineErr}
 use Rattle.hp_lines.specs.Words.{words}
 use Rattle.hp_lines.specs.Values.{values_of}
 use Rattle.hp_lines.specs.Refusals.{refusal}
-use Rattle.hp_driver.specs.declared.trace.BadLine.{BadLine}
-use Rattle.hp_driver.specs.declared.trace.Fault.{Fault}
+use Rattle.hp_driver.specs.declared.trace_limits.BadLine.{BadLine}
+use Rattle.hp_driver.specs.declared.trace_limits.Fault.{Fault}
 use Rattle.hp_driver.specs.LineFaults.{on_line, bad}
 
 -- the values of these kinds that a line spells, or why it spells none; words that are not refused spell values

@@ -5,7 +5,7 @@ ghost use Rattle.hp_lines.specs.Lines.{line_bound};
 ghost use Rattle.hp_lines.specs.Values.{HaveFewConstructors};
 ghost use Rattle.hp_driver.specs.Executing.{HasBehaviour};
 
-use crate::trace::Reactor;
+use crate::trace_limits::Reactor;
 use hp_base::{Signature, Value};
 use hp_exec::Exec;
 use hp_lines::{LineErr, line_room, read_line, write_line};

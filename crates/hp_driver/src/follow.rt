@@ -8,7 +8,7 @@ ghost use Rattle.hp_driver.specs.Log.{HeardFrom};
 ghost use Rattle.hp_driver.specs.Course.{Moves, Refuses, EndsBy, weight};
 ghost use Rattle.hp_driver.specs.Hearing.{at, HasRoom, AnswersLine, RefusesLine, PutCause, SaysPending, SaysBefore, Hears, TakeCauseOf, PutCauseOf, Course, end_of};
 
-use crate::trace::{BadLine, End, Fault, Hearing, MAX_LINES, Reactor, Stop};
+use crate::trace_limits::{BadLine, End, Fault, Hearing, MAX_LINES, Reactor, Stop};
 use hp_io::{Console, Failed};
 use hp_lines::MAX_LINE;
 

@@ -13,7 +13,7 @@ mod run;
 mod source;
 mod status;
 mod tool;
-mod trace;
+mod trace_limits;
 mod words;
 
 pub use laws::{
@@ -21,4 +21,4 @@ pub use laws::{
 };
 pub use status::Status;
 pub use tool::run_tool;
-pub use trace::MAX_LINES;
+pub use trace_limits::MAX_LINES;

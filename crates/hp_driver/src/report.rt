@@ -7,7 +7,7 @@ ghost use Rattle.hp_driver.specs.Faults.{PutFaults};
 ghost use Rattle.hp_driver.specs.Status.{code_of};
 
 use crate::status::Status;
-use crate::trace::{BadLine, Fault};
+use crate::trace_limits::{BadLine, Fault};
 use hp_io::{Failed, Sink};
 use hp_lines::LineErr;
 use itoa::Buffer;

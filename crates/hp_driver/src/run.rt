@@ -8,7 +8,7 @@ ghost use Rattle.hp_driver.specs.Status.{code_of};
 use crate::follow::follow;
 use crate::report::{LINE_ROOM, report_bad_line};
 use crate::status::Status;
-use crate::trace::{End, Hearing, PIECE, Reactor};
+use crate::trace_limits::{End, Hearing, PIECE, Reactor};
 use hp_io::{Console, Sink};
 use std::alloc::{AllocError, Global};
 

@@ -1,7 +1,7 @@
 ghost use Rattle.std.specs.Prelude.{◌≡◌, ◌++◌, OnOk, IfOk};
 ghost use Rattle.hp_exec.specs.Layouts.{layout_at, layout_of, layouts_of};
 
-use crate::code::Part;
+use crate::code::InstanceSlot;
 use crate::routine::Routine;
 use hp_base::Value;
 use std::alloc::{AllocError, Global};
@@ -10,7 +10,7 @@ use std::alloc::{AllocError, Global};
 #[cycle(append)]
 #[tactic(auto, using(crate::proofs::Rules::layouts))]
 fn append_instance(
-    place: Part,
+    place: InstanceSlot,
     earlier: &[Routine],
     into: &mut Vec<Value>,
 ) -> Result<(), AllocError>

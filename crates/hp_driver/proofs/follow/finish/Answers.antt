@@ -6,10 +6,10 @@ use Rattle.std.proofs.lemmas.Bool.Decides.{eqb_tells}
 use Rattle.hp_io.proofs.ToldLaws.{Grows-nil}
 use Rattle.hp_driver.specs.Course.{Finishes}
 use Rattle.hp_driver.specs.LineFaults.{by_words}
-use Rattle.hp_driver.specs.declared.trace.Fault.TheVariants.{Line, Many}
+use Rattle.hp_driver.specs.declared.trace_limits.Fault.TheVariants.{Line, Many}
 use Rattle.hp_driver.specs.Hearing.{at, SaysPending}
-use Rattle.hp_driver.specs.declared.trace.Stop.{Stop}
-use Rattle.hp_driver.specs.declared.trace.Stop.TheVariants as stop
+use Rattle.hp_driver.specs.declared.trace_limits.Stop.{Stop}
+use Rattle.hp_driver.specs.declared.trace_limits.Stop.TheVariants as stop
 use Rattle.hp_driver.proofs.TraceLaws.{answer_within, answer_too_many}
 use Rattle.hp_driver.proofs.FollowLaws.{finishes_none, finishes_line, finishes_refused, breaks_off}
 use Rattle.hp_driver.proofs.follow.finish.Goals as goal

@@ -10,7 +10,7 @@ use Rattle.hp_driver.specs.Trace.{Machine}
 use Rattle.hp_driver.specs.Course.{At}
 use Rattle.hp_driver.specs.Hearing.{at, Course}
 use Rattle.hp_driver.specs.Log.{heard, HeardFrom}
-use Rattle.hp_driver.specs.declared.trace.End.TheVariants.{TakeFailed}
+use Rattle.hp_driver.specs.declared.trace_limits.End.TheVariants.{TakeFailed}
 use Rattle.hp_driver.proofs.FollowLaws.{begins, follows_on, closes_by_stop, closes_by_end, closes_by_fault, closes_by_asked_fault, turn, last_turn, turn_grows, turn_loses, last_grows, last_loses, heard-append, ended_by, open_turn, goes_on, nothing_left, IsFollowing}
 use Rattle.hp_driver.proofs.LineLaws.{last_line_open}
 use Rattle.hp_driver.proofs.follow.follow.Goals as goal

@@ -4,10 +4,10 @@ use Rattle.hp_driver.specs.Trace.{Machine}
 use Rattle.hp_driver.specs.Lines.{IsPiece}
 use Rattle.hp_driver.specs.Course.{Moves, Refuses}
 use Rattle.hp_driver.specs.Hearing.{at, AnswersLine, RefusesLine}
-use Rattle.hp_driver.specs.declared.trace.Hearing.{Hearing}
+use Rattle.hp_driver.specs.declared.trace_limits.Hearing.{Hearing}
 use Rattle.hp_lines.specs.declared.read.TheConstants.{MAX_LINE}
-use Rattle.hp_driver.specs.declared.trace.BadLine.{BadLine}
-use Rattle.hp_driver.specs.declared.trace.TheConstants.{MAX_LINES}
+use Rattle.hp_driver.specs.declared.trace_limits.BadLine.{BadLine}
+use Rattle.hp_driver.specs.declared.trace_limits.TheConstants.{MAX_LINES}
 use Rattle.hp_driver.proofs.HearingLaws.{moves_by_line, refuses_by_line, past_line}
 use Rattle.hp_driver.proofs.follow.hear_line.Goals as goal
 
