@@ -22,7 +22,8 @@ use crate::refuse::report_too_long;
 use crate::report::report;
 use crate::source::run_source;
 use crate::status::Status;
-use crate::words::{Command, command_of};
+use crate::sweep::run_sweep;
+use crate::words::{Command, command_of, sweep_of};
 use hp_io::{Console, Folder, ReadErr, Sink};
 use std::alloc::Global;
 
@@ -73,6 +74,12 @@ fn perform<F: Folder, C: Console, E: Sink>(
         (C.take_faults console.new) (C.put_faults console.new) (E.took diag.new) (E.faults diag.new))
         (code_of result) }
 {
+    let Ok(swept) = sweep_of(alloc, words) else {
+        return Status::NoMemory;
+    };
+    if let Some(sweep) = swept {
+        return run_sweep(alloc, sweep, console, diag);
+    }
     let Ok(found) = command_of(alloc, words) else {
         return Status::NoMemory;
     };
