@@ -2,9 +2,11 @@
 #![tactic(auto)]
 
 mod error;
+mod heading;
 mod machines;
 mod node;
 mod part;
 
 pub use error::ControlledErr;
+pub use heading::{is_chosen, is_told};
 pub use machines::controlled_machines;

@@ -1,4 +1,7 @@
 //! The machines of a program.
+ghost use Rattle.std.specs.Prelude.{IfOk};
+ghost use Rattle.hp_controlled.specs.Chosen.{AreControlledMachines};
+
 use crate::error::ControlledErr;
 use crate::node::{Context, add_contract, add_machine};
 use hp_automata::{lower, lowered};
@@ -104,7 +107,9 @@ fn machines_of(
 
 /// The machines of a program with its clocks written and without inlined calls, whose contracts are kept: for each node, in order, its machine, and for one that has a
 /// contract also those of its controller, before it, and of what is assumed and enforced, behind it.
-pub fn controlled_machines(alloc: Global, program: &Program) -> Result<Obc, ControlledErr> {
+pub fn controlled_machines(alloc: Global, program: &Program) -> Result<Obc, ControlledErr>
+    ensures { IfOk result (AreControlledMachines program.now) }
+{
     let types = obc_types(alloc, &program.items)?;
     let low = lowered(alloc, program)?;
     let flats = flatten(alloc, &low)?;
@@ -121,5 +126,6 @@ pub fn controlled_machines(alloc: Global, program: &Program) -> Result<Obc, Cont
         observers: &observers,
     };
     let machines = machines_of(alloc, context, &nodes, flats)?;
-    Ok(formed(alloc, types, machines)?)
+    let file = formed(alloc, types, machines)?;
+    Ok(file)
 }

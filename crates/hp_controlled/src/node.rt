@@ -11,7 +11,7 @@ use hp_machines::regular_machine_of;
 use hp_obc::{Machine, ObcType};
 use hp_synth::{Verdict, solve};
 use hp_tree::{Node, Program, controls_of};
-use hp_watch::{Observers, watch};
+use hp_watch::{Observers, add_copy, watch};
 use std::alloc::{AllocError, Global};
 
 /// The most bytes of a name of a source text, behind which the compiler may write.
@@ -140,7 +140,7 @@ fn choosing(
     }
     let name = named(alloc, &node.name, b"$ctl")?;
     let gates = first_gate(&watched.node, m)?;
-    let node = controlled(
+    let mut node = controlled(
         alloc,
         watched.node,
         m,
@@ -149,10 +149,13 @@ fn choosing(
         &watched.late,
         &chosen,
     )?;
+    // One gate may be both, and an output stands once.
+    let assume = add_copy(alloc, behind(gates, abstraction.assume)?, &mut node)?;
+    let enforce = add_copy(alloc, behind(gates, abstraction.enforce)?, &mut node)?;
     Ok(Chosen {
         node,
-        assume: behind(gates, abstraction.assume)?,
-        enforce: behind(gates, abstraction.enforce)?,
+        assume,
+        enforce,
     })
 }
 

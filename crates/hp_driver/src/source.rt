@@ -268,7 +268,12 @@ pub(crate) fn write_text<F: Folder>(text: &[u8], out: &str, files: &mut F) -> St
 }
 
 /// Writes the text of some machines to a file.
-pub(crate) fn write_machines<F: Folder>(alloc: Global, machines: &Obc, out: &str, files: &mut F) -> Status
+pub(crate) fn write_machines<F: Folder>(
+    alloc: Global,
+    machines: &Obc,
+    out: &str,
+    files: &mut F,
+) -> Status
     ensures status { (code_of result ≡ 0) ⊎ (code_of result ≡ 5) ⊎ (code_of result ≡ 6) }
     ensures leaves { WritesMachines machines.now out.now (F.files files.old) (F.files files.new) (code_of result) }
     ensures writes { WriteFaults out.now (code_of result) (F.write_faults files.old) (F.write_faults files.new) }

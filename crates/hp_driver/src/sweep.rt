@@ -1,4 +1,12 @@
 //! The command `sweep`: a program of some tasks of which one may be active at a time is made, compiled and run on a trace that is made too, and what was true is counted.
+ghost use Rattle.std.specs.Prelude.{◌≡◌, ◌≢◌, ◌≤◌, ◌++◌, ℕ, length, take, drop, codes, decimal, IfOk, OnOk};
+ghost use Rattle.hp_io.specs.Faults.{Same};
+ghost use Rattle.hp_driver.specs.Command.{IsSummary, spaced_numbers, summary_text};
+ghost use Rattle.hp_driver.specs.Faults.{BothPutFaults};
+ghost use Rattle.hp_driver.specs.Follows.{SweepOutcome};
+ghost use Rattle.hp_driver.specs.Happened.{Happened};
+ghost use Rattle.hp_driver.specs.Status.{code_of};
+
 use crate::diagnostic::NOT_BUILT;
 use crate::report::report;
 use crate::source::say_all;
@@ -55,11 +63,15 @@ impl From<AllocError> for Stop {
     }
 }
 
-fn add(text: &mut Vec<u8>, piece: &[u8]) -> Result<(), AllocError> {
+fn add(text: &mut Vec<u8>, piece: &[u8]) -> Result<(), AllocError>
+    ensures { OnOk result (text.new.items ≡ text.old.items ++ piece.now) }
+{
     text.extend_from_slice(piece)
 }
 
-fn add_number(text: &mut Vec<u8>, number: u64) -> Result<(), AllocError> {
+fn add_number(text: &mut Vec<u8>, number: u64) -> Result<(), AllocError>
+    ensures { OnOk result (text.new.items ≡ text.old.items ++ decimal number) }
+{
     let mut buffer = Buffer::new();
     text.extend_from_slice(buffer.format(number).as_bytes())
 }
@@ -73,7 +85,9 @@ fn add_between(text: &mut Vec<u8>, is_first: bool, between: &[u8]) -> Result<(),
 }
 
 /// Adds a name with a number.
-fn add_name(text: &mut Vec<u8>, name: &[u8], task: u64) -> Result<(), AllocError> {
+fn add_name(text: &mut Vec<u8>, name: &[u8], task: u64) -> Result<(), AllocError>
+    ensures { OnOk result (text.new.items ≡ text.old.items ++ (name.now ++ decimal task)) }
+{
     add(text, name)?;
     add_number(text, task)
 }
@@ -210,31 +224,26 @@ fn is_input(place: usize, instant: u64) -> bool {
 }
 
 /// Fills in the inputs of an instant.
-fn fill(instant: u64, inputs: &mut [Value]) {
+fn fill(instant: u64, inputs: &mut [Value])
+    ensures { length inputs.new ≡ length inputs.old }
+{
     for i in 0..inputs.len() {
         inputs[i] = Value::B(is_input(i, instant));
     }
 }
 
 /// Counts which outputs are true.
-fn count(outputs: &[Value], counts: &mut [u64]) {
-    for i in 0..outputs.len().min(counts.len()) {
-        if outputs[i] == Value::B(true) {
+fn count(outputs: &[Value], counts: &mut [u64])
+    ensures { length counts.new ≡ length counts.old }
+{
+    for i in 0..counts.len() {
+        if outputs.get(i) == Some(&Value::B(true)) {
             counts[i] = counts[i].saturating_add(1);
         }
     }
 }
 
-/// Runs a machine over so many instants, and counts how often each output was true.
-fn run_instants(exec: &mut Exec, instants: u64, room: &mut Room) {
-    for i in 0..instants {
-        fill(i + 1, &mut room.inputs);
-        exec.step(&room.inputs, &mut room.outputs);
-        count(&room.outputs, &mut room.counts);
-    }
-}
-
-/// What the steps of a machine need.
+/// What the steps of a machine need, and how often each output was true.
 #[derive(Drop)]
 struct Room {
     inputs: Vec<Value>,
@@ -243,45 +252,116 @@ struct Room {
 }
 
 impl Room {
-    fn new(alloc: Global, inputs: usize, outputs: usize) -> Result<Room, AllocError> {
+    /// Room for so many inputs and as many outputs.
+    fn new(alloc: Global, many: usize) -> Result<Room, AllocError>
+        ensures inputs { IfOk result (λ room. length room.inputs.items ≡ many) }
+        ensures outputs { IfOk result (λ room. length room.outputs.items ≡ many) }
+        ensures counts { IfOk result (λ room. length room.counts.items ≡ many) }
+    {
         Ok(Room {
-            inputs: vec![in alloc; Value::B(false); inputs]?,
-            outputs: vec![in alloc; Value::B(false); outputs]?,
-            counts: vec![in alloc; 0; outputs]?,
+            inputs: vec![in alloc; Value::B(false); many]?,
+            outputs: vec![in alloc; Value::B(false); many]?,
+            counts: vec![in alloc; 0; many]?,
         })
+    }
+
+    /// Does one step of a machine, and counts which outputs are true.
+    fn step(&mut self, exec: &mut Exec, instant: u64)
+        requires inputs { length self.old.inputs.items ≡ length exec.old.signature.inputs }
+        requires outputs { length self.old.outputs.items ≡ length exec.old.signature.outputs }
+        ensures inputs { length self.new.inputs.items ≡ length self.old.inputs.items }
+        ensures outputs { length self.new.outputs.items ≡ length self.old.outputs.items }
+        ensures counts { length self.new.counts.items ≡ length self.old.counts.items }
+        ensures signature { exec.new.signature ≡ exec.old.signature }
+    {
+        fill(instant, &mut self.inputs);
+        exec.step(&self.inputs, &mut self.outputs);
+        count(&self.outputs, &mut self.counts);
     }
 }
 
-/// How often each output of the tasks was true.
-fn counts_of(alloc: Global, sweep: Sweep) -> Result<Vec<u64>, Stop> {
+/// Runs a machine over so many instants, and counts how often each output was true.
+fn run_instants(exec: &mut Exec, instants: u64, room: &mut Room)
+    requires inputs { length room.old.inputs.items ≡ length exec.old.signature.inputs }
+    requires outputs { length room.old.outputs.items ≡ length exec.old.signature.outputs }
+    ensures { length room.new.counts.items ≡ length room.old.counts.items }
+{
+    for i in 0..instants {
+        room.step(exec, i + 1);
+    }
+}
+
+/// How often each output of a machine of so many inputs and outputs is true.
+fn counts_by(
+    alloc: Global,
+    exec: &mut Exec,
+    many: usize,
+    instants: u64,
+) -> Result<Vec<u64>, AllocError>
+    requires inputs { many ≡ length exec.old.signature.inputs }
+    requires outputs { many ≡ length exec.old.signature.outputs }
+    ensures { IfOk result (λ counts. length counts.items ≡ many) }
+{
+    let mut room = Room::new(alloc, many)?;
+    run_instants(exec, instants, &mut room);
+    Ok(room.counts)
+}
+
+/// How often each output of so many tasks was true.
+fn counts_of(alloc: Global, sweep: Sweep, many: usize) -> Result<Vec<u64>, Stop>
+    ensures { IfOk result (λ counts. length counts.items ≡ many) }
+{
     let machines = machines_of_tasks(alloc, sweep.tasks)?;
     let mut exec = match Exec::new(alloc, &machines, TASKS) {
         Ok(exec) => exec,
         Err(ExecErr::OutOfMemory) => return Err(Stop::OutOfMemory),
         Err(_) => return Err(Stop::NotBuilt),
     };
-    let s = exec.signature();
-    let mut room = Room::new(alloc, s.inputs.len(), s.outputs.len())?;
-    run_instants(&mut exec, sweep.instants, &mut room);
-    Ok(room.counts)
+    if exec.signature().inputs.len() != many || exec.signature().outputs.len() != many {
+        return Err(Stop::NotBuilt);
+    }
+    let counts = counts_by(alloc, &mut exec, many, sweep.instants)?;
+    Ok(counts)
+}
+
+/// Adds numbers, each with a space in front.
+fn add_numbers(text: &mut Vec<u8>, numbers: &[u64]) -> Result<(), AllocError>
+    ensures { OnOk result (text.new.items ≡ text.old.items ++ spaced_numbers numbers.now) }
+{
+    for i in 0..numbers.len() {
+        add_name(text, b" ", numbers[i])?;
+    }
+    Ok(())
 }
 
 /// A line of numbers behind a letter.
-fn add_line(text: &mut Vec<u8>, letter: &[u8], numbers: &[u64]) -> Result<(), AllocError> {
+fn add_line(text: &mut Vec<u8>, letter: &[u8], numbers: &[u64]) -> Result<(), AllocError>
+    ensures { OnOk result (text.new.items ≡ text.old.items ++ (letter.now ++ (spaced_numbers numbers.now ++ codes "\n"))) }
+{
     add(text, letter)?;
-    for number in numbers {
-        add_name(text, b" ", *number)?;
-    }
+    add_numbers(text, numbers)?;
     add(text, b"\n")
 }
 
-/// The summary: how often each task was active, and how often each started.
-fn summary_of(alloc: Global, sweep: Sweep) -> Result<Vec<u8>, Stop> {
-    let counts = counts_of(alloc, sweep)?;
-    let half = counts.len() / 2;
+/// The text of these numbers, of which the first so many stand in the first line.
+fn text_of(alloc: Global, counts: &[u64], tasks: usize) -> Result<Vec<u8>, AllocError>
+    requires { tasks ≤ length counts.now }
+    ensures { IfOk result (λ text. text.items ≡ summary_text (take tasks counts.now) (drop tasks counts.now)) }
+{
     let mut text = Vec::new(alloc);
-    add_line(&mut text, b"a", &counts[..half])?;
-    add_line(&mut text, b"s", &counts[half..])?;
+    add_line(&mut text, b"a", &counts[..tasks])?;
+    add_line(&mut text, b"s", &counts[tasks..])?;
+    Ok(text)
+}
+
+/// The summary: how often each task was active, and how often each started.
+fn summary_of(alloc: Global, sweep: Sweep) -> Result<Vec<u8>, Stop>
+    requires { sweep.tasks ≤ 8 }
+    ensures { IfOk result (λ text. IsSummary sweep.tasks text.items) }
+{
+    let tasks = sweep.tasks as usize;
+    let counts = counts_of(alloc, sweep, 2 * tasks)?;
+    let text = text_of(alloc, &counts, tasks)?;
     Ok(text)
 }
 
@@ -291,7 +371,14 @@ pub(crate) fn run_sweep<C: Console, E: Sink>(
     sweep: Sweep,
     console: &mut C,
     diag: &mut E,
-) -> Status {
+) -> Status
+    requires { sweep.tasks ≤ 8 }
+    ensures outcome { Happened (C.events console.old) (C.events console.new) (C.left console.old) (C.left console.new) (E.took diag.old) (E.took diag.new)
+        (λ log line. SweepOutcome sweep.tasks sweep.instants log line (code_of result)) }
+    ensures status { code_of result ≢ 4 }
+    ensures takes { Same (C.take_faults console.old) (C.take_faults console.new) }
+    ensures puts { BothPutFaults (code_of result) (C.put_faults console.old) (C.put_faults console.new) (E.faults diag.old) (E.faults diag.new) }
+{
     match summary_of(alloc, sweep) {
         Ok(text) => say_all(console, &text),
         Err(Stop::NotBuilt) => report(diag, NOT_BUILT, Status::Refused),

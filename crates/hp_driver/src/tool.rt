@@ -5,6 +5,7 @@ ghost use Rattle.hp_io.specs.Faults.{Rose, Same, AllSame};
 ghost use Rattle.hp_io.specs.Reads.{Reading};
 ghost use Rattle.hp_io.specs.Told.{Grows};
 ghost use Rattle.hp_io.specs.declared.console.Event.{Event};
+ghost use Rattle.hp_driver.specs.Command.{IsSweepOf};
 ghost use Rattle.hp_driver.specs.Commanded.{Spells, file_of};
 ghost use Rattle.hp_driver.specs.GoodCalls.{AreCalm, IsGood, IsGoodCheck, IsGoodCompile, IsGoodProve, IsGoodRun, IsGoodVerify};
 ghost use Rattle.hp_driver.specs.Leaves.{Leaves, ReadRose, WriteRose};
@@ -59,6 +60,37 @@ fn run_text<F: Folder, C: Console, E: Sink>(
     }
 }
 
+/// Does what the words say, which ask for no sweep.
+fn perform_command<F: Folder, C: Console, E: Sink>(
+    alloc: Global,
+    words: &[String],
+    files: &mut F,
+    console: &mut C,
+    diag: &mut E,
+) -> Status
+    requires { (tasks instants : ℕ) → IsSweepOf (map string_bytes words.now) tasks instants → ⊥ }
+    ensures { IsCall (map string_bytes words.now)
+        (moment (F.files files.old) (F.reads files.old) (F.write_faults files.old) (C.events console.old) (C.left console.old)
+        (C.take_faults console.old) (C.put_faults console.old) (E.took diag.old) (E.faults diag.old))
+        (moment (F.files files.new) (F.reads files.new) (F.write_faults files.new) (C.events console.new) (C.left console.new)
+        (C.take_faults console.new) (C.put_faults console.new) (E.took diag.new) (E.faults diag.new))
+        (code_of result) }
+{
+    let Ok(found) = command_of(alloc, words) else {
+        return Status::NoMemory;
+    };
+    let Some(command) = found else {
+        return report(diag, USAGE, Status::NoCommand);
+    };
+    let mut text = Vec::new(alloc);
+    match files.read(command.file(), command.limit().most() as usize, &mut text) {
+        Ok(()) => run_text(alloc, command, text.as_slice(), files, console, diag),
+        Err(ReadErr::Failed) => Status::ReadFailed,
+        Err(ReadErr::TooLong { .. }) => report_too_long(alloc, diag, command.limit()),
+        Err(ReadErr::OutOfMemory) => Status::NoMemory,
+    }
+}
+
 /// Does what the words say.
 fn perform<F: Folder, C: Console, E: Sink>(
     alloc: Global,
@@ -77,21 +109,9 @@ fn perform<F: Folder, C: Console, E: Sink>(
     let Ok(swept) = sweep_of(alloc, words) else {
         return Status::NoMemory;
     };
-    if let Some(sweep) = swept {
-        return run_sweep(alloc, sweep, console, diag);
-    }
-    let Ok(found) = command_of(alloc, words) else {
-        return Status::NoMemory;
-    };
-    let Some(command) = found else {
-        return report(diag, USAGE, Status::NoCommand);
-    };
-    let mut text = Vec::new(alloc);
-    match files.read(command.file(), command.limit().most() as usize, &mut text) {
-        Ok(()) => run_text(alloc, command, text.as_slice(), files, console, diag),
-        Err(ReadErr::Failed) => Status::ReadFailed,
-        Err(ReadErr::TooLong { .. }) => report_too_long(alloc, diag, command.limit()),
-        Err(ReadErr::OutOfMemory) => Status::NoMemory,
+    match swept {
+        None => perform_command(alloc, words, files, console, diag),
+        Some(sweep) => run_sweep(alloc, sweep, console, diag),
     }
 }
 

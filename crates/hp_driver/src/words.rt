@@ -1,7 +1,7 @@
 //! The words of a call.
-ghost use Rattle.std.specs.Prelude.{◌≡◌, ◌↔◌, ℕ, List, [], ◌∷◌, map, take, IfOk, IsTrue, MatchOption};
+ghost use Rattle.std.specs.Prelude.{◌≡◌, ◌↔◌, ◌≤◌, ◌<◌, ◌⊎◌, ℕ, List, [], ◌∷◌, map, take, IfOk, IsTrue, MatchOption};
 ghost use Rattle.std.specs.String.{string_bytes};
-ghost use Rattle.hp_driver.specs.Command.{IsOnTraceBy, IsOnCertBy, IsPlainCheckOf, IsPrintOf, IsNoSourceCommand, IsNoCertCommand, IsNoCommand};
+ghost use Rattle.hp_driver.specs.Command.{IsOnTraceBy, IsOnCertBy, IsPlainCheckOf, IsPrintOf, IsNoSourceCommand, IsNoCertCommand, IsNoFileCommand, IsSweepOf, IsTellOf, SpellsNumber};
 ghost use Rattle.hp_driver.specs.Commanded.{SpellsTask, Spells, file_of, limit_of};
 
 use crate::sweep::Sweep;
@@ -231,7 +231,7 @@ pub(crate) fn command_of<'a>(
     alloc: Global,
     words: &'a [String],
 ) -> Result<Option<Command<'a>>, AllocError>
-    ensures { IfOk result (λ found. MatchOption found (IsNoCommand (map string_bytes words.entry.now)) (λ command. Spells (map string_bytes words.entry.now) command)) }
+    ensures { IfOk result (λ found. MatchOption found (IsNoFileCommand (map string_bytes words.entry.now)) (λ command. Spells (map string_bytes words.entry.now) command)) }
 {
     if let Some((file, node)) = command_with_two(alloc, "exec", words)? {
         return Ok(Some(Command::Exec { file, node }));
@@ -246,7 +246,10 @@ pub(crate) fn command_of<'a>(
 }
 
 /// The number that a word spells in decimal digits, if it is at most this one.
-fn number_of(word: &str, most: u64) -> Option<u64> {
+fn number_of(word: &str, most: u64) -> Option<u64>
+    requires { most < u64.MAX }
+    ensures { MatchOption result ((number : ℕ) → SpellsNumber word.now number → number ≤ most → ⊥) (λ number. SpellsNumber word.now number × (number ≤ most)) }
+{
     let bytes = word.as_bytes();
     if bytes.is_empty() {
         return None;
@@ -263,7 +266,9 @@ fn number_of(word: &str, most: u64) -> Option<u64> {
 }
 
 /// The words `sweep TASKS INSTANTS`.
-pub(crate) fn sweep_of(alloc: Global, words: &[String]) -> Result<Option<Sweep>, AllocError> {
+pub(crate) fn sweep_of(alloc: Global, words: &[String]) -> Result<Option<Sweep>, AllocError>
+    ensures { IfOk result (λ found. MatchOption found ((tasks instants : ℕ) → IsSweepOf (map string_bytes words.now) tasks instants → ⊥) (λ sweep. IsSweepOf (map string_bytes words.now) sweep.tasks sweep.instants)) }
+{
     let Some((tasks, instants)) = command_with_two(alloc, "sweep", words)? else {
         return Ok(None);
     };

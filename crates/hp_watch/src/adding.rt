@@ -54,6 +54,20 @@ pub fn add_operator(
     Ok(())
 }
 
+/// Adds a truth value on the base clock that has the value of another one, and gives its variable.
+pub fn add_copy(alloc: Global, variable: usize, node: &mut FlatNode) -> Result<usize, AllocError> {
+    let copy = add_variable(alloc, FlatTy::Bool, node)?;
+    add_operator(
+        alloc,
+        copy,
+        &[],
+        ObcOp::Copy,
+        &[Atom::Variable(variable)],
+        node,
+    )?;
+    Ok(copy)
+}
+
 /// A value of a type: what a variable holds where its clock is not there.
 pub fn some_value(ty: FlatTy) -> Value {
     match ty {

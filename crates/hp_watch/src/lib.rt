@@ -9,6 +9,7 @@ mod observer;
 mod walk;
 mod watching;
 
+pub use adding::add_copy;
 pub use error::WatchErr;
 pub use observer::observers;
 pub use watching::{Observer, Observers, Watched, watch};
