@@ -104,10 +104,10 @@ too_large law node limit o h words files (AreAskedFor.of_program {file} w compil
 
 -- ---- the machine is run
 
-machine_of : (node : List ℕ) (o : Obc) (e : Executor) → Executes o node e → IsMachine node o
+pub machine_of : (node : List ℕ) (o : Obc) (e : Executor) → Executes o node e → IsMachine node o
 machine_of node o e h = record { machine = h.machine; named = h.named; chain = h.chain; count = h.count }
 
-machine_mirrors : (node : List ℕ) (o : Obc) (e : Executor) → Executes o node e → Mirrors executing e (of_machine o node)
+pub machine_mirrors : (node : List ℕ) (o : Obc) (e : Executor) → Executes o node e → Mirrors executing e (of_machine o node)
 machine_mirrors node o e h = record { says = machine_says o node e h; refuses = machine_refuses o node e h }
 
 pub machine_ran : TextLaw → RunLaw → (node : List ℕ) (o : Obc) (e : Executor) (log : List Event) (line : List ℕ) (status : ℕ) → Executes o node e → Ran executing e log line status → MachinesOutcome o node log line status
