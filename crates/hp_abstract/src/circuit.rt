@@ -151,10 +151,7 @@ fn draw_node<'a>(
 }
 
 /// The circuit of a node, and the wire of what the node enforces. The circuit itself does not tell this wire: gates with constants are left out, so the wire of the duty may be any.
-pub fn circuit_of<'a>(
-    tables: &Tables<'a>,
-    node: &'a Node,
-) -> Result<(Circuit, usize), AllocError>
+pub fn circuit_of<'a>(tables: &Tables<'a>, node: &'a Node) -> Result<(Circuit, usize), AllocError>
     ensures circuit { IfOk result (λ drawing. IsOf drawing.0 (drawn.drawn_node (told_in tables.now) node.now)) }
     ensures enforce { IfOk result (λ drawing. drawing.1 ≡ enforced (told_in tables.now) node.now) }
 {

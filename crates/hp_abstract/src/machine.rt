@@ -9,7 +9,7 @@ ghost use Rattle.hp_drawing.specs.Told.{told_of};
 ghost use Rattle.hp_circuit.specs.declared.error.CircuitErr.TheVariants as circuit;
 ghost use Rattle.hp_tree.specs.declared.program.Item as tree;
 
-use crate::abstraction::Abstraction;
+use crate::abstracted::Abstraction;
 use crate::circuit::circuit_of;
 use crate::error::AbsErr;
 use crate::table::Tables;
