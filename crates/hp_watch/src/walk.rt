@@ -72,14 +72,18 @@ impl<'e> Walk<'e> {
 
     /// Leaves out so many.
     fn skip(&mut self, count: usize) -> Result<(), WatchErr> {
-        if self.events.len() - self.met < count {
+        let Some(met) = self.met.checked_add(count) else {
+            return Err(WatchErr::Misfit);
+        };
+        if met > self.events.len() {
             return Err(WatchErr::Misfit);
         }
-        self.met += count;
+        self.met = met;
         Ok(())
     }
 
     #[cycle(expr)]
+    #[tactic(auto, using(crate::proofs::Rules::sizes))]
     fn all(&mut self, exprs: &[Expr], into: &mut Vec<usize>) -> Result<(), WatchErr> {
         for expr in exprs {
             self.expr(expr, into)?;
@@ -109,6 +113,7 @@ impl<'e> Walk<'e> {
     }
 
     #[cycle(expr)]
+    #[tactic(auto, using(crate::proofs::Rules::sizes))]
     fn expr(&mut self, expr: &Expr, into: &mut Vec<usize>) -> Result<(), WatchErr> {
         match &*expr.kind {
             ExprKind::Const(_) | ExprKind::Name(_) | ExprKind::Last(_) => Ok(()),
@@ -155,6 +160,7 @@ impl<'e> Walk<'e> {
     }
 
     #[cycle(block)]
+    #[tactic(auto, using(crate::proofs::Rules::sizes))]
     fn states(&mut self, states: &[State], into: &mut Vec<usize>) -> Result<(), WatchErr> {
         for state in states {
             self.state(state, into)?;
@@ -163,6 +169,7 @@ impl<'e> Walk<'e> {
     }
 
     #[cycle(block)]
+    #[tactic(auto, using(crate::proofs::Rules::sizes))]
     fn arms(&mut self, arms: &[Arm], into: &mut Vec<usize>) -> Result<(), WatchErr> {
         for arm in arms {
             self.block(&arm.body, into)?;
@@ -194,6 +201,7 @@ impl<'e> Walk<'e> {
     }
 
     #[cycle(block)]
+    #[tactic(auto, using(crate::proofs::Rules::sizes))]
     fn block(&mut self, block: &Block, into: &mut Vec<usize>) -> Result<(), WatchErr> {
         for eqn in &block.eqns {
             self.eqn(eqn, into)?;
