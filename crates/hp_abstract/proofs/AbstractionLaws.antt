@@ -10,6 +10,7 @@ use Rattle.hp_circuit.specs.Giving as circuit
 use Rattle.hp_drawing.specs.DrawnNodes.{drawn_node}
 use Rattle.hp_drawing.specs.Seen.{IsOf}
 use Rattle.hp_drawing.specs.Told.{told_of}
+use Rattle.hp_abstract.specs.declared.abstracted.Abstraction.{Abstraction}
 use Rattle.hp_abstract.specs.Abstractions.{IsAbstractionOf}
 use Rattle.hp_abstract.specs.Enforced.{enforced}
 use Rattle.hp_abstract.proofs.MachineLaws.{is_machine}

@@ -1,5 +1,5 @@
 -- The machine of a node's contract, with what a compiler of controllers needs besides.
-use Rattle.std.specs.Prelude.{◌≡◌, List}
+use Rattle.std.specs.Prelude.{ℕ, ◌≡◌, List}
 use Rattle.hp_tree.specs.declared.program.Item.{Item}
 use Rattle.hp_tree.specs.Programs.{Node}
 use Rattle.hp_circuit.specs.declared.circuit.Circuit.{Circuit}
