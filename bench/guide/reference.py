@@ -31,13 +31,16 @@ def block(kind, text):
 
 def is_shown(example):
     """Whether an example can stand in a document: its files and its input are short."""
-    return all(is_short(text) for text in example.get('files', {}).values()) and is_short(example.get('input', '')) and 'line' in example and 'untried' not in example
+    texts = [*example.get('files', {}).values(), example.get('input', '')]
+    return all(is_short(text) for text in texts) and 'untried' not in example and not example.get('begins', '').endswith(' ')
 
 
 def call(example, status):
     """A call and what it says, as a console block."""
     given = example.get('input', '')
     feed = f"printf '{given.encode('unicode_escape').decode()}' | " if given else ''
+    if 'begins' in example:
+        return block('console', f'$ {feed}./hept {example["words"]} 2>&1 | head -n 1\n{example["begins"]}')
     return block('console', f'$ {feed}./hept {example["words"]}\n{example.get("said", "")}{example["line"]}\n[{status}]')
 
 
