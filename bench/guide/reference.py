@@ -47,7 +47,7 @@ def call(example, status):
 def shown(example, status):
     out = [f'For example, {example["shows"]}:\n']
     if not is_shown(example):
-        return f'For example, {example["shows"]}: `{example.get("line", example.get("begins", "") + " ..").strip()}`.\n'
+        return f'For example, {example["shows"]}: `{example.get("line", example.get("begins", "").strip() + " ..")}`.\n'
     for name, text in example.get('files', {}).items():
         out.append(block(f'{name.rpartition(".")[2]} {name}', text))
     out.append(call(example, status))

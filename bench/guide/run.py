@@ -131,6 +131,7 @@ def main():
         count, faults = run_traces()
         print(f'examples: {count} traces, {faults} not as kept')
         wrong += faults
+        wrong += subprocess.run([sys.executable, os.path.join(TOP, 'bench', 'guide', 'reference.py'), '--check']).returncode
     sys.exit(1 if wrong else 0)
 
 
