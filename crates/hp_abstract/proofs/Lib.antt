@@ -1,3 +1,4 @@
+mod AbstractionLaws
 mod BlockLaws
 mod MachineLaws
 mod NameLaws

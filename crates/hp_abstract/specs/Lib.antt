@@ -1,3 +1,5 @@
 pub mod Seen
 pub mod Telling
+pub mod Enforced
 pub mod Machines
+pub mod Abstractions

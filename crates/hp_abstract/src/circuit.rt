@@ -3,6 +3,7 @@ ghost use Rattle.std.specs.Prelude.{◌≡◌, IfOk, OnOk};
 ghost use Rattle.hp_tree.specs.Meaning.{controls_of};
 ghost use Rattle.hp_drawing.specs.DrawnNodes as drawn;
 ghost use Rattle.hp_drawing.specs.Seen.{IsOf, sketch_of};
+ghost use Rattle.hp_abstract.specs.Enforced.{enforced, enforced_from};
 ghost use Rattle.hp_abstract.specs.Seen.{layer_of, scope_of, told_in};
 
 use crate::block::draw_block;
@@ -126,9 +127,14 @@ fn draw_body<'a>(
     define_outputs(scope, &node.outputs, outputs, draft)
 }
 
-/// Draws a node.
-fn draw_node<'a>(tables: &Tables<'a>, node: &'a Node, draft: &mut Draft) -> Result<(), AllocError>
-    ensures { OnOk result (sketch_of draft.new ≡ drawn.drawn_node_from (told_in tables.now) node.now (sketch_of draft.old)) }
+/// Draws a node. The answer is the wire of what it enforces.
+fn draw_node<'a>(
+    tables: &Tables<'a>,
+    node: &'a Node,
+    draft: &mut Draft,
+) -> Result<usize, AllocError>
+    ensures sketch { OnOk result (sketch_of draft.new ≡ drawn.drawn_node_from (told_in tables.now) node.now (sketch_of draft.old)) }
+    ensures enforce { IfOk result (λ enforce. enforce ≡ enforced_from (told_in tables.now) node.now (sketch_of draft.old)) }
 {
     let outputs = draft.next_wire();
     add_holes(tables, &node.outputs, draft)?;
@@ -140,14 +146,16 @@ fn draw_node<'a>(tables: &Tables<'a>, node: &'a Node, draft: &mut Draft) -> Resu
     let (assume, enforce) = draw_observer(tables, &mut scope, &node.contract, draft)?;
     let layer = body_layer(tables, node, inputs, controls)?;
     draw_body(tables, &mut scope, layer, node, outputs, draft)?;
-    draft.finish(assume, enforce)
+    draft.finish(assume, enforce)?;
+    Ok(enforce)
 }
 
-/// The circuit of a node.
-pub fn circuit_of<'a>(tables: &Tables<'a>, node: &'a Node) -> Result<Circuit, AllocError>
-    ensures { IfOk result (λ circuit. IsOf circuit (drawn.drawn_node (told_in tables.now) node.now)) }
+/// The circuit of a node, and the wire of what the node enforces. The circuit itself does not tell this wire: gates with constants are left out, so the wire of the duty may be any.
+pub fn circuit_of<'a>(tables: &Tables<'a>, node: &'a Node) -> Result<(Circuit, usize), AllocError>
+    ensures circuit { IfOk result (λ drawing. IsOf drawing.0 (drawn.drawn_node (told_in tables.now) node.now)) }
+    ensures enforce { IfOk result (λ drawing. drawing.1 ≡ enforced (told_in tables.now) node.now) }
 {
     let mut draft = Draft::new(tables.alloc)?;
-    draw_node(tables, node, &mut draft)?;
-    Ok(draft.circuit())
+    let enforce = draw_node(tables, node, &mut draft)?;
+    Ok((draft.circuit(), enforce))
 }

@@ -1,6 +1,7 @@
 //! The Boolean machine of a node's contract: the circuit of its Boolean abstraction, from the tree. Invariant: it is the circuit that `hp_drawing` defines. Used by `hp_verdicts`, `hp_driver`.
 #![tactic(auto)]
 
+mod abstracted;
 mod block;
 mod call;
 mod circuit;
@@ -17,5 +18,7 @@ mod shape;
 mod table;
 mod words;
 
+pub use abstracted::Abstraction;
 pub use error::AbsErr;
-pub use machine::abstract_node;
+pub use hp_circuit::{Given, Shape};
+pub use machine::{abstract_node, abstraction};

@@ -1,5 +1,7 @@
 //! The machine of a contract.
-ghost use Rattle.std.specs.Prelude.{IfOk, IfErr, List};
+ghost use Rattle.std.specs.Prelude.{◌≡◌, IfOk, IfErr, List};
+ghost use Rattle.hp_abstract.specs.Abstractions.{IsAbstractionOf};
+ghost use Rattle.hp_abstract.specs.Enforced.{enforced};
 ghost use Rattle.hp_abstract.specs.Machines.{IsMachineOf, IsRefused, LacksMachine};
 ghost use Rattle.hp_drawing.specs.DrawnNodes.{drawn_node};
 ghost use Rattle.hp_drawing.specs.Seen.{IsOf};
@@ -7,17 +9,19 @@ ghost use Rattle.hp_drawing.specs.Told.{told_of};
 ghost use Rattle.hp_circuit.specs.declared.error.CircuitErr.TheVariants as circuit;
 ghost use Rattle.hp_tree.specs.declared.program.Item as tree;
 
+use crate::abstracted::Abstraction;
 use crate::circuit::circuit_of;
 use crate::error::AbsErr;
 use crate::table::Tables;
 use hp_boolx::BoolMachine;
-use hp_circuit::{Circuit, CircuitErr, machine_of};
+use hp_circuit::{Circuit, CircuitErr, abstraction_of};
 use hp_tree::{Node, Program};
 use std::alloc::{AllocError, Global};
 
-/// The circuit of a node of the program.
-fn drawn(alloc: Global, program: &Program, node: &Node) -> Result<Circuit, AllocError>
-    ensures { IfOk result (λ circuit. IsOf circuit (drawn_node (told_of program.now) node.now)) }
+/// The circuit of a node of the program, and the wire of what the node enforces.
+fn drawn(alloc: Global, program: &Program, node: &Node) -> Result<(Circuit, usize), AllocError>
+    ensures circuit { IfOk result (λ drawing. IsOf drawing.0 (drawn_node (told_of program.now) node.now)) }
+    ensures enforce { IfOk result (λ drawing. drawing.1 ≡ enforced (told_of program.now) node.now) }
 {
     let tables = Tables::new(alloc, program)?;
     circuit_of(&tables, node)
@@ -48,14 +52,29 @@ fn steered(node: &Node) -> AbsErr
     }
 }
 
+/// The Boolean machine of a node of a program that is judged, arranged and ordered, with what is given to it and the gates of what the node assumes and enforces.
+pub fn abstraction(alloc: Global, program: &Program, node: &Node) -> Result<Abstraction, AbsErr>
+    ensures abstraction { IfOk result (IsAbstractionOf program.now node.now) }
+    ensures refused { IfErr result (IsRefused program.now node.now) }
+{
+    let (circuit, enforce) = drawn(alloc, program, node)?;
+    let wires = [circuit.assume, enforce];
+    match abstraction_of(alloc, &node.name, &circuit, &wires) {
+        Ok(made) => Ok(Abstraction {
+            assume: made.gates[0],
+            enforce: made.gates[1],
+            machine: made.machine,
+            given: made.given,
+        }),
+        Err(err) => Err(refused(node, err)),
+    }
+}
+
 /// The Boolean machine of a node of a program that is judged, arranged and ordered.
 pub fn abstract_node(alloc: Global, program: &Program, node: &Node) -> Result<BoolMachine, AbsErr>
     ensures machine { IfOk result (IsMachineOf program.now node.now) }
     ensures refused { IfErr result (IsRefused program.now node.now) }
 {
-    let circuit = drawn(alloc, program, node)?;
-    match machine_of(alloc, &node.name, &circuit) {
-        Ok(machine) => Ok(machine),
-        Err(err) => Err(refused(node, err)),
-    }
+    let made = abstraction(alloc, program, node)?;
+    Ok(made.machine)
 }

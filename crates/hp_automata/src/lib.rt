@@ -24,6 +24,13 @@ use std::alloc::{AllocError, Global};
 pub fn lower(alloc: Global, program: Program) -> Result<Program, AllocError>
     ensures { IfOk result (λ lowered. lowered ≡ lowered_program program) }
 {
+    lowered(alloc, &program)
+}
+
+/// The program without automata, made of a program that stays.
+pub fn lowered(alloc: Global, program: &Program) -> Result<Program, AllocError>
+    ensures { IfOk result (λ lowered. lowered ≡ lowered_program program.now) }
+{
     let enums = find_enumerations(alloc, &program.items)?;
     let items = lower_items(alloc, &enums, &program.items)?;
     Ok(Program { items })

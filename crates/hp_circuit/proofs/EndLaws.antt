@@ -26,6 +26,8 @@ use Rattle.hp_circuit.specs.Kinds.{place_of}
 use Rattle.hp_circuit.specs.Finishing.{IsFinished}
 use Rattle.hp_circuit.proofs.KindLaws.{placed_within}
 use Rattle.hp_circuit.specs.Reading.{edges_of, AreSteered}
+use Rattle.hp_circuit.specs.Giving.{gate_of, IsGateOf}
+use Rattle.hp_circuit.specs.Telling.{IsWiredMachine}
 use Rattle.hp_circuit.specs.Machines.{AssumesControl, HasCircle, IsMachineOf, joined, role_next, slot_next, role_valid, all_valid, IsMeant}
 use Rattle.hp_circuit.proofs.NumberLaws.{tests, true_le, false_le, length_bits, number_of_bits, width_fits}
 use Rattle.hp_circuit.proofs.ComparedLaws.{below_power, below_is}
@@ -167,7 +169,7 @@ module _ (c : Circuit) (places starts : List ℕ) (old new : List Gate) (wired :
   abbrev numbers : Bits → ℕ → ℕ
   numbers v = start_number c.shapes.items old starts v
 
-  truth_at : (v : Bits) (w : ℕ) → Carries c.shapes.items w Truth → at new v (place_at starts w) ≡ holds (numbers v w)
+  pub truth_at : (v : Bits) (w : ℕ) → Carries c.shapes.items w Truth → at new v (place_at starts w) ≡ holds (numbers v w)
   truth_at v w carried =
       let e = is.shapes in
       let m = wired.many in
@@ -237,7 +239,7 @@ wired_of c places starts made gates is stands many each =
 -- ---- the machine
 
 module _ (name : List ℕ) (c : Circuit) (is : IsCircuit c) (steered : List Bool) (are_steered : AreSteered c.slots.items (edges_of c.wires.items c.reads.items) steered) (free : AssumesControl c → ⊥) (acyclic : HasCircle c → ⊥) (places : List ℕ) (counts : Counts) (gates : List Gate) (nexts : List ℕ) (valid hyp duty : ℕ) where
-  finished_is : (m : Machine) → IsFinished name c counts gates nexts valid hyp duty m → AreCounts c.slots.items steered counts
+  abbrev finished_is : (m : Machine) → IsFinished name c counts gates nexts valid hyp duty m → AreCounts c.slots.items steered counts
       → ((i : ℕ) → i < length c.slots.items → place_at places i ≡ place_of steered c.slots.items i) → ((v : Bits) → IsMeant c places gates nexts valid hyp duty v) → IsMachineOf name c m
   finished_is m f are placed meant = record {
     named = f.named;
@@ -267,10 +269,15 @@ module _ (name : List ℕ) (c : Circuit) (is : IsCircuit c) (steered : List Bool
         (subst (λ k. IsMeant c places gates nexts valid hyp k v) (sym f.duty) (meant v)))));
   }
 
-  pub machine_is : (result : Result Machine AllocError) → IfOk result (IsFinished name c counts gates nexts valid hyp duty) → AreCounts c.slots.items steered counts
-      → ((i : ℕ) → i < length c.slots.items → place_at places i ≡ place_of steered c.slots.items i) → ((v : Bits) → IsMeant c places gates nexts valid hyp duty v) → IfOk result (IsMachineOf name c)
-  machine_is (Ok m) f are placed meant = finished_is m f are placed meant
-  machine_is (Err e) f are placed meant = tt
+  pub machine_is : (starts : List ℕ) (result : Result Machine AllocError) → IfOk result (IsFinished name c counts gates nexts valid hyp duty) → AreCounts c.slots.items steered counts
+      → ((i : ℕ) → i < length c.slots.items → place_at places i ≡ place_of steered c.slots.items i) → ((v : Bits) → IsMeant c places gates nexts valid hyp duty v)
+      → ((w : ℕ) → IsGateOf c places gates w (gate_of c.shapes.items starts w)) → IfOk result (IsWiredMachine name c steered starts)
+  machine_is starts (Ok m) f are placed meant tells = record {
+    machine = finished_is m f are placed meant;
+    are_steered = refl;
+    tells = λ w. subst (λ (g : List Gate). IsGateOf c places g w (gate_of c.shapes.items starts w)) (sym f.gates_are) (tells w);
+  }
+  machine_is starts (Err e) f are placed meant tells = tt
 
 pub placed_all : (steered : List Bool) (slots : List Slot) (wires : List Wire) (shapes : List Shape) (counts : Counts) (places : List ℕ) → AreCounts slots steered counts → length places ≡ length slots
     → ((i : ℕ) → i < length slots → place_at places i ≡ place_of steered slots i) → ArePlaced slots wires shapes places

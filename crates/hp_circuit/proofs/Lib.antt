@@ -8,5 +8,6 @@ pub mod ReadingLaws
 pub mod SteeredLaws
 pub mod OrderLaws
 pub mod EndLaws
+pub mod TellingLaws
 pub mod PartLaws
 pub mod PlacedLemmas

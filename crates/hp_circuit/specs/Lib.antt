@@ -10,4 +10,6 @@ pub mod Ordering
 pub mod Placing
 pub mod Machines
 pub mod Finishing
+pub mod Giving
+pub mod Telling
 pub mod Placed

@@ -16,7 +16,7 @@ use hp_boolx::Counts;
 use std::alloc::{AllocError, Global};
 
 /// The kind of a slot.
-fn kind_of(slot: Slot, steered: &[bool]) -> Kind
+pub fn kind_of(slot: Slot, steered: &[bool]) -> Kind
     requires { slot.wire < length steered.now }
     ensures { result ≡ kind_of steered.now slot }
 {

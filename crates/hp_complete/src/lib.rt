@@ -31,6 +31,7 @@ pub use error::FlattenErr;
 use hp_flat::FlatNode;
 use hp_tree::{Item, Program};
 use node::flatten_node;
+pub use order::order_eqns;
 use std::alloc::{AllocError, Global};
 
 /// The nodes of a program as clocked equations, in order. An automaton gives no equations, since it is to be replaced before, and a name

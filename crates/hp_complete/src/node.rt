@@ -16,7 +16,7 @@ use crate::declared::Declared;
 use crate::draft::Draft;
 use crate::error::FlattenErr;
 use crate::layer::Entry;
-use crate::order::order;
+use crate::order::order_eqns;
 use hp_base::Name;
 use hp_flat::FlatNode;
 use hp_tree::{Decl, Node, controls_of};
@@ -88,7 +88,7 @@ impl<'d, 'a> Draft<'d, 'a> {
         ensures ranked { OnOk result (IsRanked (sketch_of self.new).eqns) }
         ensures circular { All (EqnWithin (next (sketch_of self.old))) (sketch_of self.old).eqns → IfErr result (SaysTrue (IsCircular (sketch_of self.old).eqns)) }
     {
-        match order(self.alloc, self.variables.len(), &mut self.eqns) {
+        match order_eqns(self.alloc, self.variables.len(), &mut self.eqns) {
             Ok(()) => Ok(()),
             Err(error) => Err(error),
         }

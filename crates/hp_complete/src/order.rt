@@ -157,7 +157,7 @@ fn place_one(eqn: &mut FlatEqn, place: usize)
 }
 
 /// Gives the equations of so many variables their places: those that an equation reads stand before it.
-pub fn order(alloc: Global, variables: usize, eqns: &mut [FlatEqn]) -> Result<(), FlattenErr>
+pub fn order_eqns(alloc: Global, variables: usize, eqns: &mut [FlatEqn]) -> Result<(), FlattenErr>
     ensures same { OnOk result (map unplaced eqns.new ≡ map unplaced eqns.old) }
     ensures ranked { OnOk result (IsRanked eqns.new) }
     ensures circular { All (EqnWithin variables) eqns.old → IfErr result (SaysTrue (IsCircular eqns.old)) }

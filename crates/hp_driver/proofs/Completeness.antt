@@ -27,7 +27,7 @@ use Rattle.hp_driver.specs.Systems.{System, of_machine, inputs_of}
 use Rattle.hp_driver.specs.Values.{first_bad}
 use Rattle.hp_driver.specs.declared.trace_limits.BadLine.{BadLine}
 use Rattle.hp_driver.proofs.GoodLines.{good_so_far}
-use Rattle.hp_driver.proofs.WordLaws.{run_exec, same_words, exec_source, exec_contract, over_machines}
+use Rattle.hp_driver.proofs.WordLaws.{run_exec, same_words, exec_source, exec_contract, tell_exec, choosing_source, running_choosing, sweep_exec}
 
 -- ---- texts
 
@@ -84,11 +84,14 @@ module _ (words : List (List ℕ)) (held : Files) (file node : List ℕ) (o : Ob
 
   system : (s : System) → IsAskedFor words (Some held) s → s ≡ of_machine o node
   system s (IsAskedFor.a_node {file = x} {node = y} r compiled found) = absurd (run_exec words x y file node r w)
+  system s (IsAskedFor.a_chosen_node {file = x} {node = y} n r chosen some named found is) = absurd (run_exec words x y file node r w)
+  system s (IsAskedFor.a_contract {file = x} {node = y} n r chosen named some found is) = absurd (tell_exec words x y file node r w)
+  system s (IsAskedFor.no_contract {file = x} {node = y} n r chosen named none found is) = absurd (tell_exec words x y file node r w)
   system s (IsAskedFor.a_machine {file = x} {node = y} {o = p} v others found) = λ i. of_machine (same_obc x y p v others i) ((same_words (codes "exec") words file node x y w v).1 i)
 
   pub completes : (log : List Event) (line : List ℕ) (status : ℕ) (more : List ℕ) → Outcome words (Some held) log line status → (has_ended log ≡ true → more ≡ []) →
       first_bad (inputs_of (of_machine o node)) 1 (lines_of true (heard log ++ more)) ≡ None → (status ≡ 4 → ⊥) → (status ≡ 5 → ⊥) → (status ≡ 0) ⊎ (status ≡ 6)
-  completes log line status more (Outcome.usage h) ended good f g = absurd (h file (IsOver.machines w))
+  completes log line status more (Outcome.usage h) ended good f g = absurd (h.0 file (IsOver.machines w))
   completes log line status more (Outcome.unread h) ended good f g = absurd (f refl)
   completes log line status more Outcome.no_memory ended good f g = inr refl
   completes log line status more (Outcome.too_long {file = x} (ReadsSource.of_program over) long) ended good f g = absurd (exec_source words file node x w over)
@@ -96,7 +99,10 @@ module _ (words : List (List ℕ)) (held : Files) (file node : List ℕ) (o : Ob
   completes log line status more (Outcome.refused {file = x} text cause (ReadsSource.of_program over) gives causes none) ended good f g = absurd (exec_source words file node x w over)
   completes log line status more (Outcome.refused {file = x} text cause (ReadsSource.of_contract {node = y} k) gives causes none) ended good f g = absurd (exec_contract words file node x y w k)
   completes log line status more (Outcome.contract_refused {file = x} cause over source some differs refuses) ended good f g = absurd (exec_source words file node x w over)
-  completes log line status more (Outcome.controls_not_built {file = x} makes source some kept) ended good f g = absurd (exec_source words file node x w (over_machines words x makes))
+  completes log line status more (Outcome.not_built {file = x} {program = p} asks source kept) ended good f g = absurd (exec_source words file node x w (choosing_source words x p asks))
+  completes log line status more (Outcome.no_node_to_run {file = x} {name = y} {program = p} asks source kept none) ended good f g = absurd (exec_source words file node x w (choosing_source words x p (running_choosing words x y p asks)))
+  completes log line status more (Outcome.chosen_too_large {file = x} {node = y} {name = z} limit chosen asks for passed) ended good f g =
+      absurd (exec_source words file node x w (choosing_source words x chosen.program (running_choosing words x y chosen.program asks)))
   completes log line status more (Outcome.accepted print c source kept) ended good f g = inl refl
   completes log line status more (Outcome.accepted_in_part print out rest c source kept e) ended good f g = absurd (g refl)
   completes log line status more (Outcome.no_node {file = x} {name = y} k source none) ended good f g = absurd (exec_contract words file node x y w k)
@@ -127,6 +133,11 @@ module _ (words : List (List ℕ)) (held : Files) (file node : List ℕ) (o : Ob
   completes log line status more (Outcome.too_large {file = x} {node = y} {o = p} limit v others passed) ended good f g = absurd (not_passed x y p limit v others passed)
   completes log line status more (Outcome.compiled c compiled) ended good f g = inl refl
   completes log line status more (Outcome.not_written c compiled) ended good f g = absurd (g refl)
+  completes log line status more (Outcome.chosen_compiled c chosen some) ended good f g = inl refl
+  completes log line status more (Outcome.chosen_not_written c chosen some) ended good f g = absurd (g refl)
+  completes log line status more (Outcome.swept {tasks = t} {instants = i} text s is) ended good f g = inl refl
+  completes log line status more (Outcome.swept_in_part {tasks = t} {instants = i} text out rest s is e) ended good f g = absurd (g refl)
+  completes log line status more (Outcome.not_swept {tasks = t} {instants = i} s) ended good f g = absurd (sweep_exec words t i s file node w)
   completes log line status more (Outcome.done asked step has_end answer good_lines) ended good f g = inl refl
   completes log line status more (Outcome.bad_line {s = s} bad_line asked step answer e) ended good f g =
       absurd (no_bad_line (inputs_of (of_machine o node)) (has_ended log) (heard log) more bad_line ended good (ap (λ z. first_bad (inputs_of z) 1 (lines_of (has_ended log) (heard log))) (sym (system s asked)) ∙ e))

@@ -29,7 +29,7 @@ use Rattle.hp_driver.specs.Systems.{System}
 use Rattle.hp_driver.proofs.Completeness.{same_text}
 use Rattle.hp_driver.proofs.GoodContracts.{has_verdict}
 use Rattle.hp_driver.proofs.SourceCalls.{same_arranged, not_long, has_program}
-use Rattle.hp_driver.proofs.WordLaws.{exec_contract, source_contract, over_machines, prove_contract, verify_contract, prove_verify, same_four}
+use Rattle.hp_driver.proofs.WordLaws.{exec_contract, source_contract, prove_contract, verify_contract, prove_verify, same_four, choosing_source, running_choosing, sweep_contract}
 
 same_some : (n m : Node) → Some n ≡ Some m → n ≡ m
 same_some n m e = cc
@@ -86,7 +86,7 @@ module _ (words : List (List ℕ)) (held : Files) (file name text : List ℕ) (p
         ((x y z : List ℕ) → IsVerifyOf words x y z → HasContract (Some held) x y → GivesMoreThan (Some held) z (most Text) → ⊥) →
         ((x y z other : List ℕ) (cause : CertErr) → IsVerifyOf words x y z → (c : HasContract (Some held) x y) → Gives (Some held) z other → cause ≢ certificate.OutOfMemory → RefusesCert c.held.clocked c.node other cause → ⊥) →
         Outcome words (Some held) log line status → (status ≡ 4 → ⊥) → (status ≡ 5 → ⊥) → (status ≡ 0) ⊎ (status ≡ 6)
-    decides log line status short within shown (Outcome.usage h) f g = absurd (h file (IsOver.a_source (ReadsSource.of_contract over)))
+    decides log line status short within shown (Outcome.usage h) f g = absurd (h.0 file (IsOver.a_source (ReadsSource.of_contract over)))
     decides log line status short within shown (Outcome.unread h) f g = absurd (f refl)
     decides log line status short within shown Outcome.no_memory f g = inr refl
     decides log line status short within shown (Outcome.too_long {file = x} (ReadsSource.of_program reads) long) f g = absurd (source_contract words x file name reads over)
@@ -95,7 +95,10 @@ module _ (words : List (List ℕ)) (held : Files) (file name text : List ℕ) (p
     decides log line status short within shown (Outcome.refused {file = x} other cause (ReadsSource.of_contract {node = y} k) gives causes none) f g =
         absurd (has_program held file text program holds judged x other (only x y k).0 gives arrangeable none)
     decides log line status short within shown (Outcome.contract_refused {file = x} cause reads source some differs refuses) f g = absurd (source_contract words x file name reads over)
-    decides log line status short within shown (Outcome.controls_not_built {file = x} makes source some kept) f g = absurd (source_contract words x file name (over_machines words x makes) over)
+    decides log line status short within shown (Outcome.not_built {file = x} {program = p} asks source kept) f g = absurd (source_contract words x file name (choosing_source words x p asks) over)
+    decides log line status short within shown (Outcome.no_node_to_run {file = x} {name = y} {program = p} asks source kept none) f g = absurd (source_contract words x file name (choosing_source words x p (running_choosing words x y p asks)) over)
+    decides log line status short within shown (Outcome.chosen_too_large {file = x} {node = y} {name = z} limit chosen asks for passed) f g =
+        absurd (source_contract words x file name (choosing_source words x chosen.program (running_choosing words x y chosen.program asks)) over)
     decides log line status short within shown (Outcome.accepted print c source kept) f g = inl refl
     decides log line status short within shown (Outcome.accepted_in_part print out rest c source kept e) f g = absurd (g refl)
     decides log line status short within shown (Outcome.no_node {file = x} {name = y} {program = p} k source none) f g = absurd (node_there x y p k source none)
@@ -116,6 +119,11 @@ module _ (words : List (List ℕ)) (held : Files) (file name text : List ℕ) (p
     decides log line status short within shown (Outcome.too_large {file = x} {node = y} limit v others passed) f g = absurd (exec_contract words x y file name v over)
     decides log line status short within shown (Outcome.compiled c compiled) f g = inl refl
     decides log line status short within shown (Outcome.not_written c compiled) f g = absurd (g refl)
+    decides log line status short within shown (Outcome.chosen_compiled c chosen some) f g = inl refl
+    decides log line status short within shown (Outcome.chosen_not_written c chosen some) f g = absurd (g refl)
+    decides log line status short within shown (Outcome.swept {tasks = t} {instants = i} other s is) f g = inl refl
+    decides log line status short within shown (Outcome.swept_in_part {tasks = t} {instants = i} other out rest s is e) f g = absurd (g refl)
+    decides log line status short within shown (Outcome.not_swept {tasks = t} {instants = i} s) f g = absurd (sweep_contract words t i s file name over)
     decides log line status short within shown (Outcome.done asked step has_end answer good_lines) f g = inl refl
     decides log line status short within shown (Outcome.bad_line {s = s} bad_line asked step answer e) f g = absurd (not_system s asked)
     decides log line status short within shown (Outcome.take_failed asked step answer good_lines) f g = absurd (f refl)

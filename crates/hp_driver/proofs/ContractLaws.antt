@@ -19,14 +19,14 @@ use Rattle.hp_verdicts.specs.Decided.{own_contract, has_contract, AreKept, Refus
 use Rattle.hp_verdicts.specs.declared.error.ContractErr.{ContractErr}
 use Rattle.hp_verdicts.specs.declared.error.ContractErr.TheVariants as contract
 use Rattle.hp_driver.specs.Controls.{some_variable, has_controls}
-use Rattle.hp_driver.specs.Command.{MakesMachines, not_built_line, accepted_text}
+use Rattle.hp_driver.specs.Command.{accepted_text}
 use Rattle.hp_driver.specs.Diagnostics.{contract_line}
-use Rattle.hp_driver.specs.Follows.{DecidedOutcome, OrderedRun, OrderedCompile, Accepts}
-use Rattle.hp_driver.specs.Leaving.{DecidedLeaves, OrderedLeaves}
+use Rattle.hp_driver.specs.Follows.{DecidedOutcome, OrderedRun, OrderedCompile, ChoosingRun, ChoosingTell, ChoosingCompile, Accepts}
+use Rattle.hp_driver.specs.Leaving.{DecidedLeaves, OrderedLeaves, ChoosingLeaves}
 use Rattle.hp_driver.specs.Outcome.{Outcome, IsHeld}
 use Rattle.hp_driver.specs.Ran.{ReportsOrNot}
 use Rattle.hp_driver.specs.declared.words.Task.{Task}
-use Rattle.hp_driver.specs.declared.words.Task.TheVariants.{Run, Check, Compile}
+use Rattle.hp_driver.specs.declared.words.Task.TheVariants.{Run, Tell, Check, Compile}
 use Rattle.hp_driver.proofs.GameLaws.{are_said}
 use Rattle.hp_driver.proofs.HistoryLaws.{none_or}
 use Rattle.hp_driver.proofs.OutcomeLaws.{over_source, told_or_not}
@@ -122,13 +122,20 @@ module _ (law : OutcomesLaw) (program ordered : List Item) (kept : AreKept order
   accepted_of print out status (Accepts.said_in_part said rest e) words files file held same w = Outcome.accepted_in_part print out rest w held (in_games files file held same) e
   accepted_of print out status Accepts.no_memory words files file held same w = Outcome.no_memory
 
+  -- it is asked what a contract assumes and enforces
+  pub choosing_tell : (node : Bor (List ℕ)) (log : List Event) (line : List ℕ) (status : ℕ) → ChoosingTell node.now ordered log line status → DecidedOutcome (Tell node) program ordered log line status
+  choosing_tell node log line status f words files file held same w = f words files file program held same (in_games files file held same) w
+
   -- it has controllable variables, and is to be run, or its machines are to be written
   module _ (some : has_controls program ≡ true) where
-    pub run_not_yet : (node : Bor (List ℕ)) → DecidedOutcome (Run node) program ordered [] not_built_line 1
-    run_not_yet node words files file held same w = Outcome.controls_not_built (MakesMachines.to_run w) held some (in_games files file held same)
+    pub choosing_run : (node : Bor (List ℕ)) (log : List Event) (line : List ℕ) (status : ℕ) → ChoosingRun node.now ordered log line status → DecidedOutcome (Run node) program ordered log line status
+    choosing_run node log line status f words files file held same w = f words files file program held same some (in_games files file held same) w
 
-    pub compile_not_yet : (out : Bor (List ℕ)) → DecidedOutcome (Compile out) program ordered [] not_built_line 1
-    compile_not_yet out words files file held same w = Outcome.controls_not_built (MakesMachines.to_compile w) held some (in_games files file held same)
+    pub choosing_compile : (out : Bor (List ℕ)) (line : List ℕ) (status : ℕ) → ChoosingCompile out.now ordered line status → DecidedOutcome (Compile out) program ordered [] line status
+    choosing_compile out line status f words files file held same w = f words files file program held same some (in_games files file held same) w
+
+    pub choosing_leaves : (out : List ℕ) (before after : Option Files) (status : ℕ) → ChoosingLeaves out ordered before after status → DecidedLeaves out program ordered before after status
+    choosing_leaves out before after status f words file held same w = f words file program held same some (in_games before file held same) w
 
   -- it has none
   module _ (none : has_controls program ≡ false) where

@@ -25,7 +25,10 @@ use Rattle.hp_exec.specs.Executors.{Executor, Runs, IsKinded, answered, stepped,
 use Rattle.hp_exec.specs.Signatures.{kind_in_file, ports_by}
 use Rattle.hp_driver.specs.Answers.{IsAnswer}
 use Rattle.hp_driver.specs.Executing.{executing, step_of, HasBehaviour}
-use Rattle.hp_driver.specs.Systems.{of_machine, inputs_of, outputs_of}
+use Rattle.hp_driver.specs.Systems.{of_machine, that_tells, inputs_of, outputs_of}
+use Rattle.hp_driver.specs.Teller.{Teller, teller, telling, told_of}
+use Rattle.hp_driver.specs.Telling.{told_line}
+use Rattle.hp_driver.specs.declared.telling.Ending.{Ending}
 use Rattle.hp_driver.specs.Trace.{said_to, refused_in}
 use Rattle.hp_driver.specs.Reader.{reader, reacts, stepped as read_and_step}
 use Rattle.hp_driver.specs.Values.{reading, inputs_until, first_bad}
@@ -88,6 +91,25 @@ module _ (s : SignatureData) where
   stays : (e : Executor) (values : List Value) → AreOfKinds (kinds_of s.inputs) values → e.signature ≡ s → (step_of e values).1.signature ≡ s
   stays e values fit h = h
 
+-- the same, where behind the outputs it is told what a contract assumes and enforces
+module _ (ending : Ending) where
+  told_reactions : (b : Behaviour) (e : Executor) (inputs : List (List Value)) → Runs e b → AllOfKinds (kinds_of e.signature.inputs) inputs →
+      reacts told_of (teller e ending) inputs ≡ flat_map (told_line ending (kinds_of e.signature.outputs)) (outputs_from b (kept e) inputs)
+  told_reactions b e [] h fit = refl
+  told_reactions b e (values ∷ more) h fit =
+      let says = told_line ending (kinds_of e.signature.outputs) in
+      let long : length values ≡ length e.signature.inputs = as_many_values (kinds_of e.signature.inputs) values fit.0 ∙ count_kinds e.signature.inputs in
+      ap (λ rest. says (answered e values) ++ rest) (told_reactions b (stepped e values) more (runs_on b e values h long) fit.1)
+      ∙ (λ i. says (outputs_on b e values h long i) ++ flat_map says (outputs_from b (kept_on b e values h long i) more))
+
+  module _ (s : SignatureData) where
+    told_reads : (t : Teller) (line : List ℕ) → (t.executor.signature ≡ s) × (t.ending ≡ ending) → telling t line ≡ reader (kinds_of s.inputs) told_of t line
+    told_reads t line h = ap (λ (z : SignatureData). reader (kinds_of z.inputs) told_of t line) h.0
+
+    told_stays : (t : Teller) (values : List Value) → AreOfKinds (kinds_of s.inputs) values → (t.executor.signature ≡ s) × (t.ending ≡ ending)
+        → ((told_of t values).1.executor.signature ≡ s) × ((told_of t values).1.ending ≡ ending)
+    told_stays t values fit h = h
+
 -- ---- the machine of a name
 
 kinds-found : (types : List ObcType) (vars : List Var) → kinds_of (ports_by (kind_in_file types) vars) ≡ kinds_in types vars
@@ -121,6 +143,24 @@ module _ (o : Obc) (node : List ℕ) (e : Executor) (h : Executes o node e) wher
   machine_refuses lines =
       refuses_first executing (kinds_of e.signature.inputs) step_of (λ d. d.signature ≡ e.signature) (reads e.signature) (stays e.signature) 1 lines e refl
       ∙ ap (λ kinds. first_bad kinds 1 lines) ins_are
+
+  module _ (ending : Ending) where
+    pub teller_says : (lines : List (List ℕ)) → IsAnswer (that_tells ending o node) lines (said_to telling (teller e ending) 1 lines)
+    teller_says lines =
+        let b = machine_behaviour o node in
+        let ins = kinds_of e.signature.inputs in
+        record {
+          outputs = run b (inputs_until (inputs_of (of_machine o node)) 1 lines);
+          run = refl;
+          said = says_inputs telling ins told_of (λ d. (d.executor.signature ≡ e.signature) × (d.ending ≡ ending)) (told_reads ending e.signature) (told_stays ending e.signature) 1 lines (teller e ending) (refl, refl)
+              ∙ told_reactions ending b e (inputs_until ins 1 lines) h.runs (all_of_kinds ins 1 lines)
+              ∙ (λ i. flat_map (told_line ending (outs_are i)) (outputs_from b (h.fresh i) (inputs_until (ins_are i) 1 lines)));
+        }
+
+    pub teller_refuses : (lines : List (List ℕ)) → refused_in telling (teller e ending) 1 lines ≡ first_bad (inputs_of (that_tells ending o node)) 1 lines
+    teller_refuses lines =
+        refuses_first telling (kinds_of e.signature.inputs) told_of (λ d. (d.executor.signature ≡ e.signature) × (d.ending ≡ ending)) (told_reads ending e.signature) (told_stays ending e.signature) 1 lines (teller e ending) (refl, refl)
+        ∙ ap (λ kinds. first_bad kinds 1 lines) ins_are
 
 -- ---- enumerations are small
 

@@ -1,4 +1,5 @@
 pub mod CallLaws
+pub mod ChoosingLaws
 pub mod WordLaws
 pub mod LineLaws
 pub mod TraceLaws

@@ -28,7 +28,7 @@ use Rattle.law_history.specs.Streams.Texts.{TextLaw, BuiltLaw, WithinLaw}
 use Rattle.law_decided.specs.Promised.{RunLaw}
 use Rattle.law_decided.specs.Outcomes.{AreKeptInGames}
 use Rattle.hp_driver.specs.Controls.{has_controls}
-use Rattle.hp_driver.specs.Command.{IsRunOf, IsExecOf, IsCheckOf, IsProveOf, IsVerifyOf, IsOverSource, IsOverContract, ReadsSource, IsOver, Writes, IsNoCommand, not_built_line, no_node_line}
+use Rattle.hp_driver.specs.Command.{IsRunOf, IsExecOf, IsCheckOf, IsProveOf, IsVerifyOf, IsOverSource, IsOverContract, ReadsSource, IsOver, Writes, not_built_line, no_node_line, IsNoFileCommand, IsTellOf, IsSweepOf}
 use Rattle.hp_driver.specs.Commanded.{SpellsTask}
 use Rattle.hp_driver.specs.Diagnostics.{no_text_line, no_form_line, limit_line, executor_line}
 use Rattle.hp_driver.specs.Executing.{executing}
@@ -39,11 +39,11 @@ use Rattle.hp_driver.specs.Outcome.{Outcome, Gives, GivesMoreThan, IsHeld, AreCo
 use Rattle.hp_driver.specs.Ran.{Ran, Reports, ReportsOrNot}
 use Rattle.hp_driver.specs.Systems.{of_node, of_machine}
 use Rattle.hp_driver.specs.declared.words.Task.{Task}
-use Rattle.hp_driver.specs.declared.words.Task.TheVariants.{Run, Check, Compile}
+use Rattle.hp_driver.specs.declared.words.Task.TheVariants.{Run, Tell, Check, Compile}
 use Rattle.hp_compile.specs.declared.refusal.Place.TheVariants.{Whole}
 use Rattle.hp_driver.proofs.ExecutionLaws.{machine_says, machine_refuses}
 use Rattle.hp_driver.proofs.OutcomeLaws.{told_or_not, Mirrors, outcome}
-use Rattle.hp_driver.proofs.WordLaws.{run_writes, exec_writes, check_writes, verify_writes}
+use Rattle.hp_driver.proofs.WordLaws.{run_writes, exec_writes, check_writes, verify_writes, tell_writes, sweep_writes}
 use Rattle.hp_driver.proofs.HistoryLaws.{keeping, runs_node, is_built, stays_within, node_mirrors}
 
 -- the types of a text of machines have form
@@ -104,10 +104,10 @@ too_large law node limit o h words files (AreAskedFor.of_program {file} w compil
 
 -- ---- the machine is run
 
-machine_of : (node : List ℕ) (o : Obc) (e : Executor) → Executes o node e → IsMachine node o
+pub machine_of : (node : List ℕ) (o : Obc) (e : Executor) → Executes o node e → IsMachine node o
 machine_of node o e h = record { machine = h.machine; named = h.named; chain = h.chain; count = h.count }
 
-machine_mirrors : (node : List ℕ) (o : Obc) (e : Executor) → Executes o node e → Mirrors executing e (of_machine o node)
+pub machine_mirrors : (node : List ℕ) (o : Obc) (e : Executor) → Executes o node e → Mirrors executing e (of_machine o node)
 machine_mirrors node o e h = record { says = machine_says o node e h; refuses = machine_refuses o node e h }
 
 pub machine_ran : TextLaw → RunLaw → (node : List ℕ) (o : Obc) (e : Executor) (log : List Event) (line : List ℕ) (status : ℕ) → Executes o node e → Ran executing e log line status → MachinesOutcome o node log line status
@@ -187,6 +187,12 @@ nothing_written words files status h = Leaves.as_they_were refl (λ out w. h)
 pub run_leaves : (words : List (List ℕ)) (file node : List ℕ) (files : Option Files) (status : ℕ) → IsRunOf words file node → Leaves words files files status
 run_leaves words file node files status w = Leaves.as_they_were refl (λ y v. absurd (run_writes words file y node w v))
 
+pub tell_leaves : (words : List (List ℕ)) (file node : List ℕ) (files : Option Files) (status : ℕ) → IsTellOf words file node → Leaves words files files status
+tell_leaves words file node files status w = Leaves.as_they_were refl (λ y v. absurd (tell_writes words file y node w v))
+
+pub sweep_leaves : (words : List (List ℕ)) (tasks instants : ℕ) (files : Option Files) (status : ℕ) → IsSweepOf words tasks instants → Leaves words files files status
+sweep_leaves words tasks instants files status w = Leaves.as_they_were refl (λ y v. absurd (sweep_writes words tasks instants w y v))
+
 pub exec_leaves : (words : List (List ℕ)) (file node : List ℕ) (files : Option Files) (status : ℕ) → IsExecOf words file node → Leaves words files files status
 exec_leaves words file node files status w = Leaves.as_they_were refl (λ y v. absurd (exec_writes words file y node w v))
 
@@ -196,7 +202,7 @@ check_leaves words file print files status w = Leaves.as_they_were refl (λ y v.
 pub verify_leaves : (words : List (List ℕ)) (file node cert : List ℕ) (before after : Option Files) (status : ℕ) → after ≡ before → IsVerifyOf words file node cert → Leaves words before after status
 verify_leaves words file node cert before after status same w = Leaves.as_they_were same (λ y v. absurd (verify_writes words file y node cert w v))
 
-pub no_command_leaves : (words : List (List ℕ)) (files : Option Files) (status : ℕ) → IsNoCommand words → Leaves words files files status
+pub no_command_leaves : (words : List (List ℕ)) (files : Option Files) (status : ℕ) → IsNoFileCommand words → Leaves words files files status
 no_command_leaves words files status h = Leaves.as_they_were refl by
   where
     by : (out : List ℕ) → Writes words out → status ≢ 0
@@ -206,6 +212,7 @@ no_command_leaves words files status h = Leaves.as_they_were refl by
 -- where a write failed, of the task
 pub write_rose : (words : List (List ℕ)) (file : List ℕ) (task : Task) (before after : List ℕ → Faults) → SpellsTask words file task → RoseInWrite task before after → WriteRose words before after
 write_rose words file (Run node) before after w h = absurd h
+write_rose words file (Tell node) before after w h = absurd h
 write_rose words file (Check print) before after w h = absurd h
 write_rose words file (Compile out) before after w h = record { out = out.now; asked = Writes.machines w; rose = h }
 

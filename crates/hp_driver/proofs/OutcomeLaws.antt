@@ -14,7 +14,7 @@ use Rattle.hp_compile.specs.declared.refusal.Refusal.{Refusal}
 use Rattle.hp_base.specs.Limits.{most}
 use Rattle.hp_driver.specs.Answers.{IsAnswer}
 use Rattle.hp_driver.specs.Systems.{System, inputs_of}
-use Rattle.hp_driver.specs.Command.{IsExecOf, IsOverSource, IsOverContract, ReadsSource, ReadsFirst, IsOver, IsNoSourceCommand, IsNoCertCommand, IsNoCommand}
+use Rattle.hp_driver.specs.Command.{IsExecOf, IsOverSource, IsOverContract, ReadsSource, ReadsFirst, IsOver, IsNoSourceCommand, IsNoCertCommand, IsNoFileCommand}
 use Rattle.hp_driver.specs.Commanded.{SpellsTask, Spells, file_of, limit_of}
 use Rattle.hp_driver.specs.Course.{InStep}
 use Rattle.hp_driver.specs.Diagnostics.{refusal_line, too_long_line}
@@ -29,7 +29,7 @@ use Rattle.hp_driver.specs.Values.{first_bad}
 use Rattle.hp_driver.specs.declared.words.Command.{Command}
 use Rattle.hp_driver.specs.declared.words.Command.TheVariants.{Source, Exec, Prove, Verify}
 use Rattle.hp_driver.specs.declared.words.Task.{Task}
-use Rattle.hp_driver.specs.declared.words.Task.TheVariants.{Run, Check, Compile}
+use Rattle.hp_driver.specs.declared.words.Task.TheVariants.{Run, Tell, Check, Compile}
 use Rattle.hp_driver.specs.declared.trace_limits.BadLine.{BadLine}
 use Rattle.hp_driver.proofs.RanLaws.{around}
 use Rattle.hp_tree.specs.declared.program.Item.{Item}
@@ -87,7 +87,7 @@ module _ {S : Type 0} (machine : Machine S) (start : S) (s : System) (m : Mirror
 -- ---- the words
 
 -- they are of no form where they are of no command over a program or a certificate, and not those of `exec`
-pub no_command : (words : List (List ℕ)) → ((file node : List ℕ) → IsExecOf words file node → ⊥) → IsNoCertCommand words → IsNoSourceCommand words → IsNoCommand words
+pub no_command : (words : List (List ℕ)) → ((file node : List ℕ) → IsExecOf words file node → ⊥) → IsNoCertCommand words → IsNoSourceCommand words → IsNoFileCommand words
 no_command words f k g file (IsOver.a_source (ReadsSource.of_program s)) = g file s
 no_command words f k g file (IsOver.a_source (ReadsSource.of_contract {node = y} w)) = k file y w
 no_command words f k g file (IsOver.machines {node} w) = f file node w
@@ -97,6 +97,7 @@ no_command words f k g file (IsOver.a_certificate {source = x} {node = y} w) = k
 
 pub over_source : (words : List (List ℕ)) (file : List ℕ) (task : Task) → SpellsTask words file task → IsOverSource words file
 over_source words file (Run node) w = IsOverSource.to_run w
+over_source words file (Tell node) w = IsOverSource.to_tell w
 over_source words file (Check print) w = IsOverSource.to_check print w
 over_source words file (Compile out) w = IsOverSource.to_compile w
 

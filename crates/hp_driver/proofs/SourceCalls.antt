@@ -27,19 +27,19 @@ use Rattle.hp_machines.specs.Machined.{Heading, heading_of_machine, heading_of_n
 use Rattle.law_decided.specs.Outcomes.{RefusesInGames}
 use Rattle.hp_verdicts.specs.declared.error.ContractErr.{ContractErr}
 use Rattle.hp_verdicts.specs.declared.error.ContractErr.TheVariants as contract
-use Rattle.hp_driver.specs.Command.{IsRunOf, IsExecOf, IsOverSource, MakesMachines, IsOverContract, ReadsSource, IsOver}
+use Rattle.hp_driver.specs.Command.{IsRunOf, IsTellOf, IsCompileOf, IsExecOf, IsOverSource, IsOverContract, ReadsSource, IsOver}
 use Rattle.hp_driver.specs.GoodCalls.{AreGoodContracts, IsGoodCheck, IsGoodCompile, IsGoodRun}
 use Rattle.hp_driver.specs.Lines.{lines_of}
 use Rattle.hp_driver.specs.Log.{heard, has_ended, HeardFrom}
 use Rattle.hp_driver.specs.NodeKinds.{input_kinds}
 use Rattle.hp_driver.specs.Controls.{has_controls}
-use Rattle.hp_driver.specs.Outcome.{Outcome, Gives, GivesMoreThan, HasNoProgram, IsHeld, AreCompiled, AreAskedFor, IsAskedFor}
+use Rattle.hp_driver.specs.Outcome.{Outcome, Gives, GivesMoreThan, HasNoProgram, IsHeld, AreCompiled, AreAskedFor, IsAskedFor, AsksToChoose}
 use Rattle.hp_driver.specs.Systems.{System, inputs_of}
 use Rattle.hp_driver.specs.Values.{first_bad}
 use Rattle.hp_driver.specs.declared.trace_limits.BadLine.{BadLine}
 use Rattle.hp_driver.proofs.Completeness.{same_text, no_bad_line}
 use Rattle.hp_driver.proofs.GoodContracts.{none_refused}
-use Rattle.hp_driver.proofs.WordLaws.{run_exec, run_compile, exec_compile, check_run, check_exec, check_makes, same_words, check_source, run_source, compile_source, source_contract, over_machines}
+use Rattle.hp_driver.proofs.WordLaws.{run_exec, run_compile, exec_compile, check_run, check_exec, same_words, check_source, run_source, compile_source, source_contract, tell_run, tell_check, tell_compile, check_chooses, running_choosing, sweep_source}
 
 -- ---- a file that holds such a program
 
@@ -70,22 +70,17 @@ module _ (held : Files) (file text : List ℕ) (program : List Item) (holds : Ho
 -- ---- a call over all of its program
 
 module _ (words : List (List ℕ)) (held : Files) (file text : List ℕ) (program : List Item) (only_file : (x : List ℕ) → IsOverSource words x → x ≡ file) (holds : Holds held file text) (judged : IsJudged text program)
-    (arrangeable : IsArrangeable program) (contracts : AreGoodContracts program) (uncontrolled : (x : List ℕ) → MakesMachines words x → has_controls program ≡ false) where
+    (arrangeable : IsArrangeable program) (contracts : AreGoodContracts program) (not_choosing : (x : List ℕ) (p : List Item) → IsHeld (Some held) x p → AsksToChoose words x p → ⊥) where
   no_contract_refused : (x : List ℕ) (p : List Item) (cause : ContractErr) → IsOverSource words x → (h : IsHeld (Some held) x p) → cause ≢ contract.OutOfMemory → RefusesInGames h.clocked cause → ⊥
   no_contract_refused x p cause over h differs refuses =
       none_refused h.clocked (contracts h.clocked h.ranks (same_arranged held file text program holds judged x p (only_file x over) h)) cause refuses differs
-
-  has_no_controls : (x : List ℕ) (p : List Item) → MakesMachines words x → IsHeld (Some held) x p → has_controls p ≡ true → ⊥
-  has_no_controls x p makes h some =
-      let same = same_program held file text program holds judged x p (only_file x (over_machines words x makes)) h in
-      let both : false ≡ true = sym (uncontrolled x makes) ∙ ap has_controls same ∙ some in cc
 
   module _ (over : IsOverSource words file) (not_exec : (x y : List ℕ) → IsExecOf words x y → ⊥) (there : (y : List ℕ) (o : Obc) → AreAskedFor words (Some held) y o → machine_named o.machines y ≡ None → ⊥) where
     -- the call succeeds but for want of memory
     pub succeeds : (log : List Event) (line : List ℕ) (status : ℕ) →
         ((s : System) (bad_line : BadLine) → IsAskedFor words (Some held) s → first_bad (inputs_of s) 1 (lines_of (has_ended log) (heard log)) ≡ Some bad_line → ⊥) →
         Outcome words (Some held) log line status → (status ≡ 4 → ⊥) → (status ≡ 5 → ⊥) → (status ≡ 0) ⊎ (status ≡ 6)
-    succeeds log line status good (Outcome.usage h) f g = absurd (h file (IsOver.a_source (ReadsSource.of_program over)))
+    succeeds log line status good (Outcome.usage h) f g = absurd (h.0 file (IsOver.a_source (ReadsSource.of_program over)))
     succeeds log line status good (Outcome.unread h) f g = absurd (f refl)
     succeeds log line status good Outcome.no_memory f g = inr refl
     succeeds log line status good (Outcome.too_long {file = x} (ReadsSource.of_program reads) long) f g = absurd (not_long held file text program holds judged x (only_file x reads) long)
@@ -93,7 +88,9 @@ module _ (words : List (List ℕ)) (held : Files) (file text : List ℕ) (progra
     succeeds log line status good (Outcome.refused {file = x} other cause (ReadsSource.of_program reads) gives causes none) f g = absurd (has_program held file text program holds judged x other (only_file x reads) gives arrangeable none)
     succeeds log line status good (Outcome.refused {file = x} other cause (ReadsSource.of_contract {node = y} k) gives causes none) f g = absurd (source_contract words file x y over k)
     succeeds log line status good (Outcome.contract_refused {file = x} {program = p} cause reads source some differs refuses) f g = absurd (no_contract_refused x p cause reads source differs refuses)
-    succeeds log line status good (Outcome.controls_not_built {file = x} {program = p} makes source some kept) f g = absurd (has_no_controls x p makes source some)
+    succeeds log line status good (Outcome.not_built {file = x} {program = p} asks source kept) f g = absurd (not_choosing x p source asks)
+    succeeds log line status good (Outcome.no_node_to_run {file = x} {name = y} {program = p} asks source kept none) f g = absurd (not_choosing x p source (running_choosing words x y p asks))
+    succeeds log line status good (Outcome.chosen_too_large {file = x} {node = y} {name = z} limit chosen asks for passed) f g = absurd (not_choosing x chosen.program chosen.held (running_choosing words x y chosen.program asks))
     succeeds log line status good (Outcome.accepted other c source kept) f g = inl refl
     succeeds log line status good (Outcome.accepted_in_part other out rest c source kept e) f g = absurd (g refl)
     succeeds log line status good (Outcome.no_node {file = x} {name = y} k source none) f g = absurd (source_contract words file x y over k)
@@ -114,6 +111,11 @@ module _ (words : List (List ℕ)) (held : Files) (file text : List ℕ) (progra
     succeeds log line status good (Outcome.too_large {file = x} {node = y} limit v others passed) f g = absurd (not_exec x y v)
     succeeds log line status good (Outcome.compiled c compiled) f g = inl refl
     succeeds log line status good (Outcome.not_written c compiled) f g = absurd (g refl)
+    succeeds log line status good (Outcome.chosen_compiled c chosen some) f g = inl refl
+    succeeds log line status good (Outcome.chosen_not_written c chosen some) f g = absurd (g refl)
+    succeeds log line status good (Outcome.swept {tasks = t} {instants = i} other s is) f g = inl refl
+    succeeds log line status good (Outcome.swept_in_part {tasks = t} {instants = i} other out rest s is e) f g = absurd (g refl)
+    succeeds log line status good (Outcome.not_swept {tasks = t} {instants = i} s) f g = absurd (sweep_source words t i s file over)
     succeeds log line status good (Outcome.done asked step has_end answer good_lines) f g = inl refl
     succeeds log line status good (Outcome.bad_line {s = s} bad_line asked step answer e) f g = absurd (good s bad_line asked e)
     succeeds log line status good (Outcome.take_failed asked step answer good_lines) f g = absurd (f refl)
@@ -122,7 +124,7 @@ module _ (words : List (List ℕ)) (held : Files) (file text : List ℕ) (progra
 
 -- ---- calls that run nothing
 
-module _ (words : List (List ℕ)) (files : Option Files) (not_run : (x y : List ℕ) → IsRunOf words x y → ⊥) (not_exec : (x y : List ℕ) → IsExecOf words x y → ⊥) where
+module _ (words : List (List ℕ)) (files : Option Files) (not_run : (x y : List ℕ) → IsRunOf words x y → ⊥) (not_tell : (x y : List ℕ) → IsTellOf words x y → ⊥) (not_exec : (x y : List ℕ) → IsExecOf words x y → ⊥) where
   not_asked : (y : List ℕ) (o : Obc) → AreAskedFor words files y o → ⊥
   not_asked y o (AreAskedFor.in_text {file = x} v others) = not_exec x y v
   not_asked y o (AreAskedFor.of_program {file = x} r compiled) = not_run x y r
@@ -130,6 +132,18 @@ module _ (words : List (List ℕ)) (files : Option Files) (not_run : (x y : List
   not_system : (s : System) → IsAskedFor words files s → ⊥
   not_system s (IsAskedFor.a_node {file = x} {node = y} r compiled found) = not_run x y r
   not_system s (IsAskedFor.a_machine {file = x} {node = y} v others found) = not_exec x y v
+  not_system s (IsAskedFor.a_chosen_node {file = x} {node = y} n r chosen some named found is) = not_run x y r
+  not_system s (IsAskedFor.a_contract {file = x} {node = y} n r chosen named some found is) = not_tell x y r
+  not_system s (IsAskedFor.no_contract {file = x} {node = y} n r chosen named none found is) = not_tell x y r
+
+-- nothing is chosen in a program without controllable variables whose machines are written
+compile_chooses : (words : List (List ℕ)) (held : Files) (file out text : List ℕ) (program : List Item) → IsCompileOf words file out → Holds held file text → IsJudged text program → has_controls program ≡ false →
+    (x : List ℕ) (p : List Item) → IsHeld (Some held) x p → AsksToChoose words x p → ⊥
+compile_chooses words held file out text program w holds judged none x p h (AsksToChoose.to_run {node = y} r some) = run_compile words x y file out r w
+compile_chooses words held file out text program w holds judged none x p h (AsksToChoose.to_tell {node = y} r) = tell_compile words x y file out r w
+compile_chooses words held file out text program w holds judged none x p h (AsksToChoose.to_compile {out = y} c some) =
+    let same = same_program held file text program holds judged x p (compile_source words file out x w (IsOverSource.to_compile c)) h in
+    let both : false ≡ true = sym none ∙ ap has_controls same ∙ some in cc
 
 module _ (words : List (List ℕ)) (files : Option Files) (log : List Event) (line : List ℕ) (status : ℕ) where
   pub good_check : IsGoodCheck words files → Outcome words files log line status → (status ≡ 4 → ⊥) → (status ≡ 5 → ⊥) → (status ≡ 0) ⊎ (status ≡ 6)
@@ -138,9 +152,10 @@ module _ (words : List (List ℕ)) (files : Option Files) (log : List Event) (li
       let w = good.asked in
       let not_run : (x y : List ℕ) → IsRunOf words x y → ⊥ = λ x y v. check_run words good.file x y good.print w v in
       let not_exec : (x y : List ℕ) → IsExecOf words x y → ⊥ = λ x y v. check_exec words good.file x y good.print w v in
+      let not_tell : (x y : List ℕ) → IsTellOf words x y → ⊥ = λ x y v. tell_check words x y good.file good.file v good.print w in
       succeeds words source.held good.file source.text good.program (λ x over. check_source words good.file x good.print w over) (subst (λ z. Gives z good.file source.text) source.folder source.gives) source.judged
-      source.arrangeable good.contracts (λ x makes. absurd (check_makes words good.file x good.print w makes)) (IsOverSource.to_check good.print w) not_exec (λ y o asked none. not_asked words (Some source.held) not_run not_exec y o asked) log line status
-      (λ s bad_line asked e. not_system words (Some source.held) not_run not_exec s asked) (subst (λ z. Outcome words z log line status) source.folder r) f g
+      source.arrangeable good.contracts (λ x p h asks. check_chooses words good.file x good.print p w asks) (IsOverSource.to_check good.print w) not_exec (λ y o asked none. not_asked words (Some source.held) not_run not_tell not_exec y o asked) log line status
+      (λ s bad_line asked e. not_system words (Some source.held) not_run not_tell not_exec s asked) (subst (λ z. Outcome words z log line status) source.folder r) f g
 
   pub good_compile : IsGoodCompile words files → Outcome words files log line status → (status ≡ 4 → ⊥) → (status ≡ 5 → ⊥) → (status ≡ 0) ⊎ (status ≡ 6)
   good_compile good r f g =
@@ -148,9 +163,10 @@ module _ (words : List (List ℕ)) (files : Option Files) (log : List Event) (li
       let w = good.asked in
       let not_run : (x y : List ℕ) → IsRunOf words x y → ⊥ = λ x y v. run_compile words x y good.file good.out v w in
       let not_exec : (x y : List ℕ) → IsExecOf words x y → ⊥ = λ x y v. exec_compile words x y good.file good.out v w in
+      let not_tell : (x y : List ℕ) → IsTellOf words x y → ⊥ = λ x y v. tell_compile words x y good.file good.out v w in
       succeeds words source.held good.file source.text good.program (λ x over. compile_source words good.file good.out x w over) (subst (λ z. Gives z good.file source.text) source.folder source.gives) source.judged
-      source.arrangeable good.contracts (λ x makes. good.uncontrolled) (IsOverSource.to_compile w) not_exec (λ y o asked none. not_asked words (Some source.held) not_run not_exec y o asked) log line status
-      (λ s bad_line asked e. not_system words (Some source.held) not_run not_exec s asked) (subst (λ z. Outcome words z log line status) source.folder r) f g
+      source.arrangeable good.contracts (compile_chooses words source.held good.file good.out source.text good.program w (subst (λ z. Gives z good.file source.text) source.folder source.gives) source.judged good.uncontrolled) (IsOverSource.to_compile w) not_exec (λ y o asked none. not_asked words (Some source.held) not_run not_tell not_exec y o asked) log line status
+      (λ s bad_line asked e. not_system words (Some source.held) not_run not_tell not_exec s asked) (subst (λ z. Outcome words z log line status) source.folder r) f g
 
 -- ---- the inputs of nodes
 
@@ -306,6 +322,14 @@ module _ (words : List (List ℕ)) (held : Files) (file node text : List ℕ) (p
   not_exec : (x y : List ℕ) → IsExecOf words x y → ⊥
   not_exec x y v = run_exec words file node x y w v
 
+  -- nothing is chosen
+  chooses : (x : List ℕ) (p : List Item) → IsHeld (Some held) x p → AsksToChoose words x p → ⊥
+  chooses x p h (AsksToChoose.to_run {node = y} r some) =
+      let same = same_program held file text program holds judged x p (only_file x (IsOverSource.to_run r)) h in
+      let both : false ≡ true = sym uncontrolled ∙ ap has_controls same ∙ some in cc
+  chooses x p h (AsksToChoose.to_tell {node = y} r) = tell_run words x y file node r w
+  chooses x p h (AsksToChoose.to_compile {out = y} c some) = run_compile words file node x y w c
+
   clocks_of : (x : List ℕ) (o : Obc) → IsOverSource words x → (compiled : AreCompiled (Some held) x o) → AreWritten IsClocked (replaced program) compiled.held.clocked
   clocks_of x o over compiled =
       let arranged = same_arranged held file text program holds judged x compiled.program (only_file x over) compiled.held in
@@ -324,13 +348,16 @@ module _ (words : List (List ℕ)) (held : Files) (file node text : List ℕ) (p
 
   system_kinds : (s : System) → IsAskedFor words (Some held) s → inputs_of s ≡ input_kinds program node
   system_kinds s (IsAskedFor.a_machine {file = x} {node = y} v others found) = absurd (not_exec x y v)
+  system_kinds s (IsAskedFor.a_chosen_node {file = x} {node = y} n r chosen some named found is) = absurd (chooses x chosen.program chosen.held (AsksToChoose.to_run r some))
+  system_kinds s (IsAskedFor.a_contract {file = x} {node = y} n r chosen named some found is) = absurd (tell_run words x y file node r w)
+  system_kinds s (IsAskedFor.no_contract {file = x} {node = y} n r chosen named none found is) = absurd (tell_run words x y file node r w)
   system_kinds s (IsAskedFor.a_node {file = x} {node = y} {o = o} r compiled found) =
       same_kinds program compiled.held.clocked (clocks_of x o (IsOverSource.to_run r) compiled) y ∙ ap (input_kinds program) (same_words (codes "run") words file node x y w r).1
 
   run_succeeds : (log : List Event) (line : List ℕ) (status : ℕ) (more : List ℕ) → (has_ended log ≡ true → more ≡ []) → first_bad (input_kinds program node) 1 (lines_of true (heard log ++ more)) ≡ None →
       Outcome words (Some held) log line status → (status ≡ 4 → ⊥) → (status ≡ 5 → ⊥) → (status ≡ 0) ⊎ (status ≡ 6)
   run_succeeds log line status more ended good r f g =
-      succeeds words held file text program only_file holds judged arrangeable contracts (λ x makes. uncontrolled) (IsOverSource.to_run w) not_exec machine_there log line status
+      succeeds words held file text program only_file holds judged arrangeable contracts chooses (IsOverSource.to_run w) not_exec machine_there log line status
       (λ s bad_line asked e. no_bad_line (input_kinds program node) (has_ended log) (heard log) more bad_line ended good (ap (λ ks. first_bad ks 1 (lines_of (has_ended log) (heard log))) (sym (system_kinds s asked)) ∙ e)) r f g
 
   -- the input in two parts: what was heard, and what is left

@@ -1,8 +1,10 @@
 -- Words of one form are of no other.
-use Rattle.std.proofs.Common.{◌≡◌, ◌<◌, ℕ, ◌⊎◌, inl, inr, Bool, true, false, List, [], ◌∷◌, length, sym, subst, refl, ap, ◌∙◌, arith}
+use Rattle.std.proofs.Common.{◌≡◌, ◌<◌, ℕ, suc, ◌⊎◌, inl, inr, Bool, true, false, List, [], ◌∷◌, length, sym, subst, refl, ap, ◌∙◌, arith}
 use Rattle.std.specs.Prelude.{codes}
 use Rattle.hp_arguments.specs.Words.{IsArgument}
-use Rattle.hp_driver.specs.Command.{IsOnTraceBy, IsOnCertBy, IsRunOf, IsExecOf, IsCheckOf, IsCompileOf, IsProveOf, IsVerifyOf, IsOverSource, MakesMachines, IsOverContract, Writes}
+use Rattle.hp_driver.specs.Command.{IsOnTraceBy, IsOnCertBy, IsRunOf, IsTellOf, IsExecOf, IsCheckOf, IsCompileOf, IsProveOf, IsVerifyOf, IsSweepOf, IsOverSource, IsOverContract, ReadsSource, IsOver, Writes}
+use Rattle.hp_driver.specs.Outcome.{AsksToChoose, AsksToRun}
+use Rattle.hp_tree.specs.declared.program.Item.{Item}
 
 same_first : (x y : List ℕ) (xs ys : List (List ℕ)) → x ∷ xs ≡ y ∷ ys → x ≡ y
 same_first x y xs ys e = cc
@@ -22,6 +24,51 @@ checking words file true w = elim w.spelled [
   | inl p ↦ record { behind = file ∷ codes "--print" ∷ []; spelled = p }
   | inr p ↦ record { behind = codes "--print" ∷ file ∷ []; spelled = p }
 ]
+
+-- the words of a run that tells, behind its name: three
+record IsTelling (words : List (List ℕ)) : Type 0 where
+  behind : List (List ℕ)
+  spelled : words ≡ codes "run" ∷ behind
+  three : length behind ≡ 3
+
+telling : (words : List (List ℕ)) (file node : List ℕ) → IsTellOf words file node → IsTelling words
+telling words file node w = elim w.spelled [
+  | inl p ↦ record { behind = file ∷ node ∷ codes "--contract" ∷ []; spelled = p; three = refl }
+  | inr q ↦ elim q [
+    | inl p ↦ record { behind = file ∷ codes "--contract" ∷ node ∷ []; spelled = p; three = refl }
+    | inr p ↦ record { behind = codes "--contract" ∷ file ∷ node ∷ []; spelled = p; three = refl }
+  ]
+]
+
+tell_four : (words : List (List ℕ)) (file node : List ℕ) → IsTellOf words file node → length words ≡ 4
+tell_four words file node w = let t = telling words file node w in ap length t.spelled ∙ ap suc t.three
+
+module _ (words : List (List ℕ)) (a b x y : List ℕ) (w : IsTellOf words a b) where
+  pub tell_exec : IsExecOf words x y → ⊥
+  tell_exec q = let t = telling words a b w in let e : codes "run" ≡ codes "exec" = one_name words (codes "run") (codes "exec") t.behind (x ∷ y ∷ []) t.spelled q.spelled in cc
+
+  pub tell_compile : IsCompileOf words x y → ⊥
+  tell_compile q = let t = telling words a b w in let e : codes "run" ≡ codes "compile" = one_name words (codes "run") (codes "compile") t.behind (x ∷ y ∷ []) t.spelled q.spelled in cc
+
+  pub tell_run : IsRunOf words x y → ⊥
+  tell_run q =
+      let four = tell_four words a b w in
+      let three : length words ≡ 3 = ap length q.spelled in
+      omega (arith, four, three)
+
+  pub tell_check : (print : Bool) → IsCheckOf words x print → ⊥
+  tell_check print q =
+      let t = telling words a b w in
+      let c = checking words x print q in
+      let e : codes "run" ≡ codes "check" = one_name words (codes "run") (codes "check") t.behind c.behind t.spelled c.spelled in cc
+
+tell_contract : (words : List (List ℕ)) (a b file node : List ℕ) → IsTellOf words a b → IsOverContract words file node → ⊥
+tell_contract words a b file node w (IsOverContract.to_prove {cert = z} p) =
+    let t = telling words a b w in
+    let e : codes "run" ≡ codes "prove" = one_name words (codes "run") (codes "prove") t.behind (file ∷ node ∷ z ∷ []) t.spelled p.spelled in cc
+tell_contract words a b file node w (IsOverContract.to_verify {cert = z} v) =
+    let t = telling words a b w in
+    let e : codes "run" ≡ codes "verify" = one_name words (codes "run") (codes "verify") t.behind (file ∷ node ∷ z ∷ []) t.spelled v.spelled in cc
 
 module _ (words : List (List ℕ)) (a b x y : List ℕ) where
   pub run_exec : IsRunOf words a b → IsExecOf words x y → ⊥
@@ -60,16 +107,19 @@ same_words name words file node x y w v = two_words name x y file node (sym v.sp
 module _ (words : List (List ℕ)) (file : List ℕ) where
   pub run_source : (node x : List ℕ) → IsRunOf words file node → IsOverSource words x → x ≡ file
   run_source node x w (IsOverSource.to_run {node = y} r) = (same_words (codes "run") words file node x y w r).0
+  run_source node x w (IsOverSource.to_tell {node = y} r) = absurd (tell_run words x y file node r w)
   run_source node x w (IsOverSource.to_check print c) = absurd (check_run words x file node print c w)
   run_source node x w (IsOverSource.to_compile {out = y} c) = absurd (run_compile words file node x y w c)
 
   pub compile_source : (out x : List ℕ) → IsCompileOf words file out → IsOverSource words x → x ≡ file
   compile_source out x w (IsOverSource.to_run {node = y} r) = absurd (run_compile words x y file out r w)
+  compile_source out x w (IsOverSource.to_tell {node = y} r) = absurd (tell_compile words x y file out r w)
   compile_source out x w (IsOverSource.to_check print c) = absurd (check_compile words x file out print c w)
   compile_source out x w (IsOverSource.to_compile {out = y} c) = (same_words (codes "compile") words file out x y w c).0
 
   pub exec_source : (node x : List ℕ) → IsExecOf words file node → IsOverSource words x → ⊥
   exec_source node x w (IsOverSource.to_run {node = y} r) = run_exec words x y file node r w
+  exec_source node x w (IsOverSource.to_tell {node = y} r) = tell_exec words x y file node r w
   exec_source node x w (IsOverSource.to_check print c) = check_exec words x file node print c w
   exec_source node x w (IsOverSource.to_compile {out = y} c) = exec_compile words file node x y w c
 
@@ -89,16 +139,14 @@ check_few words file true w = elim w.spelled [
   | inr p ↦ (let three : length words ≡ 3 = ap length p in omega (arith, three))
 ]
 
-source_few : (words : List (List ℕ)) (file : List ℕ) → IsOverSource words file → length words < 4
-source_few words file (IsOverSource.to_run {node = y} w) = let three = trace_three (codes "run") words file y w in omega (arith, three)
-source_few words file (IsOverSource.to_check print w) = check_few words file print w
-source_few words file (IsOverSource.to_compile {out = y} w) = let three = trace_three (codes "compile") words file y w in omega (arith, three)
+few_contract : (words : List (List ℕ)) (file node : List ℕ) → length words < 4 → IsOverContract words file node → ⊥
+few_contract words file node few k = let four = contract_four words file node k in omega (arith, few, four)
 
 pub source_contract : (words : List (List ℕ)) (x file node : List ℕ) → IsOverSource words x → IsOverContract words file node → ⊥
-source_contract words x file node s k =
-    let few = source_few words x s in
-    let four = contract_four words file node k in
-    omega (arith, few, four)
+source_contract words x file node (IsOverSource.to_run {node = y} w) k = few_contract words file node (let three = trace_three (codes "run") words x y w in omega (arith, three)) k
+source_contract words x file node (IsOverSource.to_tell {node = y} w) k = tell_contract words x y file node w k
+source_contract words x file node (IsOverSource.to_check print w) k = few_contract words file node (check_few words x print w) k
+source_contract words x file node (IsOverSource.to_compile {out = y} w) k = few_contract words file node (let three = trace_three (codes "compile") words x y w in omega (arith, three)) k
 
 pub exec_contract : (words : List (List ℕ)) (x y file node : List ℕ) → IsExecOf words x y → IsOverContract words file node → ⊥
 exec_contract words x y file node w k =
@@ -133,6 +181,10 @@ module _ (words : List (List ℕ)) (file out : List ℕ) where
   run_writes node w (Writes.machines {file = x} c) = run_compile words file node x out w c
   run_writes node w (Writes.a_certificate {file = x} {node = y} p) = source_contract words file x y (IsOverSource.to_run w) (IsOverContract.to_prove p)
 
+  pub tell_writes : (node : List ℕ) → IsTellOf words file node → Writes words out → ⊥
+  tell_writes node w (Writes.machines {file = x} c) = tell_compile words file node x out w c
+  tell_writes node w (Writes.a_certificate {file = x} {node = y} p) = source_contract words file x y (IsOverSource.to_tell w) (IsOverContract.to_prove p)
+
   pub exec_writes : (node : List ℕ) → IsExecOf words file node → Writes words out → ⊥
   exec_writes node w (Writes.machines {file = x} c) = exec_compile words file node x out w c
   exec_writes node w (Writes.a_certificate {file = x} {node = y} p) = exec_contract words file node x y w (IsOverContract.to_prove p)
@@ -145,15 +197,55 @@ module _ (words : List (List ℕ)) (file out : List ℕ) where
   verify_writes node cert w (Writes.machines {file = x} c) = source_contract words x file node (IsOverSource.to_compile c) (IsOverContract.to_verify w)
   verify_writes node cert w (Writes.a_certificate {file = x} {node = y} p) = prove_verify words x y out file node cert p w
 
--- what machines are made of is a source text
-pub over_machines : (words : List (List ℕ)) (file : List ℕ) → MakesMachines words file → IsOverSource words file
-over_machines words file (MakesMachines.to_run w) = IsOverSource.to_run w
-over_machines words file (MakesMachines.to_compile w) = IsOverSource.to_compile w
+-- ---- machines that choose
+
+-- they are made of a source text
+pub choosing_source : (words : List (List ℕ)) (file : List ℕ) (program : List Item) → AsksToChoose words file program → IsOverSource words file
+choosing_source words file program (AsksToChoose.to_run w some) = IsOverSource.to_run w
+choosing_source words file program (AsksToChoose.to_tell w) = IsOverSource.to_tell w
+choosing_source words file program (AsksToChoose.to_compile w some) = IsOverSource.to_compile w
+
+-- also where one is run
+pub running_choosing : (words : List (List ℕ)) (file node : List ℕ) (program : List Item) → AsksToRun words file node program → AsksToChoose words file program
+running_choosing words file node program (AsksToRun.to_run w some) = AsksToChoose.to_run w some
+running_choosing words file node program (AsksToRun.to_tell w) = AsksToChoose.to_tell w
 
 -- and a check makes none
-pub check_makes : (words : List (List ℕ)) (file x : List ℕ) (print : Bool) → IsCheckOf words file print → MakesMachines words x → ⊥
-check_makes words file x print w (MakesMachines.to_run {node = y} r) = check_run words file x y print w r
-check_makes words file x print w (MakesMachines.to_compile {out = y} c) = check_compile words file x y print w c
+pub check_chooses : (words : List (List ℕ)) (file x : List ℕ) (print : Bool) (program : List Item) → IsCheckOf words file print → AsksToChoose words x program → ⊥
+check_chooses words file x print program w (AsksToChoose.to_run {node = y} r some) = check_run words file x y print w r
+check_chooses words file x print program w (AsksToChoose.to_tell {node = y} r) = tell_check words x y file file r print w
+check_chooses words file x print program w (AsksToChoose.to_compile {out = y} c some) = check_compile words file x y print w c
+
+-- ---- the words of a sweep
+
+module _ (words : List (List ℕ)) (tasks instants : ℕ) (w : IsSweepOf words tasks instants) where
+  sweep_three : length words ≡ 3
+  sweep_three = ap length w.spelled
+
+  sweep_named : (x : List ℕ) (xs : List (List ℕ)) → words ≡ x ∷ xs → codes "sweep" ≡ x
+  sweep_named x xs e = one_name words (codes "sweep") x (w.tasks_word ∷ w.instants_word ∷ []) xs w.spelled e
+
+  pub sweep_source : (file : List ℕ) → IsOverSource words file → ⊥
+  sweep_source file (IsOverSource.to_run {node = y} r) = let e : codes "sweep" ≡ codes "run" = sweep_named (codes "run") (file ∷ y ∷ []) r.spelled in cc
+  sweep_source file (IsOverSource.to_tell {node = y} r) = let four = tell_four words file y r in let three = sweep_three in omega (arith, four, three)
+  sweep_source file (IsOverSource.to_check print c) = let k = checking words file print c in let e : codes "sweep" ≡ codes "check" = sweep_named (codes "check") k.behind k.spelled in cc
+  sweep_source file (IsOverSource.to_compile {out = y} c) = let e : codes "sweep" ≡ codes "compile" = sweep_named (codes "compile") (file ∷ y ∷ []) c.spelled in cc
+
+  pub sweep_contract : (file node : List ℕ) → IsOverContract words file node → ⊥
+  sweep_contract file node k = few_contract words file node (let three = sweep_three in omega (arith, three)) k
+
+  pub sweep_exec : (file node : List ℕ) → IsExecOf words file node → ⊥
+  sweep_exec file node v = let e : codes "sweep" ≡ codes "exec" = sweep_named (codes "exec") (file ∷ node ∷ []) v.spelled in cc
+
+  pub sweep_over : (file : List ℕ) → IsOver words file → ⊥
+  sweep_over file (IsOver.a_source (ReadsSource.of_program s)) = sweep_source file s
+  sweep_over file (IsOver.a_source (ReadsSource.of_contract {node = y} k)) = sweep_contract file y k
+  sweep_over file (IsOver.machines {node = y} v) = sweep_exec file y v
+  sweep_over file (IsOver.a_certificate {source = x} {node = y} v) = sweep_contract x y (IsOverContract.to_verify v)
+
+  pub sweep_writes : (out : List ℕ) → Writes words out → ⊥
+  sweep_writes out (Writes.machines {file = x} c) = sweep_source x (IsOverSource.to_compile c)
+  sweep_writes out (Writes.a_certificate {file = x} {node = y} p) = sweep_contract x y (IsOverContract.to_prove p)
 
 -- ---- the words of checks
 
@@ -190,5 +282,6 @@ same_check words file x true true w v = by w.spelled v.spelled
 
 pub check_source : (words : List (List ℕ)) (file x : List ℕ) (print : Bool) → IsCheckOf words file print → IsOverSource words x → x ≡ file
 check_source words file x print w (IsOverSource.to_run {node = y} r) = absurd (check_run words file x y print w r)
+check_source words file x print w (IsOverSource.to_tell {node = y} r) = absurd (tell_check words x y file file r print w)
 check_source words file x print w (IsOverSource.to_check other c) = same_check words file x print other w c
 check_source words file x print w (IsOverSource.to_compile {out = y} c) = absurd (check_compile words file x y print w c)

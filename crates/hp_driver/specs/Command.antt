@@ -1,5 +1,6 @@
 -- The words of a call, and the lines of its diagnostics.
-use Rattle.std.specs.Prelude.{◌≡◌, ◌⊎◌, Bool, true, false, ℕ, List, [], ◌∷◌, ◌++◌, codes, decimal}
+use Rattle.std.specs.Prelude.{◌≡◌, ◌≢◌, ◌≤◌, ◌⊎◌, ◌+◌, ◌*◌, ◌-◌, ⊤, Bool, true, false, ℕ, List, [], ◌∷◌, ◌++◌, length, codes, decimal}
+use Rattle.std.specs.List.{AllByRecursion, fold}
 use Rattle.hp_cert.specs.declared.checking.Proved.{Proved}
 use Rattle.hp_cert.specs.declared.checking.Proved.TheVariants.{Win, Lose}
 use Rattle.hp_tree.specs.declared.program.Item.{Item}
@@ -21,6 +22,13 @@ IsCompileOf = IsOnTraceBy (codes "compile")
 
 abbrev pub IsExecOf : List (List ℕ) → List ℕ → List ℕ → Type 0
 IsExecOf = IsOnTraceBy (codes "exec")
+
+-- the words `run FILE NODE` with `--contract` anywhere behind the first word
+pub record IsTellOf (words : List (List ℕ)) (file node : List ℕ) : Type 0 where
+  pub spelled : (words ≡ codes "run" ∷ file ∷ node ∷ codes "--contract" ∷ [])
+      ⊎ ((words ≡ codes "run" ∷ file ∷ codes "--contract" ∷ node ∷ []) ⊎ (words ≡ codes "run" ∷ codes "--contract" ∷ file ∷ node ∷ []))
+  pub file_is_argument : IsArgument file
+  pub node_is_argument : IsArgument node
 
 -- the words NAME FILE NODE CERT
 pub record IsOnCertBy (name : List ℕ) (words : List (List ℕ)) (file node cert : List ℕ) : Type 0 where
@@ -54,13 +62,37 @@ IsCheckOf words file true = IsPrintOf words file
 -- The words are of a command over all of the program of this source file.
 pub data IsOverSource (words : List (List ℕ)) (file : List ℕ) : Type 0 where
   to_run : {node : List ℕ} → IsRunOf words file node → IsOverSource words file
+  to_tell : {node : List ℕ} → IsTellOf words file node → IsOverSource words file
   to_check : (print : Bool) → IsCheckOf words file print → IsOverSource words file
   to_compile : {out : List ℕ} → IsCompileOf words file out → IsOverSource words file
 
--- The words are of a command for which the machines of this source file are made.
-pub data MakesMachines (words : List (List ℕ)) (file : List ℕ) : Type 0 where
-  to_run : {node : List ℕ} → IsRunOf words file node → MakesMachines words file
-  to_compile : {out : List ℕ} → IsCompileOf words file out → MakesMachines words file
+-- ---- a sweep
+
+-- A word of decimal digits, which may begin with zeros, spells a number.
+pub record SpellsNumber (word : List ℕ) (number : ℕ) : Type 0 where
+  pub some : word ≢ []
+  pub digits : AllByRecursion (λ c. (48 ≤ c) × (c ≤ 57)) word
+  pub value : number ≡ fold (λ (n c : ℕ). n * 10 + (c - 48)) 0 word
+
+-- the words `sweep TASKS INSTANTS`
+pub record IsSweepOf (words : List (List ℕ)) (tasks instants : ℕ) : Type 0 where
+  pub tasks_word : List ℕ
+  pub instants_word : List ℕ
+  pub spelled : words ≡ codes "sweep" ∷ tasks_word ∷ instants_word ∷ []
+  pub tasks_are : SpellsNumber tasks_word tasks
+  pub instants_are : SpellsNumber instants_word instants
+  pub some_tasks : 1 ≤ tasks
+  pub few_tasks : tasks ≤ 8
+  pub few_instants : instants ≤ 1000000
+
+-- numbers, each with a space in front
+abbrev pub spaced_numbers : List ℕ → List ℕ
+spaced_numbers [] = []
+spaced_numbers (n ∷ ns) = codes " " ++ decimal n ++ spaced_numbers ns
+
+-- a line for how often each task was active, and one for how often each started
+abbrev pub summary_text : List ℕ → List ℕ → List ℕ
+summary_text active started = codes "a" ++ spaced_numbers active ++ codes "\n" ++ codes "s" ++ spaced_numbers started ++ codes "\n"
 
 -- The words are of a command over the contract of the node of this name, of the program of this source file.
 pub data IsOverContract (words : List (List ℕ)) (file node : List ℕ) : Type 0 where
@@ -88,6 +120,14 @@ pub data Writes (words : List (List ℕ)) (out : List ℕ) : Type 0 where
   machines : {file : List ℕ} → IsCompileOf words file out → Writes words out
   a_certificate : {file node : List ℕ} → IsProveOf words file node out → Writes words out
 
+-- the summary of so many tasks
+pub record IsSummary (tasks : ℕ) (text : List ℕ) : Type 0 where
+  pub active : List ℕ
+  pub started : List ℕ
+  pub as_active : length active ≡ tasks
+  pub as_started : length started ≡ tasks
+  pub spelled : text ≡ summary_text active started
+
 -- the words are of no command over all of a program
 abbrev pub IsNoSourceCommand : List (List ℕ) → Type 0
 IsNoSourceCommand words = (file : List ℕ) → IsOverSource words file → ⊥
@@ -96,9 +136,13 @@ IsNoSourceCommand words = (file : List ℕ) → IsOverSource words file → ⊥
 abbrev pub IsNoCertCommand : List (List ℕ) → Type 0
 IsNoCertCommand words = (file node : List ℕ) → IsOverContract words file node → ⊥
 
+-- the words are of no command over a file
+abbrev pub IsNoFileCommand : List (List ℕ) → Type 0
+IsNoFileCommand words = (file : List ℕ) → IsOver words file → ⊥
+
 -- the words are none of the forms
 abbrev pub IsNoCommand : List (List ℕ) → Type 0
-IsNoCommand words = (file : List ℕ) → IsOver words file → ⊥
+IsNoCommand words = IsNoFileCommand words × ((tasks instants : ℕ) → IsSweepOf words tasks instants → ⊥)
 
 abbrev pub usage_line : List ℕ
 usage_line = codes "usage: hept check run compile exec prove verify sweep\n"

@@ -2,15 +2,16 @@
 use Rattle.std.specs.Prelude.{ℕ, List}
 use Rattle.hp_base.specs.declared.limit.What.{What}
 use Rattle.hp_base.specs.declared.limit.What.TheVariants.{Size, Text}
-use Rattle.hp_driver.specs.Command.{IsRunOf, IsCheckOf, IsCompileOf, IsExecOf, IsProveOf, IsVerifyOf}
+use Rattle.hp_driver.specs.Command.{IsRunOf, IsTellOf, IsCheckOf, IsCompileOf, IsExecOf, IsProveOf, IsVerifyOf}
 use Rattle.hp_driver.specs.declared.words.Command.{Command}
 use Rattle.hp_driver.specs.declared.words.Command.TheVariants.{Source, Exec, Prove, Verify}
 use Rattle.hp_driver.specs.declared.words.Task.{Task}
-use Rattle.hp_driver.specs.declared.words.Task.TheVariants.{Run, Check, Compile}
+use Rattle.hp_driver.specs.declared.words.Task.TheVariants.{Run, Tell, Check, Compile}
 
 -- the words ask for this task with this source file
 abbrev pub SpellsTask : List (List ℕ) → List ℕ → Task → Type 0
 SpellsTask words file (Run node) = IsRunOf words file node.now
+SpellsTask words file (Tell node) = IsTellOf words file node.now
 SpellsTask words file (Check print) = IsCheckOf words file print
 SpellsTask words file (Compile out) = IsCompileOf words file out.now
 

@@ -1,5 +1,5 @@
 -- What a call does behind its words: by the text that was read, and by the words alone.
-use Rattle.std.specs.Prelude.{◌≡◌, [], ◌++◌, ℕ, false, List, Option}
+use Rattle.std.specs.Prelude.{◌≡◌, [], ◌++◌, ℕ, true, false, List, Option, Some}
 use Rattle.hp_io.specs.Files.{Files}
 use Rattle.hp_io.specs.declared.console.Event.{Event}
 use Rattle.hp_obc.specs.Machines.{Obc}
@@ -11,11 +11,16 @@ use Rattle.hp_compile.specs.Arranged.{IsArranged}
 use Rattle.hp_compile.specs.Judged.{IsJudged}
 use Rattle.law_decided.specs.Outcomes.{AreKeptInGames}
 use Rattle.hp_driver.specs.Controls.{has_controls}
-use Rattle.hp_driver.specs.Command.{IsRunOf, IsCompileOf, IsExecOf, IsVerifyOf}
+use Rattle.hp_driver.specs.Command.{IsRunOf, IsTellOf, IsCompileOf, IsExecOf, IsVerifyOf, IsSweepOf, not_built_line}
+use Rattle.hp_driver.specs.Diagnostics.{executor_line}
+use Rattle.hp_driver.specs.Systems.{System}
+use Rattle.hp_base.specs.declared.limit.Limit.{Limit}
+use Rattle.hp_exec.specs.Answers.{IsPassed}
+use Rattle.hp_tree.specs.Meaning.{node_among}
 use Rattle.hp_abstract.specs.Machines.{IsMachineOf}
 use Rattle.hp_boolx.specs.Machine.{Machine}
 use Rattle.hp_driver.specs.Commanded.{SpellsTask}
-use Rattle.hp_driver.specs.Outcome.{Gives, IsHeld, IsOnly, HasContract, AreAskedFor, Outcome}
+use Rattle.hp_driver.specs.Outcome.{Gives, IsHeld, IsOnly, HasContract, AreAskedFor, AreChosen, IsAskedFor, IsMachine, Outcome}
 use Rattle.hp_driver.specs.declared.words.Task.{Task}
 use Rattle.hp_tree.specs.Programs.{Node}
 use Rattle.hp_tree.specs.declared.program.Item.{Item}
@@ -91,6 +96,47 @@ abbrev pub OrderedCompile : List ℕ → List Item → List ℕ → ℕ → Type
 OrderedCompile out ordered line status =
     (words : List (List ℕ)) (files : Option Files) (file : List ℕ) (program : List Item) (held : IsHeld files file program) → held.clocked ≡ ordered →
     has_controls program ≡ false → AreKeptInGames held.clocked → IsCompileOf words file out → Outcome words files [] line status
+
+-- whatever words and folder asked for this system, whose machine has this name among these
+abbrev pub ChosenOutcome : System → Obc → List ℕ → List Event → List ℕ → ℕ → Type 0
+ChosenOutcome s o name log line status =
+    (words : List (List ℕ)) (files : Option Files) → (IsMachine name o → IsAskedFor words files s) → ((limit : Limit) → IsPassed o name limit → Outcome words files [] (executor_line limit) 1) →
+    Outcome words files [] not_built_line 1 → Outcome words files log line status
+
+-- the machine of this name is refused for this reason
+abbrev pub RefusedChosen : List ℕ → ExecErr → List ℕ → ℕ → Type 0
+RefusedChosen name error line status = (s : System) (o : Obc) → RefusesMachine o name error → ChosenOutcome s o name [] line status
+
+-- whatever words and program with controllable variables the ordered program is of, where a node of it is run, or its machines are written
+abbrev pub ChoosingRun : List ℕ → List Item → List Event → List ℕ → ℕ → Type 0
+ChoosingRun node ordered log line status =
+    (words : List (List ℕ)) (files : Option Files) (file : List ℕ) (program : List Item) (held : IsHeld files file program) → held.clocked ≡ ordered →
+    has_controls program ≡ true → AreKeptInGames held.clocked → IsRunOf words file node → Outcome words files log line status
+
+abbrev pub ChoosingCompile : List ℕ → List Item → List ℕ → ℕ → Type 0
+ChoosingCompile out ordered line status =
+    (words : List (List ℕ)) (files : Option Files) (file : List ℕ) (program : List Item) (held : IsHeld files file program) → held.clocked ≡ ordered →
+    has_controls program ≡ true → AreKeptInGames held.clocked → IsCompileOf words file out → Outcome words files [] line status
+
+-- whatever words and program the ordered program is of, where it is asked what the contract of a node assumes and enforces
+abbrev pub ChoosingTell : List ℕ → List Item → List Event → List ℕ → ℕ → Type 0
+ChoosingTell node ordered log line status =
+    (words : List (List ℕ)) (files : Option Files) (file : List ℕ) (program : List Item) (held : IsHeld files file program) → held.clocked ≡ ordered →
+    AreKeptInGames held.clocked → IsTellOf words file node → Outcome words files log line status
+
+-- whatever words asked for a node of this name, whose machine is among these, to be run, or to be told of
+abbrev pub NodeRun : Obc → Node → List ℕ → List Event → List ℕ → ℕ → Type 0
+NodeRun o n node log line status =
+    (words : List (List ℕ)) (files : Option Files) (file : List ℕ) (chosen : AreChosen files file o) → has_controls chosen.program ≡ true → node_among chosen.held.clocked node ≡ Some n →
+    IsRunOf words file node → Outcome words files log line status
+
+abbrev pub NodeTold : Obc → Node → List ℕ → List Event → List ℕ → ℕ → Type 0
+NodeTold o n node log line status =
+    (words : List (List ℕ)) (files : Option Files) (file : List ℕ) (chosen : AreChosen files file o) → node_among chosen.held.clocked node ≡ Some n → IsTellOf words file node → Outcome words files log line status
+
+-- whatever words ask for a sweep
+abbrev pub SweepOutcome : ℕ → ℕ → List Event → List ℕ → ℕ → Type 0
+SweepOutcome tasks instants log line status = (words : List (List ℕ)) (files : Option Files) → IsSweepOf words tasks instants → Outcome words files log line status
 
 -- all of a text is said, or a put failed, or there was no memory for the text
 pub data Accepts (text : List ℕ) : List ℕ → ℕ → Type 0 where

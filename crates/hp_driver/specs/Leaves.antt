@@ -1,5 +1,5 @@
 -- What becomes of the files of a call, and where a write of them failed.
-use Rattle.std.specs.Prelude.{◌≡◌, ◌≢◌, ◌≤◌, ◌⊎◌, ℕ, List, length, Option, option_map}
+use Rattle.std.specs.Prelude.{◌≡◌, ◌≢◌, ◌≤◌, ◌⊎◌, ℕ, true, List, length, Option, option_map}
 use Rattle.std.specs.FinMap as map
 use Rattle.hp_base.specs.Limits.{most}
 use Rattle.hp_base.specs.declared.limit.What.TheVariants.{Text}
@@ -13,7 +13,8 @@ use Rattle.hp_obctext.specs.Files.{file_words}
 use Rattle.hp_obctext.specs.Words.{printed}
 use Rattle.law_decided.specs.Outcomes.{IsProofInGame}
 use Rattle.hp_driver.specs.Command.{IsCompileOf, IsProveOf, IsOver, Writes}
-use Rattle.hp_driver.specs.Outcome.{AreCompiled, HasContract}
+use Rattle.hp_driver.specs.Controls.{has_controls}
+use Rattle.hp_driver.specs.Outcome.{AreCompiled, AreChosen, HasContract}
 
 -- the canonical text of machines; where it is no longer than a text of machines may be, it is read as these machines
 pub record IsPrinted (o : Obc) (text : List ℕ) : Type 0 where
@@ -31,6 +32,11 @@ module _ (words : List (List ℕ)) (before after : Option Files) where
     -- the write failed: the file that is named holds what it held, or the first bytes of their text, and no other is changed
     in_part : {file out text : List ℕ} {o : Obc} {status : ℕ} → (status ≡ 5) ⊎ (status ≡ 6) → IsCompileOf words file out → AreCompiled before file o → IsPrinted o text →
         BothTold before after (λ b a. SameElsewhere b a out) → BothTold before after (λ b a. SameOrPrefix b a out text) → Leaves status
+    -- the same of the machines of a program with controllable variables
+    chosen_written : {file out text : List ℕ} {o : Obc} → IsCompileOf words file out → (chosen : AreChosen before file o) → has_controls chosen.program ≡ true → IsPrinted o text →
+        after ≡ option_map (λ held. map.insert held out text) before → Leaves 0
+    chosen_in_part : {file out text : List ℕ} {o : Obc} {status : ℕ} → (status ≡ 5) ⊎ (status ≡ 6) → IsCompileOf words file out → (chosen : AreChosen before file o) → has_controls chosen.program ≡ true →
+        IsPrinted o text → BothTold before after (λ b a. SameElsewhere b a out) → BothTold before after (λ b a. SameOrPrefix b a out text) → Leaves status
     -- the file that is named holds the certificate of the machine of the node's contract
     proved : {file name cert text : List ℕ} → IsProveOf words file name cert → (c : HasContract before file name) → IsProofInGame c.held.clocked c.node text →
         after ≡ option_map (λ held. map.insert held cert text) before → Leaves 0

@@ -1,5 +1,5 @@
 -- What a command that writes leaves in the files, as the code has it.
-use Rattle.std.specs.Prelude.{◌≡◌, ◌⊎◌, ℕ, false, List, Option, option_map}
+use Rattle.std.specs.Prelude.{◌≡◌, ◌⊎◌, ℕ, true, false, List, Option, option_map}
 use Rattle.std.specs.FinMap as map
 use Rattle.hp_io.specs.Faults.{Faults, Rose}
 use Rattle.hp_io.specs.Files.{Files, SameElsewhere, SameOrPrefix}
@@ -15,7 +15,7 @@ use Rattle.hp_driver.specs.Commanded.{SpellsTask}
 use Rattle.hp_driver.specs.Leaves.{Leaves, IsPrinted}
 use Rattle.hp_driver.specs.Outcome.{Gives, IsHeld, IsOnly, HasContract}
 use Rattle.hp_driver.specs.declared.words.Task.{Task}
-use Rattle.hp_driver.specs.declared.words.Task.TheVariants.{Run, Check, Compile}
+use Rattle.hp_driver.specs.declared.words.Task.TheVariants.{Run, Tell, Check, Compile}
 
 -- a text was written, or in part
 pub data WritesText (text out : List ℕ) (before after : Option Files) : ℕ → Type 0 where
@@ -34,6 +34,11 @@ pub data WritesMachines (o : Obc) (out : List ℕ) (before after : Option Files)
 abbrev pub OrderedLeaves : List ℕ → List Item → Option Files → Option Files → ℕ → Type 0
 OrderedLeaves out ordered before after status =
     (words : List (List ℕ)) (file : List ℕ) (program : List Item) (held : IsHeld before file program) → held.clocked ≡ ordered → has_controls program ≡ false → AreKeptInGames held.clocked →
+    IsCompileOf words file out → Leaves words before after status
+
+abbrev pub ChoosingLeaves : List ℕ → List Item → Option Files → Option Files → ℕ → Type 0
+ChoosingLeaves out ordered before after status =
+    (words : List (List ℕ)) (file : List ℕ) (program : List Item) (held : IsHeld before file program) → held.clocked ≡ ordered → has_controls program ≡ true → AreKeptInGames held.clocked →
     IsCompileOf words file out → Leaves words before after status
 
 abbrev pub DecidedLeaves : List ℕ → List Item → List Item → Option Files → Option Files → ℕ → Type 0
@@ -64,5 +69,6 @@ LeavesBy task text before after status = (words : List (List ℕ)) (file : List 
 -- a write of the file that the task writes failed, and no call on the folder followed it
 abbrev pub RoseInWrite : Task → (List ℕ → Faults) → (List ℕ → Faults) → Type 0
 RoseInWrite (Run node) before after = ⊥
+RoseInWrite (Tell node) before after = ⊥
 RoseInWrite (Check print) before after = ⊥
 RoseInWrite (Compile out) before after = Rose (before out.now) (after out.now)

@@ -29,3 +29,6 @@ pub mod Found
 pub mod Written
 pub mod Executing
 pub mod ExecutionView
+pub mod Telling
+pub mod Teller
+pub mod TellingView

@@ -1,5 +1,5 @@
 -- What a call does, and why: a row for each cause.
-use Rattle.std.specs.Prelude.{◌≡◌, ◌≢◌, ◌≤◌, Bool, is_some, IsTrue, ℕ, true, false, List, [], ◌∷◌, ◌++◌, Option, None, Some}
+use Rattle.std.specs.Prelude.{◌≡◌, ◌≢◌, ◌≤◌, ◌⊎◌, Bool, is_some, IsTrue, ℕ, true, false, List, [], ◌∷◌, ◌++◌, codes, Option, None, Some}
 use Rattle.hp_base.specs.Limits.{most}
 use Rattle.hp_base.specs.declared.limit.Limit.{Limit}
 use Rattle.hp_base.specs.declared.limit.What.TheVariants.{Size, Text}
@@ -13,7 +13,9 @@ use Rattle.hp_driver.specs.Lines.{whole_lines, lines_of}
 use Rattle.hp_driver.specs.Log.{heard, said, has_ended}
 use Rattle.hp_driver.specs.Values.{first_bad}
 use Rattle.hp_driver.specs.Answers.{IsAnswer}
-use Rattle.hp_driver.specs.Systems.{System, of_node, of_machine, inputs_of}
+use Rattle.hp_driver.specs.Systems.{System, of_node, of_machine, that_tells, inputs_of}
+use Rattle.hp_driver.specs.declared.telling.Ending.TheVariants.{Told, Kept}
+use Rattle.hp_controlled.specs.Chosen.{AreControlledMachines, IsChosen, IsToldBy}
 use Rattle.hp_io.specs.Events.{put_events}
 use Rattle.hp_compile.specs.Arranged.{IsArranged, IsArrangeable}
 use Rattle.hp_compile.specs.Judged.{IsJudged}
@@ -39,7 +41,7 @@ use Rattle.hp_verdicts.specs.declared.error.ContractErr.TheVariants.{OutOfMemory
 use Rattle.hp_driver.specs.Diagnostics.{refusal_line, too_long_line, no_text_line, no_form_line, executor_line, contract_line, no_contract_line, certificate_line, certificate_status}
 use Rattle.hp_driver.specs.BadLines.{bad_line_line}
 use Rattle.hp_driver.specs.Controls.{has_controls}
-use Rattle.hp_driver.specs.Command.{IsRunOf, IsCheckOf, IsCompileOf, IsExecOf, IsProveOf, IsVerifyOf, IsOverSource, MakesMachines, IsOverContract, ReadsSource, ReadsFirst, IsNoCommand, usage_line, not_built_line, no_node_line, accepted_text, verdict_text}
+use Rattle.hp_driver.specs.Command.{IsRunOf, IsTellOf, IsCheckOf, IsCompileOf, IsExecOf, IsProveOf, IsVerifyOf, IsSweepOf, IsSummary, IsOverSource, IsOverContract, ReadsSource, ReadsFirst, IsNoCommand, usage_line, not_built_line, no_node_line, accepted_text, verdict_text}
 use Rattle.hp_driver.specs.declared.trace_limits.BadLine.{BadLine}
 
 -- The file holds this text, where the folder tells it.
@@ -90,6 +92,13 @@ pub record AreCompiled (files : Option Files) (file : List ℕ) (o : Obc) : Type
   pub kept : AreKeptInGames held.clocked
   pub machines : AreMachinesOf held.clocked o
 
+-- machines of the program that the file holds, of which each contract is kept; some node of it chooses the values of its controllable variables, or it is asked what contracts assume and enforce
+pub record AreChosen (files : Option Files) (file : List ℕ) (o : Obc) : Type 0 where
+  pub program : List Item
+  pub held : IsHeld files file program
+  pub kept : AreKeptInGames held.clocked
+  pub machines : AreControlledMachines held.clocked o
+
 -- The words ask to run the machine of this name among these, and the file holds them, or the program that they are of.
 pub data AreAskedFor (words : List (List ℕ)) (files : Option Files) (node : List ℕ) (o : Obc) : Type 0 where
   in_text : {file : List ℕ} → IsExecOf words file node → AreMachines files file o → AreAskedFor words files node o
@@ -102,10 +111,32 @@ pub record IsMachine (node : List ℕ) (o : Obc) : Type 0 where
   pub chain : longest_chain o.machines node ≤ most_chained
   pub count : instance_count o.machines node ≤ most_instances
 
--- The words ask to run this, and the file holds it: a node of a program without controllable variables whose contracts are kept, as it is once it is arranged, whose machine is within the limits; or a machine of a text of machines.
+-- The words ask to run this, and the file holds it: a node of a program without controllable variables whose contracts are kept, as it is once it is arranged, whose machine is within the limits; a machine of a text of machines;
+-- or a machine of a program whose contracts are kept, which has the inputs and outputs of the node of the name. That its controllable variables have the permitted values is not said here.
 pub data IsAskedFor (words : List (List ℕ)) (files : Option Files) : System → Type 0 where
   a_node : {file node : List ℕ} {o : Obc} → IsRunOf words file node → (compiled : AreCompiled files file o) → IsMachine node o → IsAskedFor words files (of_node compiled.held.clocked node)
   a_machine : {file node : List ℕ} {o : Obc} → IsExecOf words file node → AreMachines files file o → IsMachine node o → IsAskedFor words files (of_machine o node)
+  a_chosen_node : {file node : List ℕ} {o : Obc} (n : Node) → IsRunOf words file node → (chosen : AreChosen files file o) → has_controls chosen.program ≡ true →
+      node_among chosen.held.clocked node ≡ Some n → IsMachine node o → IsChosen node o n → IsAskedFor words files (of_machine o node)
+  a_contract : {file node : List ℕ} {o : Obc} (n : Node) → IsTellOf words file node → (chosen : AreChosen files file o) → node_among chosen.held.clocked node ≡ Some n →
+      IsTrue (is_some n.contract) → IsMachine (node ++ codes "$contract") o → IsToldBy (node ++ codes "$contract") o n → IsAskedFor words files (that_tells Told o (node ++ codes "$contract"))
+  no_contract : {file node : List ℕ} {o : Obc} (n : Node) → IsTellOf words file node → (chosen : AreChosen files file o) → node_among chosen.held.clocked node ≡ Some n →
+      n.contract ≡ None → IsMachine node o → IsChosen node o n → IsAskedFor words files (that_tells Kept o node)
+
+-- The words ask for the machines of a program that choose the values of its controllable variables, or for what its contracts assume and enforce.
+pub data AsksToChoose (words : List (List ℕ)) (file : List ℕ) (program : List Item) : Type 0 where
+  to_run : {node : List ℕ} → IsRunOf words file node → has_controls program ≡ true → AsksToChoose words file program
+  to_tell : {node : List ℕ} → IsTellOf words file node → AsksToChoose words file program
+  to_compile : {out : List ℕ} → IsCompileOf words file out → has_controls program ≡ true → AsksToChoose words file program
+
+-- They ask to run the node of this name so.
+pub data AsksToRun (words : List (List ℕ)) (file node : List ℕ) (program : List Item) : Type 0 where
+  to_run : IsRunOf words file node → has_controls program ≡ true → AsksToRun words file node program
+  to_tell : IsTellOf words file node → AsksToRun words file node program
+
+-- the machine that is run for the node of a name
+abbrev pub IsRunFor : List ℕ → List ℕ → Type 0
+IsRunFor node name = (name ≡ node) ⊎ (name ≡ node ++ codes "$contract")
 
 -- Whenever input was asked for, it had not ended, what was said were the answers to the whole lines heard before, and no line heard before has a fault.
 abbrev pub InLockstep : System → List Event → Type 0
@@ -129,9 +160,14 @@ module _ (words : List (List ℕ)) (files : Option Files) where
     -- In the games of the contracts before it no violation is ever forced, and what the cause says is so of its node
     contract_refused : {file : List ℕ} {program : List Item} (cause : ContractErr) → IsOverSource words file → (held : IsHeld files file program) → has_contract program ≡ true →
         cause ≢ OutOfMemory → RefusesInGames held.clocked cause → Outcome [] (contract_line cause) 1
-    -- each contract is kept, in its game too, and the program has controllable variables, whose values are not chosen yet
-    controls_not_built : {file : List ℕ} {program : List Item} → MakesMachines words file → (held : IsHeld files file program) → has_controls program ≡ true →
-        AreKeptInGames held.clocked → Outcome [] not_built_line 1
+    -- each contract is kept, in its game too, and machines that choose were not made. No program has shown this; that none does is not said here
+    not_built : {file : List ℕ} {program : List Item} → AsksToChoose words file program → (held : IsHeld files file program) → AreKeptInGames held.clocked → Outcome [] not_built_line 1
+    -- the program has no node of this name to be run
+    no_node_to_run : {file name : List ℕ} {program : List Item} → AsksToRun words file name program → (held : IsHeld files file program) → AreKeptInGames held.clocked →
+        node_among held.clocked name ≡ None → Outcome [] (no_node_line name) 1
+    -- the machine that is run for the node of this name passes a limit
+    chosen_too_large : {file node name : List ℕ} {o : Obc} (limit : Limit) → (chosen : AreChosen files file o) → AsksToRun words file node chosen.program → IsRunFor node name →
+        IsPassed o name limit → Outcome [] (executor_line limit) 1
     -- the program is accepted: each contract is kept, so no violation is ever forced in its game
     accepted : {file : List ℕ} {program : List Item} (print : Bool) → IsCheckOf words file print → (held : IsHeld files file program) → AreKeptInGames held.clocked →
         Outcome (put_events (accepted_text print program)) [] 0
@@ -182,6 +218,15 @@ module _ (words : List (List ℕ)) (files : Option Files) where
     compiled : {file out : List ℕ} {o : Obc} → IsCompileOf words file out → AreCompiled files file o → Outcome [] [] 0
     -- they could not be written
     not_written : {file out : List ℕ} {o : Obc} → IsCompileOf words file out → AreCompiled files file o → Outcome [] [] 5
+    -- the machines of a program with controllable variables were written
+    chosen_compiled : {file out : List ℕ} {o : Obc} → IsCompileOf words file out → (chosen : AreChosen files file o) → has_controls chosen.program ≡ true → Outcome [] [] 0
+    -- they could not be written
+    chosen_not_written : {file out : List ℕ} {o : Obc} → IsCompileOf words file out → (chosen : AreChosen files file o) → has_controls chosen.program ≡ true → Outcome [] [] 5
+    -- the summary of a sweep, a number for each task in each line, or the first bytes of it, where a put failed
+    swept : {tasks instants : ℕ} (text : List ℕ) → IsSweepOf words tasks instants → IsSummary tasks text → Outcome (put_events text) [] 0
+    swept_in_part : {tasks instants : ℕ} (text out rest : List ℕ) → IsSweepOf words tasks instants → IsSummary tasks text → out ++ rest ≡ text → Outcome (put_events out) [] 5
+    -- the machines of its program were not made. No sweep has shown this; that none does is not said here
+    not_swept : {tasks instants : ℕ} → IsSweepOf words tasks instants → Outcome [] not_built_line 1
     -- the input was read to its end, and each line answered
     done : {s : System} {log : List Event} → IsAskedFor words files s → InLockstep s log → has_ended log ≡ true → IsAnswer s (lines_of true (heard log)) (said log) →
         first_bad (inputs_of s) 1 (lines_of true (heard log)) ≡ None → Outcome log [] 0

@@ -69,7 +69,7 @@ fn node_in<'a>(item: &'a Item, name: &str) -> Option<&'a Node>
 }
 
 /// The node of this name.
-fn node_named<'a>(program: &'a Program, name: &str) -> Option<&'a Node>
+pub(crate) fn node_named<'a>(program: &'a Program, name: &str) -> Option<&'a Node>
     ensures { MatchOption result (node_among program.entry.now name.now ≡ None) (λ node. node_among program.entry.now name.now ≡ Some node.now) }
 {
     for item in &program.items {

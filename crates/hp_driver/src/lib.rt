@@ -2,6 +2,7 @@
 #![tactic(auto)]
 
 mod certificate;
+mod choosing;
 mod diagnostic;
 mod execution;
 mod follow;
@@ -12,6 +13,8 @@ mod report;
 mod run;
 mod source;
 mod status;
+mod sweep;
+mod telling;
 mod tool;
 mod trace_limits;
 mod words;

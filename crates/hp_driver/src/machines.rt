@@ -50,7 +50,7 @@ fn report_text<E: Sink>(alloc: Global, diag: &mut E, error: &ObcErr) -> Status
 }
 
 /// Reports that a machine passes a limit of what is executed.
-fn report_large<E: Sink>(alloc: Global, diag: &mut E, limit: Limit) -> Status
+pub(crate) fn report_large<E: Sink>(alloc: Global, diag: &mut E, limit: Limit) -> Status
     ensures reports { ReportsOrNot (E.took diag.old) (E.took diag.new) (executor_line limit) 1 (code_of result) }
     ensures faults { PutFaults (code_of result) (E.faults diag.old) (E.faults diag.new) }
 {

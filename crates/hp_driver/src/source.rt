@@ -15,6 +15,7 @@ ghost use Rattle.hp_driver.specs.Faults.{TakeFaults, PutFaults, BothPutFaults, W
 ghost use Rattle.hp_driver.specs.Happened.{Happened};
 ghost use Rattle.hp_driver.specs.Status.{code_of};
 
+use crate::choosing::{compile_choosing, run_choosing, tell_choosing};
 use crate::diagnostic::NOT_BUILT;
 use crate::follow::say;
 use crate::machines::run_machines;
@@ -165,7 +166,7 @@ fn run_ordered<C: Console, E: Sink>(
     }
 }
 
-/// Runs the machine of the node of this name, of a program whose contracts are kept and which has no controllable variables.
+/// Runs the node of this name, of a program, if its contracts are kept. Where the program has no controllable variables, its machine is the one that is proved to be the node's.
 fn run_decided<C: Console, E: Sink>(
     alloc: Global,
     program: &Program,
@@ -185,7 +186,7 @@ fn run_decided<C: Console, E: Sink>(
         return report_contract(alloc, diag, &error);
     }
     if has_controls(program) {
-        return report(diag, NOT_BUILT, Status::Refused);
+        return run_choosing(alloc, &ordered.program, node, console, diag);
     }
     run_ordered(alloc, ordered, node, console, diag)
 }
@@ -210,6 +211,48 @@ fn run_program<C: Console, E: Sink>(
     }
 }
 
+/// Runs the node of this name, and tells what its contract assumes and enforces, of a program whose contracts are kept.
+fn tell_decided<C: Console, E: Sink>(
+    alloc: Global,
+    program: &Program,
+    ordered: &Program,
+    node: &str,
+    console: &mut C,
+    diag: &mut E,
+) -> Status
+    ensures outcome { Happened (C.events console.old) (C.events console.new) (C.left console.old) (C.left console.new) (E.took diag.old) (E.took diag.new)
+        (λ log line. DecidedOutcome (Task.Tell node.entry) program.now ordered.now log line (code_of result)) }
+    ensures takes { TakeFaults (code_of result) (C.take_faults console.old) (C.take_faults console.new) }
+    ensures puts { BothPutFaults (code_of result) (C.put_faults console.old) (C.put_faults console.new) (E.faults diag.old) (E.faults diag.new) }
+{
+    // A law: what is found of contracts says so of their games.
+    outcomes_are_so();
+    if let Err(error) = decide(alloc, ordered) {
+        return report_contract(alloc, diag, &error);
+    }
+    tell_choosing(alloc, ordered, node, console, diag)
+}
+
+/// Runs the node of this name, in the program, on the trace that the console gives, and tells what its contract assumes and enforces.
+fn tell_program<C: Console, E: Sink>(
+    alloc: Global,
+    program: &Program,
+    node: &str,
+    console: &mut C,
+    diag: &mut E,
+) -> Status
+    requires { (text : List ℕ) × IsJudged text program.now }
+    ensures outcome { Happened (C.events console.old) (C.events console.new) (C.left console.old) (C.left console.new) (E.took diag.old) (E.took diag.new)
+        (λ log line. ProgramOutcome (Task.Tell node.entry) program.now log line (code_of result)) }
+    ensures takes { TakeFaults (code_of result) (C.take_faults console.old) (C.take_faults console.new) }
+    ensures puts { BothPutFaults (code_of result) (C.put_faults console.old) (C.put_faults console.new) (E.faults diag.old) (E.faults diag.new) }
+{
+    match arrange(alloc, program) {
+        Ok(ordered) => tell_decided(alloc, program, &ordered.program, node, console, diag),
+        Err(refusal) => report_refusal(alloc, diag, &refusal),
+    }
+}
+
 /// Writes a text to a file.
 pub(crate) fn write_text<F: Folder>(text: &[u8], out: &str, files: &mut F) -> Status
     ensures status { (code_of result ≡ 0) ⊎ (code_of result ≡ 5) ⊎ (code_of result ≡ 6) }
@@ -225,7 +268,12 @@ pub(crate) fn write_text<F: Folder>(text: &[u8], out: &str, files: &mut F) -> St
 }
 
 /// Writes the text of some machines to a file.
-fn write_machines<F: Folder>(alloc: Global, machines: &Obc, out: &str, files: &mut F) -> Status
+pub(crate) fn write_machines<F: Folder>(
+    alloc: Global,
+    machines: &Obc,
+    out: &str,
+    files: &mut F,
+) -> Status
     ensures status { (code_of result ≡ 0) ⊎ (code_of result ≡ 5) ⊎ (code_of result ≡ 6) }
     ensures leaves { WritesMachines machines.now out.now (F.files files.old) (F.files files.new) (code_of result) }
     ensures writes { WriteFaults out.now (code_of result) (F.write_faults files.old) (F.write_faults files.new) }
@@ -260,7 +308,7 @@ fn compile_ordered<F: Folder, E: Sink>(
     }
 }
 
-/// Writes the machines of a program to a file, if its contracts are kept and it has no controllable variables.
+/// Writes the machines of a program to a file, if its contracts are kept.
 fn compile_decided<F: Folder, E: Sink>(
     alloc: Global,
     program: &Program,
@@ -281,7 +329,7 @@ fn compile_decided<F: Folder, E: Sink>(
         return report_contract(alloc, diag, &error);
     }
     if has_controls(program) {
-        return report(diag, NOT_BUILT, Status::Refused);
+        return compile_choosing(alloc, &ordered.program, out, files, diag);
     }
     compile_ordered(alloc, ordered, out, files, diag)
 }
@@ -330,6 +378,7 @@ pub(crate) fn run_source<F: Folder, C: Console, E: Sink>(
     };
     match task {
         Task::Run { node } => run_program(alloc, &program, node, console, diag),
+        Task::Tell { node } => tell_program(alloc, &program, node, console, diag),
         Task::Check { print } => check_program(alloc, &program, print, console, diag),
         Task::Compile { out } => compile_program(alloc, &program, out, files, diag),
     }

@@ -5,6 +5,7 @@ ghost use Rattle.hp_io.specs.Faults.{Rose, Same, AllSame};
 ghost use Rattle.hp_io.specs.Reads.{Reading};
 ghost use Rattle.hp_io.specs.Told.{Grows};
 ghost use Rattle.hp_io.specs.declared.console.Event.{Event};
+ghost use Rattle.hp_driver.specs.Command.{IsSweepOf};
 ghost use Rattle.hp_driver.specs.Commanded.{Spells, file_of};
 ghost use Rattle.hp_driver.specs.GoodCalls.{AreCalm, IsGood, IsGoodCheck, IsGoodCompile, IsGoodProve, IsGoodRun, IsGoodVerify};
 ghost use Rattle.hp_driver.specs.Leaves.{Leaves, ReadRose, WriteRose};
@@ -22,7 +23,8 @@ use crate::refuse::report_too_long;
 use crate::report::report;
 use crate::source::run_source;
 use crate::status::Status;
-use crate::words::{Command, command_of};
+use crate::sweep::run_sweep;
+use crate::words::{Command, command_of, sweep_of};
 use hp_io::{Console, Folder, ReadErr, Sink};
 use std::alloc::Global;
 
@@ -58,14 +60,15 @@ fn run_text<F: Folder, C: Console, E: Sink>(
     }
 }
 
-/// Does what the words say.
-fn perform<F: Folder, C: Console, E: Sink>(
+/// Does what the words say, which ask for no sweep.
+fn perform_command<F: Folder, C: Console, E: Sink>(
     alloc: Global,
     words: &[String],
     files: &mut F,
     console: &mut C,
     diag: &mut E,
 ) -> Status
+    requires { (tasks instants : ℕ) → IsSweepOf (map string_bytes words.now) tasks instants → ⊥ }
     ensures { IsCall (map string_bytes words.now)
         (moment (F.files files.old) (F.reads files.old) (F.write_faults files.old) (C.events console.old) (C.left console.old)
         (C.take_faults console.old) (C.put_faults console.old) (E.took diag.old) (E.faults diag.old))
@@ -85,6 +88,30 @@ fn perform<F: Folder, C: Console, E: Sink>(
         Err(ReadErr::Failed) => Status::ReadFailed,
         Err(ReadErr::TooLong { .. }) => report_too_long(alloc, diag, command.limit()),
         Err(ReadErr::OutOfMemory) => Status::NoMemory,
+    }
+}
+
+/// Does what the words say.
+fn perform<F: Folder, C: Console, E: Sink>(
+    alloc: Global,
+    words: &[String],
+    files: &mut F,
+    console: &mut C,
+    diag: &mut E,
+) -> Status
+    ensures { IsCall (map string_bytes words.now)
+        (moment (F.files files.old) (F.reads files.old) (F.write_faults files.old) (C.events console.old) (C.left console.old)
+        (C.take_faults console.old) (C.put_faults console.old) (E.took diag.old) (E.faults diag.old))
+        (moment (F.files files.new) (F.reads files.new) (F.write_faults files.new) (C.events console.new) (C.left console.new)
+        (C.take_faults console.new) (C.put_faults console.new) (E.took diag.new) (E.faults diag.new))
+        (code_of result) }
+{
+    let Ok(swept) = sweep_of(alloc, words) else {
+        return Status::NoMemory;
+    };
+    match swept {
+        None => perform_command(alloc, words, files, console, diag),
+        Some(sweep) => run_sweep(alloc, sweep, console, diag),
     }
 }
 

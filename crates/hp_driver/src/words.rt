@@ -1,11 +1,12 @@
 //! The words of a call.
-ghost use Rattle.std.specs.Prelude.{◌≡◌, ◌↔◌, ℕ, List, [], ◌∷◌, map, take, IfOk, IsTrue, MatchOption};
+ghost use Rattle.std.specs.Prelude.{◌≡◌, ◌↔◌, ◌≤◌, ◌<◌, ◌⊎◌, ℕ, List, [], ◌∷◌, map, take, IfOk, IsTrue, MatchOption};
 ghost use Rattle.std.specs.String.{string_bytes};
-ghost use Rattle.hp_driver.specs.Command.{IsOnTraceBy, IsOnCertBy, IsPlainCheckOf, IsPrintOf, IsNoSourceCommand, IsNoCertCommand, IsNoCommand};
+ghost use Rattle.hp_driver.specs.Command.{IsOnTraceBy, IsOnCertBy, IsPlainCheckOf, IsPrintOf, IsNoSourceCommand, IsNoCertCommand, IsNoFileCommand, IsSweepOf, IsTellOf, SpellsNumber};
 ghost use Rattle.hp_driver.specs.Commanded.{SpellsTask, Spells, file_of, limit_of};
 
+use crate::sweep::Sweep;
 use hp_arguments::{one_argument, three_arguments, two_arguments};
-use hp_base::What;
+use hp_base::{What, is_digit_byte};
 use std::alloc::{AllocError, Global};
 
 const CHECK: &str = "check";
@@ -13,11 +14,23 @@ const CHECK: &str = "check";
 /// The option of `check` by which the canonical text is printed.
 const PRINT: &str = "--print";
 
+const RUN: &str = "run";
+
+/// The option of `run` by which the values of the assumption and the guarantee are told too.
+const CONTRACT: &str = "--contract";
+
+/// The most tasks and instants of a sweep.
+const MAX_TASKS: u64 = 8;
+
+const MAX_INSTANTS: u64 = 1_000_000;
+
 /// What is done with a source text.
 #[derive(Clone, Copy, Debug)]
 pub(crate) enum Task<'a> {
     /// `run FILE NODE`
     Run { node: &'a str },
+    /// `run FILE NODE --contract`
+    Tell { node: &'a str },
     /// `check FILE [--print]`
     Check { print: bool },
     /// `compile FILE OUT`
@@ -159,6 +172,34 @@ fn printing_check<'a>(alloc: Global, words: &'a [String]) -> Result<Option<&'a s
     Ok(None)
 }
 
+/// The words `run FILE NODE --contract`, the option anywhere behind `run`: the file and the name of the node.
+fn telling_run<'a>(
+    alloc: Global,
+    words: &'a [String],
+) -> Result<Option<(&'a str, &'a str)>, AllocError>
+    ensures { IfOk result (λ found. MatchOption found ((file node : List ℕ) → IsTellOf (map string_bytes words.entry.now) file node → ⊥)
+        (λ found. IsTellOf (map string_bytes words.entry.now) found.0.now found.1.now)) }
+{
+    let [command, first, second, third] = words else {
+        return Ok(None);
+    };
+    if command.as_str() != RUN {
+        return Ok(None);
+    }
+    if third.as_str() == CONTRACT {
+        return two_arguments(alloc, &words[..3]);
+    }
+    if second.as_str() == CONTRACT {
+        let file = one_argument(alloc, &words[..2])?;
+        let node = one_argument(alloc, &words[2..])?;
+        return Ok(file.zip(node));
+    }
+    if first.as_str() == CONTRACT {
+        return two_arguments(alloc, &words[1..]);
+    }
+    Ok(None)
+}
+
 /// What the words ask for, if they are of a command over a source text: the file and the task.
 fn source_command<'a>(
     alloc: Global,
@@ -167,8 +208,11 @@ fn source_command<'a>(
     ensures { IfOk result (λ found. MatchOption found (IsNoSourceCommand (map string_bytes words.entry.now))
         (λ found. SpellsTask (map string_bytes words.entry.now) found.0.now found.1)) }
 {
-    if let Some((file, node)) = command_with_two(alloc, "run", words)? {
+    if let Some((file, node)) = command_with_two(alloc, RUN, words)? {
         return Ok(Some((file, Task::Run { node })));
+    }
+    if let Some((file, node)) = telling_run(alloc, words)? {
+        return Ok(Some((file, Task::Tell { node })));
     }
     if let Some((file, out)) = command_with_two(alloc, "compile", words)? {
         return Ok(Some((file, Task::Compile { out })));
@@ -187,7 +231,7 @@ pub(crate) fn command_of<'a>(
     alloc: Global,
     words: &'a [String],
 ) -> Result<Option<Command<'a>>, AllocError>
-    ensures { IfOk result (λ found. MatchOption found (IsNoCommand (map string_bytes words.entry.now)) (λ command. Spells (map string_bytes words.entry.now) command)) }
+    ensures { IfOk result (λ found. MatchOption found (IsNoFileCommand (map string_bytes words.entry.now)) (λ command. Spells (map string_bytes words.entry.now) command)) }
 {
     if let Some((file, node)) = command_with_two(alloc, "exec", words)? {
         return Ok(Some(Command::Exec { file, node }));
@@ -199,4 +243,43 @@ pub(crate) fn command_of<'a>(
         return Ok(None);
     };
     Ok(Some(Command::Source { file, task }))
+}
+
+/// The number that a word spells in decimal digits, if it is at most this one.
+fn number_of(word: &str, most: u64) -> Option<u64>
+    requires { most < u64.MAX }
+    ensures { MatchOption result ((number : ℕ) → SpellsNumber word.now number → number ≤ most → ⊥) (λ number. SpellsNumber word.now number × (number ≤ most)) }
+{
+    let bytes = word.as_bytes();
+    if bytes.is_empty() {
+        return None;
+    }
+    let mut number: u64 = 0;
+    for i in 0..bytes.len() {
+        if !is_digit_byte(bytes[i]) {
+            return None;
+        }
+        let digit = u64::from(bytes[i] - b'0');
+        number = number.saturating_mul(10).saturating_add(digit);
+    }
+    if number <= most { Some(number) } else { None }
+}
+
+/// The words `sweep TASKS INSTANTS`.
+pub(crate) fn sweep_of(alloc: Global, words: &[String]) -> Result<Option<Sweep>, AllocError>
+    ensures { IfOk result (λ found. MatchOption found ((tasks instants : ℕ) → IsSweepOf (map string_bytes words.now) tasks instants → ⊥) (λ sweep. IsSweepOf (map string_bytes words.now) sweep.tasks sweep.instants)) }
+{
+    let Some((tasks, instants)) = command_with_two(alloc, "sweep", words)? else {
+        return Ok(None);
+    };
+    let Some(tasks) = number_of(tasks, MAX_TASKS) else {
+        return Ok(None);
+    };
+    let Some(instants) = number_of(instants, MAX_INSTANTS) else {
+        return Ok(None);
+    };
+    if tasks == 0 {
+        return Ok(None);
+    }
+    Ok(Some(Sweep { tasks, instants }))
 }

@@ -16,8 +16,9 @@ use hp_form::formed;
 use hp_obc::Obc;
 use hp_tree::Program;
 use node::machines_of;
+pub use node::regular_machine_of;
 use std::alloc::Global;
-use types::obc_types;
+pub use types::obc_types;
 
 /// The machines of a program with its clocks written and without inlined calls: one for each of its nodes, in order. Contracts are left out.
 pub fn machines(alloc: Global, program: Program) -> Result<Obc, MachineErr>

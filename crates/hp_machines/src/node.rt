@@ -65,7 +65,7 @@ fn giving(node: FlatNode) -> FlatNode
 }
 
 /// The machine of a node, whose equations are to be regular. For more equations or variables than names tell apart there is no memory.
-fn regular_machine_of(
+pub fn regular_machine_of(
     alloc: Global,
     node: FlatNode,
     types: &[ObcType],

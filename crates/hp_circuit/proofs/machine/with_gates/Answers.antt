@@ -8,6 +8,7 @@ use Rattle.hp_circuit.specs.Making.{place_at}
 use Rattle.hp_circuit.specs.Placing.{slot_gates, start_number}
 use Rattle.hp_circuit.proofs.EndLaws.{meant_of, machine_is}
 use Rattle.hp_circuit.proofs.PartLaws.{parts_of}
+use Rattle.hp_circuit.proofs.TellingLaws.{tells_of}
 use Rattle.hp_circuit.proofs.machine.with_gates.Goals as goal
 
 pub finished-requires : goal.finished-requires
@@ -30,5 +31,6 @@ returns c =
     let en : nexts ≡ joined (slot_gates starts) circuit.slots.items = c.in_ok-next.ensures ∙ ap (joined (slot_gates starts)) c.deref-3.ensures.value in
     let ev : (v : Bits) → at new v valid ≡ all_valid (start_number circuit.shapes.items old starts v) circuit.slots.items =
     λ v. c.in_ok-valid.ensures.value v ∙ ap₂ (λ (shapes : List Shape) (slots : List Slot). all_valid (start_number shapes old starts v) slots) c.deref-2.ensures.value c.deref.ensures.value in
-    machine_is c.args.name.now circuit c.requires.circuit c.args.steered.now c.requires.are_steered c.requires.assume c.requires.acyclic c.args.places.now c.args.counts new nexts valid hyp duty c.finished.result c.finished.ensures c.requires.counts c.requires.placed
+    machine_is c.args.name.now circuit c.requires.circuit c.args.steered.now c.requires.are_steered c.requires.assume c.requires.acyclic c.args.places.now c.args.counts new nexts valid hyp duty starts c.finished.result c.finished.ensures c.requires.counts c.requires.placed
     (meant_of circuit c.args.places.now starts old new c.requires.wired c.in_ok-valid.ensures.keeps c.requires.circuit nexts valid hyp duty en refl refl ev)
+    (tells_of circuit c.args.places.now starts old new c.requires.wired c.in_ok-valid.ensures.keeps c.requires.circuit)

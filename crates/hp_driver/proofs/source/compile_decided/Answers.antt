@@ -1,12 +1,9 @@
 use Rattle.std.proofs.Common.{◌≡◌, [], true, false, rules}
 use Rattle.hp_driver.specs.Controls.{has_controls}
-use Rattle.hp_driver.specs.Command.{not_built_line}
 use Rattle.hp_driver.specs.Diagnostics.{contract_line}
-use Rattle.hp_driver.specs.Follows.{DecidedOutcome}
 use Rattle.hp_driver.specs.declared.words.Task.TheVariants.{Compile}
-use Rattle.hp_driver.proofs.ContractLaws.{contract_told, decided_failed, ordered_compile, ordered_leaves, compile_not_yet}
-use Rattle.hp_driver.proofs.MachineLaws.{not_done, not_done_or_not, nothing_written}
-use Rattle.hp_driver.proofs.OutcomeLaws.{told_of}
+use Rattle.hp_driver.proofs.ContractLaws.{contract_told, choosing_compile, choosing_leaves, ordered_compile, ordered_leaves}
+use Rattle.hp_driver.proofs.MachineLaws.{not_done_or_not, nothing_written}
 use Rattle.hp_driver.specs.Status.{code_of}
 use Rattle.hp_driver.proofs.source.compile_decided.Goals as goal
 
@@ -24,17 +21,15 @@ returns-in-Err-clause-leaves g c = λ words file held same w.
 pub returns-then-has_controls-clause-outcome : goal.returns-then-has_controls-clause-outcome
 returns-then-has_controls-clause-outcome g c =
     let program = c.args.program.now in
-    let ordered = c.args.ordered.program in
-    let task = Compile c.args.out in
+    let done = c.compile_choosing.ensures.outcome in
     let some : has_controls program ≡ true = search rules in
-    let told = told_of (DecidedOutcome task program ordered []) (decided_failed task program ordered []) (g.E.Sink.took c.args.diag.now) (g.E.Sink.took c.report.new.diag)
-    not_built_line 1 (code_of c.report.result) c.report.ensures.reports (compile_not_yet c.outcomes_are_so.ensures program ordered c.in_default.ensures.kept some c.args.out) in
-    (told.0, told.1, told.2)
+    (done.0, done.1, choosing_compile c.outcomes_are_so.ensures program c.args.ordered.program c.in_default.ensures.kept some c.args.out done.0 (code_of c.compile_choosing.result) done.2)
 
 pub returns-then-has_controls-clause-leaves : goal.returns-then-has_controls-clause-leaves
-returns-then-has_controls-clause-leaves g c = λ words file held same w.
-    nothing_written words (g.F.Folder.files c.args.files.now) (code_of c.report.result)
-    (not_done (g.E.Sink.took c.args.diag.now) (g.E.Sink.took c.report.new.diag) not_built_line (code_of c.report.result) c.report.ensures.reports)
+returns-then-has_controls-clause-leaves g c =
+    let program = c.args.program.now in
+    let some : has_controls program ≡ true = search rules in
+    choosing_leaves c.outcomes_are_so.ensures program c.args.ordered.program c.in_default.ensures.kept some c.args.out.now (g.F.Folder.files c.args.files.now) (g.F.Folder.files c.compile_choosing.new.files) (code_of c.compile_choosing.result) c.compile_choosing.ensures.leaves
 
 pub returns-clause-outcome : goal.returns-clause-outcome
 returns-clause-outcome g c =

@@ -1,11 +1,8 @@
 use Rattle.std.proofs.Common.{◌≡◌, [], true, false, rules}
 use Rattle.hp_io.proofs.ToldLaws.{Grows-nil}
 use Rattle.hp_driver.specs.Controls.{has_controls}
-use Rattle.hp_driver.specs.Command.{not_built_line}
-use Rattle.hp_driver.specs.Follows.{DecidedOutcome}
 use Rattle.hp_driver.specs.declared.words.Task.TheVariants.{Run}
-use Rattle.hp_driver.proofs.ContractLaws.{contract_told, decided_failed, ordered_run, run_not_yet}
-use Rattle.hp_driver.proofs.OutcomeLaws.{told_of}
+use Rattle.hp_driver.proofs.ContractLaws.{contract_told, choosing_run, ordered_run}
 use Rattle.hp_driver.proofs.RanLaws.{heard_nothing}
 use Rattle.hp_driver.specs.Status.{code_of}
 use Rattle.hp_driver.proofs.source.run_decided.Goals as goal
@@ -19,12 +16,9 @@ returns-in-Err-clause-outcome g c =
 pub returns-then-has_controls-clause-outcome : goal.returns-then-has_controls-clause-outcome
 returns-then-has_controls-clause-outcome g c =
     let program = c.args.program.now in
-    let ordered = c.args.ordered.program in
-    let task = Run c.args.node in
+    let ran = c.run_choosing.ensures.outcome in
     let some : has_controls program ≡ true = search rules in
-    let told = told_of (DecidedOutcome task program ordered []) (decided_failed task program ordered []) (g.E.Sink.took c.args.diag.now) (g.E.Sink.took c.report.new.diag)
-    not_built_line 1 (code_of c.report.result) c.report.ensures.reports (run_not_yet c.outcomes_are_so.ensures program ordered c.in_default.ensures.kept some c.args.node) in
-    ([], told.0, Grows-nil (g.C.Console.events c.args.console.now), heard_nothing (g.C.Console.left c.args.console.now), told.1, told.2)
+    (ran.0, ran.1, ran.2, ran.3, ran.4, choosing_run c.outcomes_are_so.ensures program c.args.ordered.program c.in_default.ensures.kept some c.args.node ran.0 ran.1 (code_of c.run_choosing.result) ran.5)
 
 pub returns-clause-outcome : goal.returns-clause-outcome
 returns-clause-outcome g c =

@@ -3,7 +3,7 @@ use Rattle.hp_io.proofs.ToldLaws.{Grows-nil}
 use Rattle.hp_driver.specs.Diagnostics.{refusal_line}
 use Rattle.hp_driver.specs.Follows.{OutcomeOf}
 use Rattle.hp_driver.specs.Leaving.{LeavesBy}
-use Rattle.hp_driver.proofs.MachineLaws.{not_done_or_not, nothing_written, run_leaves, check_leaves}
+use Rattle.hp_driver.proofs.MachineLaws.{not_done_or_not, nothing_written, run_leaves, tell_leaves, check_leaves}
 use Rattle.hp_driver.proofs.RanLaws.{heard_nothing}
 use Rattle.hp_driver.proofs.OutcomeLaws.{refusal_told}
 use Rattle.hp_driver.specs.Status.{code_of}
@@ -36,6 +36,23 @@ pub returns-in-Run-clause-leaves : goal.returns-in-Run-clause-leaves
 returns-in-Run-clause-leaves g c =
     let files = g.F.Folder.files c.args.files.now in
     subst (λ task. LeavesBy task c.args.text.now files files (code_of c.run_program.result)) (sym c.in-Run.is) (λ words file w held. run_leaves words file c.in-Run.node.now files (code_of c.run_program.result) w)
+
+pub returns-in-Tell-clause-outcome : goal.returns-in-Tell-clause-outcome
+returns-in-Tell-clause-outcome g c =
+    let ran = c.tell_program.ensures.outcome in
+    let text = c.args.text.now in (
+      ran.0,
+      ran.1,
+      ran.2,
+      ran.3,
+      ran.4,
+      subst (λ task. OutcomeOf task text ran.0 ran.1 (code_of c.tell_program.result)) (sym c.in-Tell.is) (ran.5 text c.in-Ok.ensures.judged (λ other judged. sym (c.in-Ok.ensures.given other judged))),
+    )
+
+pub returns-in-Tell-clause-leaves : goal.returns-in-Tell-clause-leaves
+returns-in-Tell-clause-leaves g c =
+    let files = g.F.Folder.files c.args.files.now in
+    subst (λ task. LeavesBy task c.args.text.now files files (code_of c.tell_program.result)) (sym c.in-Tell.is) (λ words file w held. tell_leaves words file c.in-Tell.node.now files (code_of c.tell_program.result) w)
 
 pub returns-in-Check-clause-outcome : goal.returns-in-Check-clause-outcome
 returns-in-Check-clause-outcome g c =

@@ -9,14 +9,14 @@ pub returns-in-Ok-clause-eqns : goal.returns-in-Ok-clause-eqns
 unfolding sketch_of
 returns-in-Ok-clause-eqns c =
     let d = c.args.self.now in
-    let eqns = c.order.new.eqns in
-    let same : length eqns ≡ d.eqns.len = c.order.auto.eqns ∙ c.deref_mut.ensures.len in
+    let eqns = c.order_eqns.new.eqns in
+    let same : length eqns ≡ d.eqns.len = c.order_eqns.auto.eqns ∙ c.deref_mut.ensures.len in
     ap (map unplaced) (with_items_is d.eqns eqns same) ∙ c.in-Ok.ensures.same ∙ ap (map unplaced) c.deref_mut.ensures.value
 
 pub returns-in-Ok-clause-ranked : goal.returns-in-Ok-clause-ranked
 unfolding sketch_of
 returns-in-Ok-clause-ranked c =
     let d = c.args.self.now in
-    let eqns = c.order.new.eqns in
-    let same : length eqns ≡ d.eqns.len = c.order.auto.eqns ∙ c.deref_mut.ensures.len in
+    let eqns = c.order_eqns.new.eqns in
+    let same : length eqns ≡ d.eqns.len = c.order_eqns.auto.eqns ∙ c.deref_mut.ensures.len in
     subst IsRanked (sym (with_items_is d.eqns eqns same)) c.in-Ok.ensures.ranked

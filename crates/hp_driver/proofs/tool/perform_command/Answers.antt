@@ -16,7 +16,7 @@ use Rattle.hp_driver.proofs.MachineLaws.{no_command_leaves, not_done_or_not, rea
 use Rattle.hp_driver.proofs.ReadingLaws.{read_none, read_nothing, read_on}
 use Rattle.hp_driver.proofs.OutcomeLaws.{first_of, told_of, told_or_not, over_of, too_long_of}
 use Rattle.hp_driver.specs.Status.{code_of}
-use Rattle.hp_driver.proofs.tool.perform.Goals as goal
+use Rattle.hp_driver.proofs.tool.perform_command.Goals as goal
 
 pub returns-in_default : goal.returns-in_default
 returns-in_default g c =
@@ -34,7 +34,7 @@ returns-in_default-found g c =
     let words = map string_bytes c.args.words.now in
     let files = g.F.Folder.files c.args.files.now in
     let told = told_of (Outcome words files []) (λ line b rest status r. Outcome.line_failed line b rest r) (g.E.Sink.took c.args.diag.now) (g.E.Sink.took c.report.new.diag)
-    usage_line 2 (code_of c.report.result) c.report.ensures.reports (Outcome.usage (MatchOption-at_none _ _ c.in_default-found.is c.in-Ok.ensures)) in
+    usage_line 2 (code_of c.report.result) c.report.ensures.reports (Outcome.usage (MatchOption-at_none _ _ c.in_default-found.is c.in-Ok.ensures, c.requires)) in
     record {
       outcome = ([], told.0, Grows-nil (g.C.Console.events c.args.console.now), heard_nothing (g.C.Console.left c.args.console.now), told.1, told.2);
       leaves = no_command_leaves (map string_bytes c.args.words.now) (g.F.Folder.files c.args.files.now) (code_of c.report.result) (MatchOption-at_none _ _ c.in_default-found.is c.in-Ok.ensures);

@@ -3,7 +3,7 @@ use Rattle.hp_graph.specs.Graphs.{AreRanks}
 use Rattle.hp_circuit.specs.Forms.{IsCircuit}
 use Rattle.hp_circuit.specs.Ordering.{AreByRank, AreInOrder}
 use Rattle.hp_circuit.proofs.OrderLaws.{circuit_order, no_circle}
-use Rattle.hp_circuit.proofs.machine.machine_of.Goals as goal
+use Rattle.hp_circuit.proofs.machine.abstraction_of.Goals as goal
 
 pub built-requires-clause-order : goal.built-requires-clause-order
 built-requires-clause-order c =

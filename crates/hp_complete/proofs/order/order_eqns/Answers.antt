@@ -4,7 +4,7 @@ use Rattle.hp_graph.specs.Graphs.{IsSortedBy}
 use Rattle.hp_complete.specs.Edges.{edges_of, placed}
 use Rattle.hp_complete.specs.Ordering.{unplaced}
 use Rattle.hp_complete.proofs.OrderLaws.{ranked-placed, same-placed, circular-cycle}
-use Rattle.hp_complete.proofs.order.order.Goals as goal
+use Rattle.hp_complete.proofs.order.order_eqns.Goals as goal
 
 pub returns-in-Ranks-clause-same : goal.returns-in-Ranks-clause-same
 returns-in-Ranks-clause-same c =

@@ -1,0 +1,12 @@
+//! The machines of a program whose nodes choose the values of their controllable variables: automata are removed, nodes made clocked equations, controllers asked. Invariant: behind the controller of a contract stand its node and the node that tells what is assumed and enforced. Used by `hp_driver`.
+#![tactic(auto)]
+
+mod error;
+mod heading;
+mod machines;
+mod node;
+mod part;
+
+pub use error::ControlledErr;
+pub use heading::{is_chosen, is_told};
+pub use machines::controlled_machines;

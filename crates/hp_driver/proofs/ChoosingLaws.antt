@@ -1,0 +1,184 @@
+-- From how a machine that chooses was run, or refused, to what the call did.
+use Rattle.std.proofs.Common.{◌≡◌, ℕ, ◌⊎◌, inl, inr, true, List, [], ◌∷◌, ◌++◌, None, Some, refl, sym, ap, subst, ◌∙◌, arith}
+use Rattle.std.specs.Prelude.{codes, is_some, IsTrue, Option}
+use Rattle.hp_base.specs.declared.limit.Limit.{Limit}
+use Rattle.hp_io.specs.Events.{put_events}
+use Rattle.hp_io.specs.Files.{Files}
+use Rattle.hp_io.specs.Told.{Grows}
+use Rattle.hp_io.specs.declared.console.Event.{Event}
+use Rattle.hp_controlled.specs.Chosen.{AreControlledMachines, IsChosen, IsToldBy}
+use Rattle.hp_exec.specs.Answers.{Executes, IsPassed}
+use Rattle.hp_exec.specs.Executors.{Executor}
+use Rattle.hp_exec.specs.declared.error.ExecErr.{ExecErr}
+use Rattle.hp_exec.specs.declared.error.ExecErr.TheVariants.{Limit as Passed}
+use Rattle.hp_obc.specs.Machines.{Obc}
+use Rattle.hp_tree.specs.Meaning.{node_among}
+use Rattle.hp_tree.specs.Programs.{Node}
+use Rattle.hp_tree.specs.declared.program.Item.{Item}
+use Rattle.law_decided.specs.Outcomes.{AreKeptInGames}
+use Rattle.hp_driver.specs.Command.{IsRunOf, IsTellOf, IsCompileOf, IsSweepOf, IsSummary, not_built_line, no_node_line}
+use Rattle.hp_driver.specs.Controls.{has_controls}
+use Rattle.hp_driver.specs.Diagnostics.{executor_line}
+use Rattle.hp_driver.specs.Executing.{executing}
+use Rattle.hp_driver.specs.Follows.{Accepts, ChoosingCompile, ChoosingRun, ChoosingTell, ChosenOutcome, NodeRun, NodeTold, RefusedChosen, SweepOutcome}
+use Rattle.hp_driver.specs.Leaves.{Leaves, IsPrinted}
+use Rattle.hp_driver.specs.Leaving.{ChoosingLeaves, WritesMachines}
+use Rattle.hp_driver.specs.Outcome.{Outcome, IsHeld, AreChosen, AsksToChoose, AsksToRun, IsAskedFor, IsMachine}
+use Rattle.hp_driver.specs.Ran.{Ran, ReportsOrNot}
+use Rattle.hp_driver.specs.Systems.{System, of_machine, that_tells}
+use Rattle.hp_driver.specs.Teller.{teller, telling}
+use Rattle.hp_driver.specs.declared.telling.Ending.{Ending}
+use Rattle.hp_driver.specs.declared.telling.Ending.TheVariants.{Told, Kept}
+use Rattle.hp_driver.proofs.ExecutionLaws.{teller_says, teller_refuses}
+use Rattle.hp_driver.proofs.MachineLaws.{machine_of, machine_mirrors}
+use Rattle.hp_driver.proofs.OutcomeLaws.{Mirrors, outcome}
+
+-- ---- the machine is run
+
+teller_mirrors : (ending : Ending) (name : List ℕ) (o : Obc) (e : Executor) → Executes o name e → Mirrors telling (teller e ending) (that_tells ending o name)
+teller_mirrors ending name o e h = record { says = teller_says o name e h ending; refuses = teller_refuses o name e h ending }
+
+pub chosen_ran : (o : Obc) (name : List ℕ) (e : Executor) (log : List Event) (line : List ℕ) (status : ℕ) → Executes o name e → Ran executing e log line status → ChosenOutcome (of_machine o name) o name log line status
+chosen_ran o name e log line status h r words files asked passed not_built =
+    outcome executing e (of_machine o name) (machine_mirrors name o e h) words files (asked (machine_of name o e h)) log line status r
+
+pub told_ran : (ending : Ending) (o : Obc) (name : List ℕ) (e : Executor) (log : List Event) (line : List ℕ) (status : ℕ) → Executes o name e → Ran telling (teller e ending) log line status →
+    ChosenOutcome (that_tells ending o name) o name log line status
+told_ran ending o name e log line status h r words files asked passed not_built =
+    outcome telling (teller e ending) (that_tells ending o name) (teller_mirrors ending name o e h) words files (asked (machine_of name o e h)) log line status r
+
+pub chosen_memory : (s : System) (o : Obc) (name : List ℕ) → ChosenOutcome s o name [] [] 6
+chosen_memory s o name words files asked passed not_built = Outcome.no_memory
+
+-- ---- it is refused
+
+abbrev pub RefusedByAll : ExecErr → List ℕ → ℕ → Type 0
+RefusedByAll error line status = (name : List ℕ) → RefusedChosen name error line status
+
+pub refused_failed : (error : ExecErr) (line : List ℕ) (b : ℕ) (rest : List ℕ) (status : ℕ) → RefusedByAll error (line ++ b ∷ rest) status → RefusedByAll error line 5
+refused_failed error line b rest status f name s o h words files asked passed not_built = Outcome.line_failed line b rest (f name s o h words files asked passed not_built)
+
+pub refused_memory : (error : ExecErr) → RefusedByAll error [] 6
+refused_memory error name s o h words files asked passed not_built = Outcome.no_memory
+
+pub no_such : (error : ExecErr) → RefusedByAll error not_built_line 1
+no_such error name s o h words files asked passed not_built = not_built
+
+pub too_large : (limit : Limit) → RefusedByAll (Passed limit) (executor_line limit) 1
+too_large limit name s o h words files asked passed not_built = passed limit h
+
+-- ---- a node is run
+
+module _ (o : Obc) (n : Node) (name : List ℕ) where
+  pub node_failed : (log : List Event) (line : List ℕ) (b : ℕ) (rest : List ℕ) (status : ℕ) → NodeRun o n name log (line ++ b ∷ rest) status → NodeRun o n name log line 5
+  node_failed log line b rest status f words files file chosen some named w = Outcome.line_failed line b rest (f words files file chosen some named w)
+
+  pub node_not_built : NodeRun o n name [] not_built_line 1
+  node_not_built words files file chosen some named w = Outcome.not_built (AsksToChoose.to_run w some) chosen.held chosen.kept
+
+  pub node_ran : (log : List Event) (line : List ℕ) (status : ℕ) → IsChosen name o n → ChosenOutcome (of_machine o name) o name log line status → NodeRun o n name log line status
+  node_ran log line status is f words files file chosen some named w =
+      f words files (λ m. IsAskedFor.a_chosen_node n w chosen some named m is) (λ limit p. Outcome.chosen_too_large limit chosen (AsksToRun.to_run w some) (inl refl) p)
+      (Outcome.not_built (AsksToChoose.to_run w some) chosen.held chosen.kept)
+
+  pub told_failed : (log : List Event) (line : List ℕ) (b : ℕ) (rest : List ℕ) (status : ℕ) → NodeTold o n name log (line ++ b ∷ rest) status → NodeTold o n name log line 5
+  told_failed log line b rest status f words files file chosen named w = Outcome.line_failed line b rest (f words files file chosen named w)
+
+  pub told_not_built : NodeTold o n name [] not_built_line 1
+  told_not_built words files file chosen named w = Outcome.not_built (AsksToChoose.to_tell w) chosen.held chosen.kept
+
+  pub told_memory : NodeTold o n name [] [] 6
+  told_memory words files file chosen named w = Outcome.no_memory
+
+  pub plain_told : (log : List Event) (line : List ℕ) (status : ℕ) → n.contract ≡ None → IsChosen name o n → ChosenOutcome (that_tells Kept o name) o name log line status → NodeTold o n name log line status
+  plain_told log line status none is f words files file chosen named w =
+      f words files (λ m. IsAskedFor.no_contract n w chosen named none m is) (λ limit p. Outcome.chosen_too_large limit chosen (AsksToRun.to_tell w) (inl refl) p)
+      (Outcome.not_built (AsksToChoose.to_tell w) chosen.held chosen.kept)
+
+  pub contract_told : (log : List Event) (line : List ℕ) (status : ℕ) → IsTrue (is_some n.contract) → IsToldBy (name ++ codes "$contract") o n →
+      ChosenOutcome (that_tells Told o (name ++ codes "$contract")) o (name ++ codes "$contract") log line status → NodeTold o n name log line status
+  contract_told log line status some is f words files file chosen named w =
+      f words files (λ m. IsAskedFor.a_contract n w chosen named some m is) (λ limit p. Outcome.chosen_too_large limit chosen (AsksToRun.to_tell w) (inr refl) p)
+      (Outcome.not_built (AsksToChoose.to_tell w) chosen.held chosen.kept)
+
+-- ---- of an ordered program
+
+module _ (node : List ℕ) (ordered : List Item) where
+  pub run_failed : (log : List Event) (line : List ℕ) (b : ℕ) (rest : List ℕ) (status : ℕ) → ChoosingRun node ordered log (line ++ b ∷ rest) status → ChoosingRun node ordered log line 5
+  run_failed log line b rest status f words files file program held e some kept w = Outcome.line_failed line b rest (f words files file program held e some kept w)
+
+  pub run_memory : ChoosingRun node ordered [] [] 6
+  run_memory words files file program held e some kept w = Outcome.no_memory
+
+  pub run_not_built : ChoosingRun node ordered [] not_built_line 1
+  run_not_built words files file program held e some kept w = Outcome.not_built (AsksToChoose.to_run w some) held kept
+
+  pub run_no_node : node_among ordered node ≡ None → ChoosingRun node ordered [] (no_node_line node) 1
+  run_no_node none words files file program held e some kept w = Outcome.no_node_to_run (AsksToRun.to_run w some) held kept (ap (λ z. node_among z node) e ∙ none)
+
+  pub tell_failed : (log : List Event) (line : List ℕ) (b : ℕ) (rest : List ℕ) (status : ℕ) → ChoosingTell node ordered log (line ++ b ∷ rest) status → ChoosingTell node ordered log line 5
+  tell_failed log line b rest status f words files file program held e kept w = Outcome.line_failed line b rest (f words files file program held e kept w)
+
+  pub tell_memory : ChoosingTell node ordered [] [] 6
+  tell_memory words files file program held e kept w = Outcome.no_memory
+
+  pub tell_not_built : ChoosingTell node ordered [] not_built_line 1
+  tell_not_built words files file program held e kept w = Outcome.not_built (AsksToChoose.to_tell w) held kept
+
+  pub tell_no_node : node_among ordered node ≡ None → ChoosingTell node ordered [] (no_node_line node) 1
+  tell_no_node none words files file program held e kept w = Outcome.no_node_to_run (AsksToRun.to_tell w) held kept (ap (λ z. node_among z node) e ∙ none)
+
+  module _ (o : Obc) (machines : AreControlledMachines ordered o) where
+    abbrev chosen_of : (files : Option Files) (file : List ℕ) (program : List Item) (held : IsHeld files file program) → held.clocked ≡ ordered → AreKeptInGames held.clocked → AreChosen files file o
+    chosen_of files file program held e kept = record { program = program; held = held; kept = kept; machines = subst (λ (z : List Item). AreControlledMachines z o) (sym e) machines }
+
+    module _ (n : Node) (named : node_among ordered node ≡ Some n) (log : List Event) (line : List ℕ) (status : ℕ) where
+      pub choosing_ran : NodeRun o n node log line status → ChoosingRun node ordered log line status
+      choosing_ran f words files file program held e some kept w = f words files file (chosen_of files file program held e kept) some (ap (λ z. node_among z node) e ∙ named) w
+
+      pub choosing_told : NodeTold o n node log line status → ChoosingTell node ordered log line status
+      choosing_told f words files file program held e kept w = f words files file (chosen_of files file program held e kept) (ap (λ z. node_among z node) e ∙ named) w
+
+-- ---- machines are written
+
+module _ (out : List ℕ) (ordered : List Item) where
+  pub compile_failed : (line : List ℕ) (b : ℕ) (rest : List ℕ) (status : ℕ) → ChoosingCompile out ordered (line ++ b ∷ rest) status → ChoosingCompile out ordered line 5
+  compile_failed line b rest status f words files file program held e some kept w = Outcome.line_failed line b rest (f words files file program held e some kept w)
+
+  pub compile_memory : ChoosingCompile out ordered [] 6
+  compile_memory words files file program held e some kept w = Outcome.no_memory
+
+  pub compile_not_built : ChoosingCompile out ordered not_built_line 1
+  compile_not_built words files file program held e some kept w = Outcome.not_built (AsksToChoose.to_compile w some) held kept
+
+  module _ (o : Obc) (machines : AreControlledMachines ordered o) where
+    written_of : (files : Option Files) (file : List ℕ) (program : List Item) (held : IsHeld files file program) → held.clocked ≡ ordered → AreKeptInGames held.clocked → AreChosen files file o
+    written_of = chosen_of out ordered o machines
+
+    pub compiled : (status : ℕ) → (status ≡ 0) ⊎ (status ≡ 5) ⊎ (status ≡ 6) → ChoosingCompile out ordered [] status
+    compiled status (inl h) words files file program held e some kept w = subst (Outcome words files [] []) (sym h) (Outcome.chosen_compiled w (written_of files file program held e kept) some)
+    compiled status (inr (inl h)) words files file program held e some kept w = subst (Outcome words files [] []) (sym h) (Outcome.chosen_not_written w (written_of files file program held e kept) some)
+    compiled status (inr (inr h)) words files file program held e some kept w = subst (Outcome words files [] []) (sym h) Outcome.no_memory
+
+    pub compiled_leaves : (before after : Option Files) (status : ℕ) → WritesMachines o out before after status → ChoosingLeaves out ordered before after status
+    compiled_leaves before after status (WritesMachines.nothing same) words file program held e some kept w = Leaves.as_they_were same (λ y v h. omega (arith, h))
+    compiled_leaves before after status (WritesMachines.whole printed all) words file program held e some kept w = Leaves.chosen_written w (written_of before file program held e kept) some printed all
+    compiled_leaves before after status (WritesMachines.part why printed others this) words file program held e some kept w =
+        Leaves.chosen_in_part why w (written_of before file program held e kept) some printed others this
+
+-- ---- a sweep
+
+module _ (tasks instants : ℕ) where
+  pub sweep_failed : (line : List ℕ) (b : ℕ) (rest : List ℕ) (status : ℕ) → SweepOutcome tasks instants [] (line ++ b ∷ rest) status → SweepOutcome tasks instants [] line 5
+  sweep_failed line b rest status f words files w = Outcome.line_failed line b rest (f words files w)
+
+  pub sweep_not_built : SweepOutcome tasks instants [] not_built_line 1
+  sweep_not_built words files w = Outcome.not_swept w
+
+  pub sweep_memory : SweepOutcome tasks instants [] [] 6
+  sweep_memory words files w = Outcome.no_memory
+
+  pub swept : (text out : List ℕ) (status : ℕ) → IsSummary tasks text → Accepts text out status → SweepOutcome tasks instants (put_events out) [] status
+  swept text out status is Accepts.said words files w = Outcome.swept text w is
+  swept text out status is (Accepts.said_in_part said rest e) words files w = Outcome.swept_in_part text out rest w is e
+  swept text out status is Accepts.no_memory words files w = Outcome.no_memory

@@ -1,0 +1,18 @@
+use Rattle.std.proofs.Common.{[]}
+use Rattle.hp_io.proofs.ToldLaws.{Grows-nil}
+use Rattle.hp_driver.specs.declared.words.Task.TheVariants.{Tell}
+use Rattle.hp_driver.specs.Status.{code_of}
+use Rattle.hp_driver.proofs.ContractLaws.{contract_told, choosing_tell}
+use Rattle.hp_driver.proofs.RanLaws.{heard_nothing}
+use Rattle.hp_driver.proofs.source.tell_decided.Goals as goal
+
+pub returns-in-Err-clause-outcome : goal.returns-in-Err-clause-outcome
+returns-in-Err-clause-outcome g c =
+    let told = contract_told (Tell c.args.node) c.args.program.now c.args.ordered.now c.outcomes_are_so.ensures c.in-Err.error c.in-Err.ensures.plain c.in-Err.ensures.refused (g.E.Sink.took c.args.diag.now) (g.E.Sink.took c.report_contract.new.diag)
+    (code_of c.report_contract.result) c.report_contract.ensures.reports c.report_contract.ensures.no_memory in
+    ([], told.0, Grows-nil (g.C.Console.events c.args.console.now), heard_nothing (g.C.Console.left c.args.console.now), told.1, told.2)
+
+pub returns-clause-outcome : goal.returns-clause-outcome
+returns-clause-outcome g c =
+    let ran = c.tell_choosing.ensures.outcome in
+    (ran.0, ran.1, ran.2, ran.3, ran.4, choosing_tell c.outcomes_are_so.ensures c.args.program.now c.args.ordered.now c.in_default.ensures.kept c.args.node ran.0 ran.1 (code_of c.tell_choosing.result) ran.5)

@@ -1,0 +1,257 @@
+//! Programs whose nodes choose the values of their controllable variables: their machines are run on a trace, with or without the values of contracts, or written.
+ghost use Rattle.std.specs.Prelude.{◌≡◌, ◌≢◌, ◌++◌, ℕ, List, None, codes, is_some, IfOk, IsTrue};
+ghost use Rattle.std.specs.String.{string_bytes};
+ghost use Rattle.hp_io.specs.Reads.{NothingRead};
+ghost use Rattle.hp_io.specs.Told.{Grows};
+ghost use Rattle.hp_obc.specs.Form.{TypesForm};
+ghost use Rattle.hp_driver.specs.Faults.{TakeFaults, PutFaults, BothPutFaults, WriteOrPutFaults};
+ghost use Rattle.hp_driver.specs.Follows.{ChoosingCompile, ChoosingRun, ChoosingTell, ChosenOutcome, NodeRun, NodeTold, RefusedChosen};
+ghost use Rattle.hp_driver.specs.Happened.{Happened};
+ghost use Rattle.hp_driver.specs.Leaving.{ChoosingLeaves};
+ghost use Rattle.hp_driver.specs.Status.{code_of};
+ghost use Rattle.hp_driver.specs.Systems.{of_machine, that_tells};
+
+use crate::certificate::node_named;
+use crate::diagnostic::NOT_BUILT;
+use crate::execution::Execution;
+use crate::machines::report_large;
+use crate::refuse::report_no_node;
+use crate::report::report;
+use crate::run::run_trace;
+use crate::source::write_machines;
+use crate::status::Status;
+use crate::telling::{Ending, Telling};
+use hp_controlled::{ControlledErr, controlled_machines, is_chosen, is_told};
+use hp_exec::{Exec, ExecErr};
+use hp_io::{Console, Folder, Sink};
+use hp_obc::Obc;
+use hp_tree::{Node, Program};
+use std::alloc::{AllocError, Global};
+
+/// The name of the machine that also tells what the contract of a node assumes and enforces.
+fn contract_name(alloc: Global, node: &str) -> Result<String, AllocError>
+    ensures { IfOk result (λ name. string_bytes name ≡ node.now ++ codes "$contract") }
+{
+    let mut name = String::new(alloc);
+    name.push_str(node)?;
+    name.push_str("$contract")?;
+    Ok(name)
+}
+
+/// Reports why the machine of a node that the program has is not run, or that there is no memory.
+fn report_choosing<E: Sink>(alloc: Global, diag: &mut E, error: ExecErr) -> Status
+    ensures told { (line : List ℕ) × Grows (E.took diag.old) (E.took diag.new) line × ((name : List ℕ) → RefusedChosen name error line (code_of result)) }
+    ensures status { code_of result ≢ 4 }
+    ensures faults { PutFaults (code_of result) (E.faults diag.old) (E.faults diag.new) }
+{
+    match error {
+        ExecErr::NoNode => report(diag, NOT_BUILT, Status::Refused),
+        ExecErr::Limit(limit) => report_large(alloc, diag, limit),
+        ExecErr::OutOfMemory => Status::NoMemory,
+    }
+}
+
+/// Runs the machine of this name on the trace that the console gives.
+fn run_chosen<C: Console, E: Sink>(
+    alloc: Global,
+    machines: &Obc,
+    name: &str,
+    console: &mut C,
+    diag: &mut E,
+) -> Status
+    requires { TypesForm machines.now.types }
+    ensures outcome { Happened (C.events console.old) (C.events console.new) (C.left console.old) (C.left console.new) (E.took diag.old) (E.took diag.new)
+        (λ log line. ChosenOutcome (of_machine machines.now name.now) machines.now name.now log line (code_of result)) }
+    ensures takes { TakeFaults (code_of result) (C.take_faults console.old) (C.take_faults console.new) }
+    ensures puts { BothPutFaults (code_of result) (C.put_faults console.old) (C.put_faults console.new) (E.faults diag.old) (E.faults diag.new) }
+{
+    let exec = match Exec::new(alloc, machines, name) {
+        Ok(exec) => exec,
+        Err(error) => return report_choosing(alloc, diag, error),
+    };
+    let Ok(mut execution) = Execution::new(alloc, exec) else {
+        return Status::NoMemory;
+    };
+    run_trace(alloc, &mut execution, console, diag)
+}
+
+/// Runs the machine of this name on the trace, and tells behind its outputs what is assumed and enforced.
+fn tell_chosen<C: Console, E: Sink>(
+    alloc: Global,
+    machines: &Obc,
+    name: &str,
+    ending: Ending,
+    console: &mut C,
+    diag: &mut E,
+) -> Status
+    requires { TypesForm machines.now.types }
+    ensures outcome { Happened (C.events console.old) (C.events console.new) (C.left console.old) (C.left console.new) (E.took diag.old) (E.took diag.new)
+        (λ log line. ChosenOutcome (that_tells ending machines.now name.now) machines.now name.now log line (code_of result)) }
+    ensures takes { TakeFaults (code_of result) (C.take_faults console.old) (C.take_faults console.new) }
+    ensures puts { BothPutFaults (code_of result) (C.put_faults console.old) (C.put_faults console.new) (E.faults diag.old) (E.faults diag.new) }
+{
+    let exec = match Exec::new(alloc, machines, name) {
+        Ok(exec) => exec,
+        Err(error) => return report_choosing(alloc, diag, error),
+    };
+    let Ok(mut telling) = Telling::new(alloc, exec, ending) else {
+        return Status::NoMemory;
+    };
+    run_trace(alloc, &mut telling, console, diag)
+}
+
+/// Runs the machine of a node, if it has the inputs and outputs of the node.
+fn run_node<C: Console, E: Sink>(
+    alloc: Global,
+    machines: &Obc,
+    node: &Node,
+    name: &str,
+    console: &mut C,
+    diag: &mut E,
+) -> Status
+    requires { TypesForm machines.now.types }
+    ensures outcome { Happened (C.events console.old) (C.events console.new) (C.left console.old) (C.left console.new) (E.took diag.old) (E.took diag.new)
+        (λ log line. NodeRun machines.now node.now name.now log line (code_of result)) }
+    ensures takes { TakeFaults (code_of result) (C.take_faults console.old) (C.take_faults console.new) }
+    ensures puts { BothPutFaults (code_of result) (C.put_faults console.old) (C.put_faults console.new) (E.faults diag.old) (E.faults diag.new) }
+{
+    if !is_chosen(machines, name, node) {
+        return report(diag, NOT_BUILT, Status::Refused);
+    }
+    run_chosen(alloc, machines, name, console, diag)
+}
+
+/// Runs the node of this name, of an ordered program whose contracts are kept, on the trace that the console gives.
+pub(crate) fn run_choosing<C: Console, E: Sink>(
+    alloc: Global,
+    ordered: &Program,
+    node: &str,
+    console: &mut C,
+    diag: &mut E,
+) -> Status
+    ensures outcome { Happened (C.events console.old) (C.events console.new) (C.left console.old) (C.left console.new) (E.took diag.old) (E.took diag.new)
+        (λ log line. ChoosingRun node.now ordered.now log line (code_of result)) }
+    ensures takes { TakeFaults (code_of result) (C.take_faults console.old) (C.take_faults console.new) }
+    ensures puts { BothPutFaults (code_of result) (C.put_faults console.old) (C.put_faults console.new) (E.faults diag.old) (E.faults diag.new) }
+{
+    let Some(found) = node_named(ordered, node) else {
+        return report_no_node(alloc, diag, node);
+    };
+    match controlled_machines(alloc, ordered) {
+        Ok(machines) => run_node(alloc, &machines, found, node, console, diag),
+        Err(ControlledErr::NotBuilt) => report(diag, NOT_BUILT, Status::Refused),
+        Err(ControlledErr::OutOfMemory) => Status::NoMemory,
+    }
+}
+
+/// Runs the node, which has no contract, on the trace, and tells behind its outputs that what it assumes and enforces is true.
+fn tell_plain<C: Console, E: Sink>(
+    alloc: Global,
+    machines: &Obc,
+    node: &Node,
+    name: &str,
+    console: &mut C,
+    diag: &mut E,
+) -> Status
+    requires form { TypesForm machines.now.types }
+    requires none { node.now.contract ≡ None }
+    ensures outcome { Happened (C.events console.old) (C.events console.new) (C.left console.old) (C.left console.new) (E.took diag.old) (E.took diag.new)
+        (λ log line. NodeTold machines.now node.now name.now log line (code_of result)) }
+    ensures takes { TakeFaults (code_of result) (C.take_faults console.old) (C.take_faults console.new) }
+    ensures puts { BothPutFaults (code_of result) (C.put_faults console.old) (C.put_faults console.new) (E.faults diag.old) (E.faults diag.new) }
+{
+    if !is_chosen(machines, name, node) {
+        return report(diag, NOT_BUILT, Status::Refused);
+    }
+    tell_chosen(alloc, machines, name, Ending::Kept, console, diag)
+}
+
+/// Runs the node, which has a contract, on the trace, and tells behind its outputs what that assumes and enforces.
+fn tell_contract<C: Console, E: Sink>(
+    alloc: Global,
+    machines: &Obc,
+    node: &Node,
+    name: &str,
+    console: &mut C,
+    diag: &mut E,
+) -> Status
+    requires form { TypesForm machines.now.types }
+    requires some { IsTrue (is_some node.now.contract) }
+    ensures outcome { Happened (C.events console.old) (C.events console.new) (C.left console.old) (C.left console.new) (E.took diag.old) (E.took diag.new)
+        (λ log line. NodeTold machines.now node.now name.now log line (code_of result)) }
+    ensures takes { TakeFaults (code_of result) (C.take_faults console.old) (C.take_faults console.new) }
+    ensures puts { BothPutFaults (code_of result) (C.put_faults console.old) (C.put_faults console.new) (E.faults diag.old) (E.faults diag.new) }
+{
+    let Ok(told) = contract_name(alloc, name) else {
+        return Status::NoMemory;
+    };
+    if !is_told(machines, told.as_str(), node) {
+        return report(diag, NOT_BUILT, Status::Refused);
+    }
+    tell_chosen(alloc, machines, told.as_str(), Ending::Told, console, diag)
+}
+
+/// Runs the node on the trace, and tells behind its outputs what its contract assumes and enforces: true for both where it has none.
+fn tell_node<C: Console, E: Sink>(
+    alloc: Global,
+    machines: &Obc,
+    node: &Node,
+    name: &str,
+    console: &mut C,
+    diag: &mut E,
+) -> Status
+    requires { TypesForm machines.now.types }
+    ensures outcome { Happened (C.events console.old) (C.events console.new) (C.left console.old) (C.left console.new) (E.took diag.old) (E.took diag.new)
+        (λ log line. NodeTold machines.now node.now name.now log line (code_of result)) }
+    ensures takes { TakeFaults (code_of result) (C.take_faults console.old) (C.take_faults console.new) }
+    ensures puts { BothPutFaults (code_of result) (C.put_faults console.old) (C.put_faults console.new) (E.faults diag.old) (E.faults diag.new) }
+{
+    match &node.contract {
+        None => tell_plain(alloc, machines, node, name, console, diag),
+        Some(_) => tell_contract(alloc, machines, node, name, console, diag),
+    }
+}
+
+/// Runs the node of this name, of an ordered program whose contracts are kept, on the trace, and tells behind its outputs what its contract assumes and enforces.
+pub(crate) fn tell_choosing<C: Console, E: Sink>(
+    alloc: Global,
+    ordered: &Program,
+    name: &str,
+    console: &mut C,
+    diag: &mut E,
+) -> Status
+    ensures outcome { Happened (C.events console.old) (C.events console.new) (C.left console.old) (C.left console.new) (E.took diag.old) (E.took diag.new)
+        (λ log line. ChoosingTell name.now ordered.now log line (code_of result)) }
+    ensures takes { TakeFaults (code_of result) (C.take_faults console.old) (C.take_faults console.new) }
+    ensures puts { BothPutFaults (code_of result) (C.put_faults console.old) (C.put_faults console.new) (E.faults diag.old) (E.faults diag.new) }
+{
+    let Some(node) = node_named(ordered, name) else {
+        return report_no_node(alloc, diag, name);
+    };
+    match controlled_machines(alloc, ordered) {
+        Ok(machines) => tell_node(alloc, &machines, node, name, console, diag),
+        Err(ControlledErr::NotBuilt) => report(diag, NOT_BUILT, Status::Refused),
+        Err(ControlledErr::OutOfMemory) => Status::NoMemory,
+    }
+}
+
+/// Writes the machines of an ordered program whose contracts are kept to a file.
+pub(crate) fn compile_choosing<F: Folder, E: Sink>(
+    alloc: Global,
+    ordered: &Program,
+    out: &str,
+    files: &mut F,
+    diag: &mut E,
+) -> Status
+    ensures outcome { (line : List ℕ) × Grows (E.took diag.old) (E.took diag.new) line × ChoosingCompile out.now ordered.now line (code_of result) }
+    ensures leaves { ChoosingLeaves out.now ordered.now (F.files files.old) (F.files files.new) (code_of result) }
+    ensures status { code_of result ≢ 4 }
+    ensures reads { NothingRead (F.reads files.old) (F.reads files.new) }
+    ensures writes { WriteOrPutFaults out.now (code_of result) (F.write_faults files.old) (F.write_faults files.new) (E.faults diag.old) (E.faults diag.new) }
+{
+    match controlled_machines(alloc, ordered) {
+        Ok(machines) => write_machines(alloc, &machines, out, files),
+        Err(ControlledErr::NotBuilt) => report(diag, NOT_BUILT, Status::Refused),
+        Err(ControlledErr::OutOfMemory) => Status::NoMemory,
+    }
+}
