@@ -1,5 +1,5 @@
 #!/usr/bin/env python3
-"""Libraries for a day's work, where the kit's rt proves one crate at a time and keeps nothing between clones. Run it at the top of a clone.
+"""Libraries for several clones, where the kit's rt proves one crate at a time and keeps nothing between clones. Run it at the top of a clone.
 
 libraries.py build LANES CRATE..   proves and builds, as the gate does, each library at or below these that is not built of its sources: so many at once, those with the
                                    longest chain above them first; a program is checked. A log of each stands in /tmp/libraries/CRATE
