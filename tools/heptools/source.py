@@ -1,0 +1,127 @@
+"""A source text as people see it: its lines, the tokens at a place, and what an equation holds."""
+import re
+import unicodedata
+
+TOKEN = re.compile(rb'[A-Za-z_][A-Za-z0-9_]*|[0-9]+|<=|>=|<>|->|=>|&&|\|\||\S')
+# what ends the equation that stands at a place
+ENDS = {b'tel', b'end', b'until', b'unless', b'every', b'state', b'|', b'else', b'enforce', b'with', b'let', b'var'}
+
+
+class Source:
+    """The bytes of a file; lines and columns count from 1, columns in bytes."""
+
+    def __init__(self, path, text):
+        self.path, self.text = path, text
+        self.lines = text.split(b'\n')
+
+    def line(self, number):
+        return self.lines[number - 1] if 0 < number <= len(self.lines) else b''
+
+    def offset(self, line, column):
+        return sum(len(it) + 1 for it in self.lines[:line - 1]) + column - 1
+
+    def token(self, line, column):
+        """The token that begins at the place; none at the end of a line."""
+        found = TOKEN.match(self.line(line), max(column - 1, 0))
+        return found.group().decode('latin-1') if found else ''
+
+    def before(self, line, column):
+        """The token before the place, in the text without its comments."""
+        last = None
+        for last in tokens(self.text[:self.offset(line, column)]):
+            pass
+        return last[0].decode('latin-1') if last else ''
+
+    def is_end(self, line, column):
+        """Whether nothing but blanks stands from the place on."""
+        return not self.text[self.offset(line, column):].strip()
+
+    def rest(self, line, column):
+        """The tokens of the equation at the place, each with its line and column."""
+        found, deep, start = [], 0, self.offset(line, column)
+        for word, at in tokens(self.text[start:start + 20000]):
+            deep += (word == b'(') - (word == b')')
+            if deep < 0 or (deep == 0 and found and (word == b';' or word in ENDS)):
+                break
+            found.append((word.decode('latin-1'), *self.place(start + at)))
+        return found
+
+    def place(self, offset):
+        """The line and the column of a byte."""
+        before = self.text[:offset]
+        return before.count(b'\n') + 1, offset - (before.rfind(b'\n') + 1) + 1
+
+    def heading(self, node):
+        """The tokens of the text from the word `node` of this node on, each with its offset."""
+        found = list(tokens(self.text))
+        for i in range(len(found) - 1):
+            if found[i][0] in (b'node', b'machine') and found[i + 1][0] == node.encode('latin-1', 'replace'):
+                return found[i:]
+        return []
+
+    def contract(self, node):
+        """The place of the words of the node's contract: that of `enforce`, else of `contract`, if it has one."""
+        place = None
+        for word, at in self.heading(node)[1:]:
+            if word == b'contract':
+                place = at
+            elif word == b'enforce':
+                return self.place(at)
+            elif word == b'node' or word == b'with' or (word in (b'let', b'var') and place is None):
+                break
+        return None if place is None else self.place(place)
+
+    def nodes(self):
+        """The names of the nodes, or of the machines of a text of machines."""
+        found = [word for word, _ in tokens(self.text)]
+        return [found[i + 1].decode('latin-1') for i in range(len(found) - 1)
+                if found[i] in (b'node', b'machine') and re.fullmatch(rb'[a-z]\w*', found[i + 1])]
+
+    def shown(self, line, column, width):
+        """The line as it is shown, the columns before the place and the columns of the part at it."""
+        text = self.line(line)
+        before, part = text[:column - 1], text[column - 1:column - 1 + width]
+        return visible(text), columns(visible(before)), max(columns(visible(part)), 1)
+
+
+def read_source(path):
+    with open(path, 'rb') as file:
+        return Source(path, file.read(70_000_000))
+
+
+def tokens(text):
+    """The tokens of a text with their offsets; comments are left out, and one that does not end is the last token."""
+    at = 0
+    while True:
+        found = re.compile(rb'\(\*|' + TOKEN.pattern).search(text, at)
+        if found is None:
+            return
+        if found.group() == b'(*':
+            at = comment_end(text, found.start())
+            if at is None:
+                yield b'(*', found.start()
+                return
+        else:
+            yield found.group(), found.start()
+            at = found.end()
+
+
+def comment_end(text, start):
+    """The offset behind the comment that begins here, if it ends."""
+    deep = 0
+    for found in re.compile(rb'\(\*|\*\)').finditer(text, start):
+        deep += 1 if found.group() == b'(*' else -1
+        if deep == 0:
+            return found.end()
+    return None
+
+
+def visible(text):
+    """Bytes as text that shows on any terminal: a blank for a tab, a mark for what does not print."""
+    return ''.join(c if c.isprintable() else ' ' if c == '\t' else '\N{REPLACEMENT CHARACTER}'
+                   for c in text.rstrip(b'\r').decode('utf-8', 'replace'))
+
+
+def columns(text):
+    """How many columns of a terminal the text takes."""
+    return sum(0 if unicodedata.combining(c) else 2 if unicodedata.east_asian_width(c) in 'WF' else 1 for c in text)
