@@ -62,8 +62,7 @@ def all_runs(inputs, instants):
     if line_count(inputs, min(instants, 64)) > MOST_LINES:
         raise Wrong(f'that is more than {MOST_LINES} lines of input: take fewer --instants, or no --all', 2)
     lines = list(itertools.product(*(values_of(it) for it in inputs)))
-    for length in range(1, instants + 1):
-        yield from itertools.product(lines, repeat=length)
+    return itertools.chain.from_iterable(itertools.product(lines, repeat=length) for length in range(1, instants + 1))
 
 
 def most_instants(inputs, lines=200_000):

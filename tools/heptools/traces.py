@@ -80,7 +80,7 @@ def feed(stream, sink, blocks, stopped):
                 break
     except BrokenPipeError:
         pass
-    except (OSError, ValueError) as error:
+    except Exception as error:
         blocks.put(error)
     finally:
         try:
