@@ -73,8 +73,9 @@ def name_feature(data, it, source):
     elif it.entry.code == 'E1':
         name_bad_token(it, word)
     elif it.entry.code == 'E2' and word in data.keywords:
-        it.title = f'`{word}` is a keyword: {data.keywords[word]}'
-        it.cure = f'Where a name is meant, choose another. Else: {it.cure[0].lower()}{it.cure[1:]}'
+        it.title = f'`{word}` is a keyword, and stands where none may'
+        it.cause = f'`{word}`: {data.keywords[word]}.'
+        it.cure = 'Where a name is meant, choose another. Else something before it is missing or too many: a `;`, an operand, an `end`.'
     elif it.entry.code == 'E2' and source.is_end(line, column):
         it.title, it.cause, it.cure = 'the text ends too early', '', 'Is a `tel` or an `end` missing, or a token after the last one?'
 
@@ -195,8 +196,8 @@ def cut(text, before):
 
 def lines_of(it, source):
     """All lines that are shown."""
-    lines = [*wrapped(f'error[{it.entry.code.rstrip(":")}]: ', it.title)]
-    lines += shown_marks(it, source)
+    # editors read the title and the first place, so each is one line
+    lines = [f'error[{it.entry.code.rstrip(":")}]: {it.title}', *shown_marks(it, source)]
     if it.cause:
         lines += wrapped('  = cause: ', it.cause)
     if it.cure:
