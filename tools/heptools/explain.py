@@ -58,9 +58,18 @@ def look_closer(data, it, source):
         place = source.contract(it.words['NODE'])
         if place:
             it.marks.append((*place, None, 'this contract'))
+    elif code == 'E3' and not it.marks:
+        mark_node(it, source)
     elif code == 'E12':
         names = source.nodes()
         it.cure = f'There are: {", ".join(names[:40])}.' if names else 'There are none.'
+
+
+def mark_node(it, source):
+    """Marks the name of the node that passes a limit."""
+    heading = source.heading(it.words.get('WHERE', '-'))
+    if heading:
+        it.marks.append((*source.place(heading[1][1]), None, ''))
 
 
 def name_feature(data, it, source):
@@ -91,26 +100,38 @@ def missing_of(data, code, word, source, line, column):
     """What other languages have at this place, the entry that says most of it."""
     before = source.before(line, column)
     text = source.line(line).decode('latin-1')
-    found = [(fit(it, code, word, before, text, column), it) for it in data.missing]
+    found = [(max(fit_sign(it, text, column), fit(it, code, word, before)), it) for it in data.missing if is_within(it, before)]
     best = max(found, key=lambda it: it[0], default=(0, None))
     return best[1] if best[0] else None
 
 
-def fit(missing, code, word, before, text, column):
-    """How well what is missing fits the place: 0 where it does not."""
-    at, after = missing.get('at', []), missing.get('after', [])
-    signs = [it for it in at if len(it) > 1 and not it[0].isalnum()]
-    if any(text.startswith(it, column - 1) or text.startswith(it, column - 2) for it in signs):
-        return 4
+def is_within(missing, before):
+    """Whether the part of the text that the place is in begins as the entry says."""
+    if 'within' not in missing:
+        return True
+    begins = next((it for it in reversed(before) if it in ('until', 'unless', ';', '=', 'do', 'let', 'tel', 'end')), '')
+    return begins in missing['within']
+
+
+def fit_sign(missing, text, column):
+    """How well a sign of the entry fits the place, or stands before it on the line as that of a comment may: 0 where it does not."""
+    signs = [it for it in missing.get('at', []) if len(it) > 1 and not it[0].isalnum() and it != '->']
     if any(it in text[:column] for it in signs if it in ('--', '//', '/*')):
         return 5
+    return 4 if any(text.startswith(it, column - 1) or text.startswith(it, column - 2) for it in signs) else 0
+
+
+def fit(missing, code, word, before):
+    """How well the words of the entry fit the place: 0 where they do not."""
     if code != missing['line'].split()[0]:
         return 0
-    is_at = word in at or ('Capital' in at and word[:1].isupper())
+    at, after = missing.get('at', []), missing.get('after', [])
+    is_at = word in at or ('Capital' in at and word[:1].isupper()) or ('_' in at and word[:1] == '_')
+    is_after = bool(before) and before[-1] in after
     if at and after:
-        return 3 if is_at and before in after else 0
+        return 3 if is_at and is_after else 0
     if after:
-        return 2 if before in after else 0
+        return 2 if is_after else 0
     return 1 if is_at else 0
 
 

@@ -38,7 +38,7 @@ def told(status, diagnostics):
     """In one line why a call of hept ended so."""
     lines = diagnostics.decode('utf-8', 'replace').split('\n')
     first = next((line for line in lines if line), 'nothing was said')
-    return f'hept ended with status {status}: {first}'
+    return f'hept ended with status {status}: {first.removeprefix("hept: ")}'
 
 
 def call(words, text=b''):

@@ -1,4 +1,5 @@
 """A source text as people see it: its lines, the tokens at a place, and what an equation holds."""
+import collections
 import re
 import unicodedata
 
@@ -26,11 +27,9 @@ class Source:
         return found.group().decode('latin-1') if found else ''
 
     def before(self, line, column):
-        """The token before the place, in the text without its comments."""
-        last = None
-        for last in tokens(self.text[:self.offset(line, column)]):
-            pass
-        return last[0].decode('latin-1') if last else ''
+        """The tokens before the place, the last thousand, in the text without its comments."""
+        found = collections.deque(tokens(self.text[:self.offset(line, column)]), 1000)
+        return [word.decode('latin-1') for word, _ in found]
 
     def is_end(self, line, column):
         """Whether nothing but blanks stands from the place on."""
