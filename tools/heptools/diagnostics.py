@@ -23,7 +23,8 @@ class Entry:
         self.data = data
         self.code, self.word = data['code'], data.get('word', '')
         parts = [f'(?P<{part}>{WORDS[part]})' if part in WORDS else re.escape(part) for part in data['form'].split(' ')]
-        self.pattern = re.compile(' '.join(parts))
+        # the node of E12 is a word of the call, and may be any text
+        self.pattern = re.compile(r'E12 (?P<NAME>.*)' if self.code == 'E12' else ' '.join(parts))
 
     def filled(self, text, words):
         """The text with the words of the line in it."""

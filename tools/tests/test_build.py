@@ -2,9 +2,11 @@
 import json
 import os
 import shutil
+import signal
 import stat
 import subprocess
 import tempfile
+import time
 import unittest
 
 from . import TOOLS, TOP, program
@@ -89,6 +91,25 @@ class Repository(unittest.TestCase):
         self.assertEqual(self.run_in('./hept', 'x').stdout, 'x\n')
         with open(f'{self.top}/crates/hp_main/out/built.json') as file:
             self.assertEqual(sorted(json.load(file)['sources']), ['hp_low', 'hp_main'])
+
+    def test_who_stops_it_stops_what_it_started(self):
+        with open(f'{self.bin}/rt', 'w') as file:
+            file.write('#!/bin/sh\necho $$ >"$(dirname "$0")/number"\npwd >"$(dirname "$0")/room"\nexec sleep 100\n')
+        started = subprocess.Popen([f'{self.top}/build'], stderr=subprocess.PIPE, text=True, env={**os.environ, 'PATH': f'{self.bin}:{os.environ["PATH"]}', 'PYTHONDONTWRITEBYTECODE': '1'})
+        self.until(lambda: os.path.exists(f'{self.bin}/room') and os.path.getsize(f'{self.bin}/room'))
+        started.send_signal(signal.SIGTERM)
+        told = started.communicate(timeout=30)[1]
+        self.assertEqual((started.returncode, told.split('\n')[-2]), (130, 'hept: stopped'))
+        with open(f'{self.bin}/number') as number, open(f'{self.bin}/room') as room:
+            self.assertFalse(os.path.exists(f'/proc/{number.read().strip()}'))
+            self.assertFalse(os.path.exists(room.read().strip()))
+
+    def until(self, holds):
+        for _ in range(600):
+            if holds():
+                return
+            time.sleep(0.05)
+        self.fail('waited for half a minute')
 
     def test_without_the_kit_or_with_wrong_words(self):
         os.remove(f'{self.bin}/rt')
