@@ -143,14 +143,8 @@ def names_of(found):
 
 def defined(source, node, name):
     """The tokens of the equation of this name in the node."""
-    found = source.heading(node)
-    for i in range(2, len(found) - 1):
-        if found[i][0] == b'node':
-            return []
-        is_first = found[i - 1][0] in (b';', b'let', b'do', b'in', b'reset', b'then', b'else')
-        if is_first and found[i][0] == name.encode() and found[i + 1][0] == b'=':
-            return source.rest(*source.place(found[i][1]))
-    return []
+    at = source.definitions(node).get(name)
+    return [] if at is None else source.rest(*source.place(at))
 
 
 def mark_sampled(it, source):

@@ -1,10 +1,14 @@
 """A source text as people see it: its lines, the tokens at a place, and what an equation holds."""
+import bisect
 import collections
 import re
 import unicodedata
 
 TOKEN = re.compile(rb'[A-Za-z_][A-Za-z0-9_]*|[0-9]+|<=|>=|<>|->|=>|&&|\|\||\S')
-# what ends the equation that stands at a place
+TOKEN_OR_COMMENT = re.compile(rb'\(\*|' + TOKEN.pattern)
+COMMENT_SIGN = re.compile(rb'\(\*|\*\)')
+# what stands before an equation, and what ends the one that stands at a place
+FIRST = {b';', b'let', b'do', b'in', b'reset', b'then', b'else'}
 ENDS = {b'tel', b'end', b'until', b'unless', b'every', b'state', b'|', b'else', b'enforce', b'with', b'let', b'var'}
 
 
@@ -13,13 +17,28 @@ class Source:
 
     def __init__(self, path, text):
         self.path, self.text = path, text
-        self.lines = text.split(b'\n')
+        self.starts = [0, *(it.end() for it in re.finditer(b'\n', text))]
+        self.known = {}
 
     def line(self, number):
-        return self.lines[number - 1] if 0 < number <= len(self.lines) else b''
+        if not 0 < number <= len(self.starts):
+            return b''
+        return self.text[self.starts[number - 1]:self.offset(number + 1, 1)].rstrip(b'\n')
 
     def offset(self, line, column):
-        return sum(len(it) + 1 for it in self.lines[:line - 1]) + column - 1
+        """The offset of a place; that of the end, where there is no such line."""
+        return self.starts[line - 1] + column - 1 if 0 < line <= len(self.starts) else len(self.text)
+
+    def place(self, offset):
+        """The line and the column of a byte."""
+        line = bisect.bisect_right(self.starts, offset)
+        return line, offset - self.starts[line - 1] + 1
+
+    def all_tokens(self):
+        """All tokens with their offsets, looked for once."""
+        if 'tokens' not in self.known:
+            self.known['tokens'] = list(tokens(self.text))
+        return self.known['tokens']
 
     def token(self, line, column):
         """The token that begins at the place; none at the end of a line."""
@@ -45,18 +64,25 @@ class Source:
             found.append((word.decode('latin-1'), *self.place(start + at)))
         return found
 
-    def place(self, offset):
-        """The line and the column of a byte."""
-        before = self.text[:offset]
-        return before.count(b'\n') + 1, offset - (before.rfind(b'\n') + 1) + 1
-
     def heading(self, node):
         """The tokens of the text from the word `node` of this node on, each with its offset."""
-        found = list(tokens(self.text))
+        found = self.all_tokens()
         for i in range(len(found) - 1):
             if found[i][0] in (b'node', b'machine') and found[i + 1][0] == node.encode('latin-1', 'replace'):
                 return found[i:]
         return []
+
+    def definitions(self, node):
+        """Where the equation of each name of the node begins that stands alone on its left side, the first of each name."""
+        key = 'definitions', node
+        if key not in self.known:
+            found, self.known[key] = self.heading(node), {}
+            for i in range(2, len(found) - 1):
+                if found[i][0] == b'node':
+                    break
+                if found[i + 1][0] == b'=' and found[i - 1][0] in FIRST:
+                    self.known[key].setdefault(found[i][0].decode('latin-1'), found[i][1])
+        return self.known[key]
 
     def contract(self, node):
         """The place of the words of the node's contract: that of `enforce`, else of `contract`, if it has one."""
@@ -72,7 +98,7 @@ class Source:
 
     def nodes(self):
         """The names of the nodes, or of the machines of a text of machines."""
-        found = [word for word, _ in tokens(self.text)]
+        found = [word for word, _ in self.all_tokens()]
         return [found[i + 1].decode('latin-1') for i in range(len(found) - 1)
                 if found[i] in (b'node', b'machine') and re.fullmatch(rb'[a-z]\w*', found[i + 1])]
 
@@ -92,7 +118,7 @@ def tokens(text):
     """The tokens of a text with their offsets; comments are left out, and one that does not end is the last token."""
     at = 0
     while True:
-        found = re.compile(rb'\(\*|' + TOKEN.pattern).search(text, at)
+        found = TOKEN_OR_COMMENT.search(text, at)
         if found is None:
             return
         if found.group() == b'(*':
@@ -108,7 +134,7 @@ def tokens(text):
 def comment_end(text, start):
     """The offset behind the comment that begins here, if it ends."""
     deep = 0
-    for found in re.compile(rb'\(\*|\*\)').finditer(text, start):
+    for found in COMMENT_SIGN.finditer(text, start):
         deep += 1 if found.group() == b'(*' else -1
         if deep == 0:
             return found.end()
