@@ -4,6 +4,9 @@ import textwrap
 
 WIDTH = 100
 MOST_POINTS = 12
+# keywords that end or divide what stands before them, and what may stand before a name that is declared or defined
+CLOSING = {'tel', 'end', 'else', 'then', 'do', 'until', 'unless', 'every', 'state', 'continue'}
+NAME_FOLLOWS = {'(', ',', ';', 'node', 'type', 'var', 'last', 'let'}
 # words and lines that hept says on standard output, which may be mixed with its diagnostics
 SAID = re.compile(r'accepted|win|lose \d+')
 
@@ -81,16 +84,28 @@ def name_feature(data, it, source):
         it.title, it.cause, it.cure = f'not in this language: {missing["name"]}', '', missing['instead']
     elif it.entry.code == 'E1':
         name_bad_token(it, word)
-    elif it.entry.code == 'E2' and word in data.keywords:
-        it.title = f'`{word}` is a keyword, and stands where none may'
-        it.cause = f'`{word}`: {data.keywords[word]}.'
-        it.cure = 'Where a name is meant, choose another. Else something before it is missing or too many: a `;`, an operand, an `end`.'
-    elif it.entry.code == 'E2' and source.is_end(line, column):
+    elif it.entry.code == 'E2':
+        name_bad_syntax(data, it, source)
+
+
+def name_bad_syntax(data, it, source):
+    """Of a token with which no program goes on: what it is, and what may be missing before it."""
+    line, column = it.marks[0][:2]
+    word, before = source.token(line, column), (source.before(line, column) or [''])[-1]
+    if source.is_end(line, column):
         it.title, it.cause, it.cure = 'the text ends too early', '', 'Is a `tel` or an `end` missing, or a token after the last one?'
+    elif word in data.keywords and word not in CLOSING and before in NAME_FOLLOWS:
+        it.title, it.cause, it.cure = f'`{word}` is a keyword and no name', f'`{word}`: {data.keywords[word]}.', 'Choose another name.'
+    elif word in data.keywords:
+        it.title, it.cause = f'`{word}` cannot stand here', f'`{word}`: {data.keywords[word]}.'
+        it.cure = 'Is something missing before it: a `;`, an operand, an `end`? Or is there a `;` or a word too many?'
+    elif source.is_first(line, column) and re.fullmatch(r'[a-z]\w*|\(', word):
+        it.title = f'`{word}` cannot stand here'
+        it.cure = f'Is a `;` missing behind `{before}`?'
 
 
 def name_bad_token(it, word):
-    if word.startswith('(') and it.entry.code == 'E1':
+    if word.startswith('('):
         it.title, it.cause, it.cure = 'this comment is never closed', 'Comments may stand in each other: each `(*` needs a `*)` of its own.', 'Close it with `*)`.'
     elif word.isdigit():
         it.title, it.cause, it.cure = 'this number is above 2147483647', 'Integers have 32 bits.', 'The least integer is written `-2147483647 - 1`.'

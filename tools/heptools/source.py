@@ -54,6 +54,10 @@ class Source:
         """Whether nothing but blanks stands from the place on."""
         return not self.text[self.offset(line, column):].strip()
 
+    def is_first(self, line, column):
+        """Whether nothing but blanks stands before the place on its line."""
+        return not self.line(line)[:column - 1].strip()
+
     def rest(self, line, column):
         """The tokens of the equation at the place, each with its line and column."""
         found, deep, start = [], 0, self.offset(line, column)

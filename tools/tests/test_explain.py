@@ -80,6 +80,18 @@ class FromTheData(unittest.TestCase):
         caret = next(it for it in lines if '^' in it)
         self.assertEqual(shown[caret.index('^')], 'x')
 
+    def title_of(self, text, line):
+        return explain.told(DATA, line, Source('f.ept', text.encode())).title
+
+    def test_what_is_missing_or_too_many_is_guessed(self):
+        self.assertEqual(self.title_of('node f(on : bool) returns (y : bool) let y = on tel', 'E2 1:8'), '`on` is a keyword and no name')
+        self.assertEqual(self.title_of('node f(x : bool) returns (y : bool) let y = x &\ntel', 'E2 2:1'), '`tel` cannot stand here')
+        self.assertEqual(self.title_of('node f(x : bool) returns (y, z : bool) let y = x\n z = x tel', 'E2 2:2'), '`z` cannot stand here')
+        self.assertEqual(self.title_of('node f(x : bool) returns (y : bool) let y = x (* end *)\n', 'E2 2:1'), 'the text ends too early')
+        self.assertEqual(self.title_of('(* a comment', 'E1 1:1'), 'this comment is never closed')
+        self.assertEqual(self.title_of('node f() returns (y : int) let y = 2147483648 tel', 'E1 1:36'), 'this number is above 2147483647')
+        self.assertEqual(self.title_of("let y = x; -- it's", 'E1 1:17')[:33], 'not in this language: comments of')
+
     def test_the_reference_has_all(self):
         whole = '\n'.join(reference.all_lines(DATA))
         for entry in DATA.entries:
