@@ -1,6 +1,6 @@
 """Chronograms, pictures and value change dumps: of three examples against stored files, which were looked at, and at their edges.
 
-A stored file is made by the call of its test, as `hept-wave ../examples/updown.ept updown --svg < ../examples/updown.trace`."""
+A stored file is made by the call of its test, in examples/: `../tools/hept-wave updown.ept updown --svg < updown.trace`."""
 import os
 import random
 import subprocess
@@ -12,16 +12,16 @@ import xml.etree.ElementTree as xml
 from heptools import chart, svg, vcd
 from heptools.machines import Signal, signature
 
-from . import EXAMPLES, TOOLS, hept, program, surroundings, tool
+from . import EXAMPLES, TOOLS, TOP, hept, program, surroundings, tool
 from .read_vcd import read
 
-STORED = os.path.join(TOOLS, 'tests', 'expected')
+STORED = {'txt': os.path.join(TOOLS, 'tests', 'expected'), 'vcd': os.path.join(TOOLS, 'tests', 'expected'), 'svg': os.path.join(TOP, 'docs', 'pictures')}
 KINDS = {'txt': ['--width', '100'], 'svg': ['--svg'], 'vcd': ['--vcd']}
 NAMES = ('updown', 'filter', 'lights')
 
 
 def stored(name):
-    with open(os.path.join(STORED, name), 'rb') as file:
+    with open(os.path.join(STORED[name.rpartition('.')[2]], name), 'rb') as file:
         return file.read()
 
 
@@ -80,7 +80,7 @@ class OverTheProgram(unittest.TestCase):
         for name in NAMES:
             for ending, words in KINDS.items():
                 with self.subTest(f'{name}.{ending}'):
-                    done = tool('hept-wave', os.path.join(EXAMPLES, f'{name}.ept'), name, *words, text=trace_of(name))
+                    done = tool('hept-wave', f'{name}.ept', name, *words, text=trace_of(name), folder=EXAMPLES)
                     self.assertEqual((done.returncode, done.stderr), (0, b''))
                     self.assertEqual(done.stdout.decode(), stored(f'{name}.{ending}').decode())
 
