@@ -1,4 +1,5 @@
 pub mod CallLaws
+pub mod SweepLaws
 pub mod TellLaws
 pub mod ChoosingLaws
 pub mod WordLaws

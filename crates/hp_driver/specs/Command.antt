@@ -97,11 +97,15 @@ pub record IsSweepOf (words : List (List ℕ)) (tasks instants : ℕ) : Type 0 w
 -- numbers, each with a space in front
 abbrev pub spaced_numbers : List ℕ → List ℕ
 spaced_numbers [] = []
-spaced_numbers (n ∷ ns) = codes " " ++ decimal n ++ spaced_numbers ns
+spaced_numbers (n ∷ ns) = (codes " " ++ decimal n) ++ spaced_numbers ns
+
+-- a line of numbers behind a letter
+abbrev pub counted_line : List ℕ → List ℕ → List ℕ
+counted_line letter numbers = letter ++ (spaced_numbers numbers ++ codes "\n")
 
 -- a line for how often each task was active, and one for how often each started
 abbrev pub summary_text : List ℕ → List ℕ → List ℕ
-summary_text active started = codes "a" ++ spaced_numbers active ++ codes "\n" ++ codes "s" ++ spaced_numbers started ++ codes "\n"
+summary_text active started = counted_line (codes "a") active ++ counted_line (codes "s") started
 
 -- The words are of a command over the contract of the node of this name, of the program of this source file.
 pub data IsOverContract (words : List (List ℕ)) (file node : List ℕ) : Type 0 where
