@@ -1,5 +1,5 @@
 -- From the words of a run that tells to its form, and from the words of a sweep to its numbers.
-use Rattle.std.proofs.Common.{◌≡◌, ◌≢◌, ◌≤◌, ◌<◌, ◌+◌, ◌*◌, ◌-◌, ℕ, zero, suc, Bool, true, false, if◌then◌else◌, inl, inr, List, [], ◌∷◌, Option, None, Some, MatchOption, codes, refl, sym, ap, subst, ◌∙◌, arith, drop, length, get_or}
+use Rattle.std.proofs.Common.{◌≡◌, ◌≢◌, ◌≤◌, ◌<◌, ◌+◌, ◌*◌, ◌-◌, ℕ, zero, suc, Bool, true, false, if◌then◌else◌, inl, inr, List, [], ◌∷◌, Option, None, Some, MatchOption, codes, refl, sym, ap, subst, ◌∙◌, arith, drop, length, get_or, map}
 use Rattle.std.specs.Borrow.{Bor}
 use Rattle.hp_base.specs.Bytes.{is_digit}
 use Rattle.hp_arguments.specs.Words.{IsArgument}
@@ -19,46 +19,46 @@ abbrev Found : List (List ℕ) → Option (Bor (List ℕ) × Bor (List ℕ)) →
 Found words found = MatchOption found ((file node : List ℕ) → IsTellOf words file node → ⊥) (λ both. IsTellOf words both.0.now both.1.now)
 
 module _ (words : List (List ℕ)) (f s t : List ℕ) (are : words ≡ codes "run" ∷ f ∷ s ∷ t ∷ []) where
-  Option_at : List ℕ → Type 0
+  abbrev pub Option_at : List ℕ → Type 0
   Option_at word = word ≡ codes "--contract"
 
   -- the words of each form
   module _ (file node : List ℕ) where
     behind : words ≡ codes "run" ∷ file ∷ node ∷ codes "--contract" ∷ [] → (file ≡ f) × (node ≡ s) × Option_at t
-    behind e = let h = same_three (codes "run") file node (codes "--contract") f s t (sym e ∙ are) in (h.0, h.1.0, sym h.1.1)
+    behind e = let h = same_three (codes "run") file node (codes "--contract") f s t (sym e ∙ are) in (h.0, h.1, sym h.2)
 
     between : words ≡ codes "run" ∷ file ∷ codes "--contract" ∷ node ∷ [] → (file ≡ f) × Option_at s × (node ≡ t)
-    between e = let h = same_three (codes "run") file (codes "--contract") node f s t (sym e ∙ are) in (h.0, sym h.1.0, h.1.1)
+    between e = let h = same_three (codes "run") file (codes "--contract") node f s t (sym e ∙ are) in (h.0, sym h.1, h.2)
 
     before : words ≡ codes "run" ∷ codes "--contract" ∷ file ∷ node ∷ [] → Option_at f × (file ≡ s) × (node ≡ t)
-    before e = let h = same_three (codes "run") (codes "--contract") file node f s t (sym e ∙ are) in (sym h.0, h.1.0, h.1.1)
+    before e = let h = same_three (codes "run") (codes "--contract") file node f s t (sym e ∙ are) in (sym h.0, h.1, h.2)
 
   pub told_behind : Option_at t → (found : Option (Bor (List ℕ) × Bor (List ℕ))) → AreBoth f s found → Found words found
   told_behind o None none = λ file node there. elim there.spelled [
-    | inl e ↦ (let h = behind file node e in none (subst IsArgument h.0 there.file_is_argument) (subst IsArgument h.1.0 there.node_is_argument))
+    | inl e ↦ (let h = behind file node e in none (subst IsArgument h.0 there.file_is_argument) (subst IsArgument h.1 there.node_is_argument))
     | inr r ↦ elim r [
-      | inl e ↦ (let h = between file node e in no_option node (h.1.1 ∙ o) there.node_is_argument)
-      | inr e ↦ (let h = before file node e in no_option node (h.1.1 ∙ o) there.node_is_argument)
+      | inl e ↦ (let h = between file node e in no_option node (h.2 ∙ o) there.node_is_argument)
+      | inr e ↦ (let h = before file node e in no_option node (h.2 ∙ o) there.node_is_argument)
     ]
   ]
   told_behind o (Some both) h = record {
-    spelled = inl (are ∙ (λ i. codes "run" ∷ sym h.0 i ∷ sym h.1.0 i ∷ o i ∷ []));
-    file_is_argument = subst IsArgument (sym h.0) h.1.1.0;
-    node_is_argument = subst IsArgument (sym h.1.0) h.1.1.1;
+    spelled = inl (are ∙ (λ i. codes "run" ∷ sym h.0 i ∷ sym h.1 i ∷ o i ∷ []));
+    file_is_argument = subst IsArgument (sym h.0) h.2;
+    node_is_argument = subst IsArgument (sym h.1) h.3;
   }
 
   pub told_between : Option_at s → (found : Option (Bor (List ℕ) × Bor (List ℕ))) → AreBoth f t found → Found words found
   told_between o None none = λ file node there. elim there.spelled [
-    | inl e ↦ (let h = behind file node e in no_option node (h.1.0 ∙ o) there.node_is_argument)
+    | inl e ↦ (let h = behind file node e in no_option node (h.1 ∙ o) there.node_is_argument)
     | inr r ↦ elim r [
-      | inl e ↦ (let h = between file node e in none (subst IsArgument h.0 there.file_is_argument) (subst IsArgument h.1.1 there.node_is_argument))
-      | inr e ↦ (let h = before file node e in no_option file (h.1.0 ∙ o) there.file_is_argument)
+      | inl e ↦ (let h = between file node e in none (subst IsArgument h.0 there.file_is_argument) (subst IsArgument h.2 there.node_is_argument))
+      | inr e ↦ (let h = before file node e in no_option file (h.1 ∙ o) there.file_is_argument)
     ]
   ]
   told_between o (Some both) h = record {
-    spelled = inr (inl (are ∙ (λ i. codes "run" ∷ sym h.0 i ∷ o i ∷ sym h.1.0 i ∷ [])));
-    file_is_argument = subst IsArgument (sym h.0) h.1.1.0;
-    node_is_argument = subst IsArgument (sym h.1.0) h.1.1.1;
+    spelled = inr (inl (are ∙ (λ i. codes "run" ∷ sym h.0 i ∷ o i ∷ sym h.1 i ∷ [])));
+    file_is_argument = subst IsArgument (sym h.0) h.2;
+    node_is_argument = subst IsArgument (sym h.1) h.3;
   }
 
   pub told_before : Option_at f → (found : Option (Bor (List ℕ) × Bor (List ℕ))) → AreBoth s t found → Found words found
@@ -66,20 +66,29 @@ module _ (words : List (List ℕ)) (f s t : List ℕ) (are : words ≡ codes "ru
     | inl e ↦ (let h = behind file node e in no_option file (h.0 ∙ o) there.file_is_argument)
     | inr r ↦ elim r [
       | inl e ↦ (let h = between file node e in no_option file (h.0 ∙ o) there.file_is_argument)
-      | inr e ↦ (let h = before file node e in none (subst IsArgument h.1.0 there.file_is_argument) (subst IsArgument h.1.1 there.node_is_argument))
+      | inr e ↦ (let h = before file node e in none (subst IsArgument h.1 there.file_is_argument) (subst IsArgument h.2 there.node_is_argument))
     ]
   ]
   told_before o (Some both) h = record {
-    spelled = inr (inr (are ∙ (λ i. codes "run" ∷ o i ∷ sym h.0 i ∷ sym h.1.0 i ∷ [])));
-    file_is_argument = subst IsArgument (sym h.0) h.1.1.0;
-    node_is_argument = subst IsArgument (sym h.1.0) h.1.1.1;
+    spelled = inr (inr (are ∙ (λ i. codes "run" ∷ o i ∷ sym h.0 i ∷ sym h.1 i ∷ [])));
+    file_is_argument = subst IsArgument (sym h.0) h.2;
+    node_is_argument = subst IsArgument (sym h.1) h.3;
   }
 
   pub told_nowhere : (f ≢ codes "--contract") → (s ≢ codes "--contract") → (t ≢ codes "--contract") → (file node : List ℕ) → IsTellOf words file node → ⊥
   told_nowhere n m k file node there = elim there.spelled [
-    | inl e ↦ k (behind file node e).1.1
-    | inr r ↦ elim r [ inl e ↦ m (between file node e).1.0 | inr e ↦ n (before file node e).0 ]
+    | inl e ↦ k (behind file node e).2
+    | inr r ↦ elim r [ inl e ↦ m (between file node e).1 | inr e ↦ n (before file node e).0 ]
   ]
+
+-- a list of four items
+pub four : {X Y : Type 0} (f : X → Y) (xs : List X) (a b d e : X) → length xs ≡ 4 → a ≡ get_or xs 0 a → b ≡ get_or xs 1 b → d ≡ get_or xs 2 d → e ≡ get_or xs 3 e → map f xs ≡ f a ∷ f b ∷ f d ∷ f e ∷ []
+four f [] a b d e h p q r s = absurd (omega (arith, h))
+four f (x ∷ []) a b d e h p q r s = absurd (omega (arith, h))
+four f (x ∷ y ∷ []) a b d e h p q r s = absurd (omega (arith, h))
+four f (x ∷ y ∷ z ∷ []) a b d e h p q r s = absurd (omega (arith, h))
+four f (x ∷ y ∷ z ∷ u ∷ []) a b d e h p q r s = λ i. f (sym p i) ∷ f (sym q i) ∷ f (sym r i) ∷ f (sym s i) ∷ []
+four f (x ∷ y ∷ z ∷ u ∷ v ∷ xs) a b d e h p q r s = absurd (omega (arith, h))
 
 -- other words are of no such run
 pub told_by_run : (words : List (List ℕ)) (file node : List ℕ) → IsTellOf words file node → (get_or words 0 [] ≡ codes "run") × (length words ≡ 4)
@@ -98,19 +107,25 @@ grows_by number byte o e = subst (λ z. MatchOption z (Unit {0}) (λ longer. num
     by true = omega arith
     by false = tt
 
+grows_behind : (o : Option ℕ) (number result : ℕ) (word : List ℕ) → ((longer : ℕ) → with_digits (Some longer) word ≡ Some result → longer ≤ result)
+    → MatchOption o (Unit {0}) (λ longer. number ≤ longer) → with_digits o word ≡ Some result → number ≤ result
+grows_behind None number result word more h k = absurd cc
+grows_behind (Some longer) number result word more h k = let grown = more longer k in omega (arith, h, grown)
+
 grows : (number : ℕ) (word : List ℕ) (result : ℕ) → with_digits (Some number) word ≡ Some result → number ≤ result
 grows number [] result e = let same : number ≡ result = cc in omega (arith, same)
-grows number (byte ∷ word) result e = by (with_digit number byte) (grows_by number byte (with_digit number byte) refl) e
-  where
-    by : (o : Option ℕ) → MatchOption o (Unit {0}) (λ longer. number ≤ longer) → with_digits o word ≡ Some result → number ≤ result
-    by None h k = absurd cc
-    by (Some longer) h k = let more = grows longer word result k in omega (arith, h, more)
+grows number (byte ∷ word) result e = grows_behind (with_digit number byte) number result word (λ longer. grows longer word result) (grows_by number byte (with_digit number byte) refl) e
 
 -- what the rest of a word makes of a number: the next digit first
+next_byte : (word : List ℕ) (i number : ℕ) → i < length word → with_digits (Some number) (drop i word) ≡ with_digits (with_digit number (get_or word i 0)) (drop (suc i) word)
+next_byte [] i number h = absurd (omega (arith, h))
+next_byte (byte ∷ word) zero number h = refl
+next_byte (byte ∷ word) (suc i) number h = next_byte word i number (omega (arith, h))
+
 pub next_digit : (word : List ℕ) (i number : ℕ) → i < length word → with_digits (Some number) (drop i word) ≡ with_digits (with_digit number (get_or word i 0)) (drop (i + 1) word)
-next_digit [] i number h = absurd (omega (arith, h))
-next_digit (byte ∷ word) 0 number h = refl
-next_digit (byte ∷ word) (suc i) number h = next_digit word i number (omega (arith, h))
+next_digit word i number h =
+    let same : suc i ≡ i + 1 = omega arith
+    in next_byte word i number h ∙ ap (λ j. with_digits (with_digit number (get_or word i 0)) (drop j word)) same
 
 -- the word spells no number up to a bound where one of its digits is none, or takes it past the bound
 pub no_digit : (word : List ℕ) (i number most : ℕ) → i < length word → with_digits (Some number) (drop i word) ≡ with_digits (Some 0) word → with_digit number (get_or word i 0) ≡ None →
