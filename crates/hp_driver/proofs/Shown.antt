@@ -36,3 +36,15 @@ kind_added before old new kind ports d i h so_far added is =
     ∙ ap (λ z. before ++ (take i (kinds_seen ports) ++ z ∷ [])) is
     ∙ ap (λ z. before ++ z) (sym (next_kind ports d i h))
     ∙ ap (λ j. before ++ take j (kinds_seen ports)) (sym next)
+
+-- the kinds of the words, behind some others
+pub words_added : (none some next now kinds : List KindData) (assumed enforced a e : KindData) → none ≡ [] → some ≡ none ++ kinds → assumed ≡ a → enforced ≡ e → next ≡ some ++ assumed ∷ [] → now ≡ next ++ enforced ∷ []
+    → now ≡ kinds ++ a ∷ e ∷ []
+words_added none some next now kinds assumed enforced a e empty first is_a is_e then last =
+    last
+    ∙ ap (λ z. z ++ enforced ∷ []) then
+    ∙ append_assoc some (assumed ∷ []) (enforced ∷ [])
+    ∙ ap (λ z. z ++ assumed ∷ enforced ∷ []) first
+    ∙ ap (λ z. (z ++ kinds) ++ assumed ∷ enforced ∷ []) empty
+    ∙ ap (λ z. kinds ++ z ∷ enforced ∷ []) is_a
+    ∙ ap (λ z. kinds ++ a ∷ z ∷ []) is_e
