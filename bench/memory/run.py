@@ -24,6 +24,11 @@ CALLS = [
     (["exec", "delay.obc", "f"], "p1.trace", 0),
     (["prove", "tasks.ept", "tasks", "tasks.cert"], None, 0),
     (["verify", "tasks.ept", "tasks", "tasks.cert"], None, 0),
+    (["run", "tasks.ept", "tasks"], "tasks.trace", 0),
+    (["run", "tasks.ept", "tasks", "--contract"], "tasks.trace", 0),
+    (["compile", "tasks.ept", "tasks.obc"], None, 0),
+    (["exec", "tasks.obc", "tasks"], "tasks.trace", 0),
+    (["sweep", "2", "6"], None, 0),
     (["run"], None, 2),
 ]
 

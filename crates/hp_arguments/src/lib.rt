@@ -12,7 +12,8 @@ use clap::error::ErrorKind;
 use clap::{Arg, ArgMatches, Command};
 use std::alloc::{AllocError, Global};
 
-fn is_argument(word: &str) -> bool
+/// Whether a word is an argument, and no option.
+pub fn is_argument(word: &str) -> bool
     ensures { result ≡ is_argument word.now }
 {
     match word.as_bytes() {

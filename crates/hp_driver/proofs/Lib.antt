@@ -1,4 +1,7 @@
 pub mod CallLaws
+pub mod SweepLaws
+pub mod TellLaws
+pub mod Shown
 pub mod ChoosingLaws
 pub mod WordLaws
 pub mod LineLaws

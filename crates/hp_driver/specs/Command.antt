@@ -1,6 +1,6 @@
 -- The words of a call, and the lines of its diagnostics.
-use Rattle.std.specs.Prelude.{◌≡◌, ◌≢◌, ◌≤◌, ◌⊎◌, ◌+◌, ◌*◌, ◌-◌, ⊤, Bool, true, false, ℕ, List, [], ◌∷◌, ◌++◌, length, codes, decimal}
-use Rattle.std.specs.List.{AllByRecursion, fold}
+use Rattle.std.specs.Prelude.{◌≡◌, ◌≢◌, ◌≤◌, ◌⊎◌, ◌+◌, ◌*◌, ◌-◌, if◌then◌else◌, Bool, true, false, ℕ, List, [], ◌∷◌, ◌++◌, length, codes, decimal, Option, None, Some}
+use Rattle.hp_base.specs.Bytes.{is_digit}
 use Rattle.hp_cert.specs.declared.checking.Proved.{Proved}
 use Rattle.hp_cert.specs.declared.checking.Proved.TheVariants.{Win, Lose}
 use Rattle.hp_tree.specs.declared.program.Item.{Item}
@@ -68,11 +68,20 @@ pub data IsOverSource (words : List (List ℕ)) (file : List ℕ) : Type 0 where
 
 -- ---- a sweep
 
+-- a number with one more decimal digit behind it, if the byte is one
+abbrev pub with_digit : ℕ → ℕ → Option ℕ
+with_digit number byte = if is_digit byte then Some (number * 10 + (byte - 48)) else None
+
+-- the number that a number and some digits behind it spell
+abbrev pub with_digits : Option ℕ → List ℕ → Option ℕ
+with_digits None word = None
+with_digits (Some number) [] = Some number
+with_digits (Some number) (byte ∷ word) = with_digits (with_digit number byte) word
+
 -- A word of decimal digits, which may begin with zeros, spells a number.
 pub record SpellsNumber (word : List ℕ) (number : ℕ) : Type 0 where
   pub some : word ≢ []
-  pub digits : AllByRecursion (λ c. (48 ≤ c) × (c ≤ 57)) word
-  pub value : number ≡ fold (λ (n c : ℕ). n * 10 + (c - 48)) 0 word
+  pub value : with_digits (Some 0) word ≡ Some number
 
 -- the words `sweep TASKS INSTANTS`
 pub record IsSweepOf (words : List (List ℕ)) (tasks instants : ℕ) : Type 0 where
@@ -88,11 +97,15 @@ pub record IsSweepOf (words : List (List ℕ)) (tasks instants : ℕ) : Type 0 w
 -- numbers, each with a space in front
 abbrev pub spaced_numbers : List ℕ → List ℕ
 spaced_numbers [] = []
-spaced_numbers (n ∷ ns) = codes " " ++ decimal n ++ spaced_numbers ns
+spaced_numbers (n ∷ ns) = (codes " " ++ decimal n) ++ spaced_numbers ns
+
+-- a line of numbers behind a letter
+abbrev pub counted_line : List ℕ → List ℕ → List ℕ
+counted_line letter numbers = letter ++ (spaced_numbers numbers ++ codes "\n")
 
 -- a line for how often each task was active, and one for how often each started
 abbrev pub summary_text : List ℕ → List ℕ → List ℕ
-summary_text active started = codes "a" ++ spaced_numbers active ++ codes "\n" ++ codes "s" ++ spaced_numbers started ++ codes "\n"
+summary_text active started = counted_line (codes "a") active ++ counted_line (codes "s") started
 
 -- The words are of a command over the contract of the node of this name, of the program of this source file.
 pub data IsOverContract (words : List (List ℕ)) (file node : List ℕ) : Type 0 where

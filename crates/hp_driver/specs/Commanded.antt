@@ -1,5 +1,7 @@
 -- What is asked for, as the code has it.
-use Rattle.std.specs.Prelude.{ℕ, List}
+use Rattle.std.specs.Prelude.{◌≡◌, ℕ, List, Option, MatchOption}
+use Rattle.std.specs.Borrow.{Bor}
+use Rattle.hp_arguments.specs.Words.{IsArgument}
 use Rattle.hp_base.specs.declared.limit.What.{What}
 use Rattle.hp_base.specs.declared.limit.What.TheVariants.{Size, Text}
 use Rattle.hp_driver.specs.Command.{IsRunOf, IsTellOf, IsCheckOf, IsCompileOf, IsExecOf, IsProveOf, IsVerifyOf}
@@ -7,6 +9,10 @@ use Rattle.hp_driver.specs.declared.words.Command.{Command}
 use Rattle.hp_driver.specs.declared.words.Command.TheVariants.{Source, Exec, Prove, Verify}
 use Rattle.hp_driver.specs.declared.words.Task.{Task}
 use Rattle.hp_driver.specs.declared.words.Task.TheVariants.{Run, Tell, Check, Compile}
+
+-- two words, where both are arguments
+abbrev pub AreBoth : List ℕ → List ℕ → Option (Bor (List ℕ) × Bor (List ℕ)) → Type 0
+AreBoth file node found = MatchOption found (IsArgument file → IsArgument node → ⊥) (λ both. (both.0.now ≡ file) × (both.1.now ≡ node) × IsArgument file × IsArgument node)
 
 -- the words ask for this task with this source file
 abbrev pub SpellsTask : List (List ℕ) → List ℕ → Task → Type 0

@@ -31,9 +31,9 @@ words_behind count outputs = word 65534 (slice_index_or outputs count (B true)) 
 abbrev pub shown_kinds : Ending → List KindData → List KindData
 shown_kinds ending kinds = take (count_before ending (length kinds)) kinds ++ word_kinds
 
-abbrev pub shown : Ending → List Value → List Value
-shown ending outputs = take (count_before ending (length outputs)) outputs ++ words_behind (count_before ending (length outputs)) outputs
+abbrev pub shown_values : Ending → List Value → List Value
+shown_values ending outputs = take (count_before ending (length outputs)) outputs ++ words_behind (count_before ending (length outputs)) outputs
 
 -- the line of some outputs and the two words
 abbrev pub told_line : Ending → List KindData → List Value → List ℕ
-told_line ending kinds outputs = line_of (shown_kinds ending kinds) (shown ending outputs)
+told_line ending kinds outputs = line_of (shown_kinds ending kinds) (shown_values ending outputs)

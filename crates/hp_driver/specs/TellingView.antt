@@ -14,6 +14,7 @@ teller_seen t = teller t.exec t.ending
 -- There is room for the inputs and for what is shown of a step, the kinds of that and the length of the longest line are known, and lines can be read and said.
 pub record IsTelling (t : Inside) : Type 0 where
   pub inputs : length t.inputs.items ≡ length t.exec.signature.inputs
+  pub outputs : length t.outputs.items ≡ length t.exec.signature.outputs
   pub shown : length t.shown.items ≡ count_before t.ending (length t.exec.signature.outputs) + 2
   pub few : HaveFewConstructors (kinds_of t.exec.signature.inputs)
   pub words : kinds_of t.words.outputs ≡ shown_kinds t.ending (kinds_of t.exec.signature.outputs)

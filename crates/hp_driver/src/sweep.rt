@@ -1,7 +1,7 @@
 //! The command `sweep`: a program of some tasks of which one may be active at a time is made, compiled and run on a trace that is made too, and what was true is counted.
 ghost use Rattle.std.specs.Prelude.{◌≡◌, ◌≢◌, ◌≤◌, ◌++◌, ℕ, length, take, drop, codes, decimal, IfOk, OnOk};
 ghost use Rattle.hp_io.specs.Faults.{Same};
-ghost use Rattle.hp_driver.specs.Command.{IsSummary, spaced_numbers, summary_text};
+ghost use Rattle.hp_driver.specs.Command.{IsSummary, counted_line, spaced_numbers, summary_text};
 ghost use Rattle.hp_driver.specs.Faults.{BothPutFaults};
 ghost use Rattle.hp_driver.specs.Follows.{SweepOutcome};
 ghost use Rattle.hp_driver.specs.Happened.{Happened};
@@ -336,7 +336,7 @@ fn add_numbers(text: &mut Vec<u8>, numbers: &[u64]) -> Result<(), AllocError>
 
 /// A line of numbers behind a letter.
 fn add_line(text: &mut Vec<u8>, letter: &[u8], numbers: &[u64]) -> Result<(), AllocError>
-    ensures { OnOk result (text.new.items ≡ text.old.items ++ (letter.now ++ (spaced_numbers numbers.now ++ codes "\n"))) }
+    ensures { OnOk result (text.new.items ≡ text.old.items ++ counted_line letter.now numbers.now) }
 {
     add(text, letter)?;
     add_numbers(text, numbers)?;

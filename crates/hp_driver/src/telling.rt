@@ -7,7 +7,7 @@ ghost use Rattle.hp_lines.specs.Lines.{line_bound};
 ghost use Rattle.hp_lines.specs.Values.{HaveFewConstructors};
 ghost use Rattle.hp_driver.specs.Executing.{HasBehaviour};
 ghost use Rattle.hp_driver.specs.Teller.{teller};
-ghost use Rattle.hp_driver.specs.Telling.{count_before, word, word_kinds, words_behind};
+ghost use Rattle.hp_driver.specs.Telling.{count_before, shown_values, word, word_kinds};
 
 use crate::trace_limits::Reactor;
 use hp_base::{Kind, MAX_NAME, Name, Signature, Value, copy_names};
@@ -35,8 +35,9 @@ const ENFORCED: u16 = 65_535;
 pub(crate) struct Telling {
     exec: Exec,
     inputs: Vec<Value>,
+    outputs: Vec<Value>,
     ending: Ending,
-    /// The outputs of a step, of which the last two become the words; or these stand behind them.
+    /// The outputs that stand before the words, and the words.
     shown: Vec<Value>,
     /// The kinds of what is shown.
     words: Signature,
@@ -157,15 +158,15 @@ fn output_at(outputs: &[Value], at: usize) -> Value
     }
 }
 
-/// Puts the two words behind so many outputs.
-fn put_words(shown: &mut [Value], outputs: usize, count: usize)
-    requires outputs { outputs ≤ length shown.old }
-    requires count { count ≤ outputs }
-    requires len { length shown.old ≡ count + 2 }
-    ensures { shown.new ≡ take count shown.old ++ words_behind count (take outputs shown.old) }
+/// Shows the outputs of a step that stand before the words, and the two words.
+fn show(ending: Ending, outputs: &[Value], shown: &mut [Value])
+    requires { length shown.old ≡ count_before ending (length outputs.now) + 2 }
+    ensures { shown.new ≡ shown_values ending outputs.now }
 {
-    let assumed = word(ASSUMED, output_at(&shown[..outputs], count));
-    let enforced = word(ENFORCED, output_at(&shown[..outputs], count + 1));
+    let count = count_before(ending, outputs.len());
+    let assumed = word(ASSUMED, output_at(outputs, count));
+    let enforced = word(ENFORCED, output_at(outputs, count + 1));
+    shown[..count].copy_from_slice(&outputs[..count]);
     shown[count] = assumed;
     shown[count + 1] = enforced;
 }
@@ -179,12 +180,14 @@ impl Telling {
         let s = exec.signature();
         let count = count_before(ending, s.outputs.len());
         let inputs = vec![in alloc; Value::Absent; s.inputs.len()]?;
+        let outputs = vec![in alloc; Value::Absent; s.outputs.len()]?;
         let words = words_of(alloc, s, count)?;
         let shown = vec![in alloc; Value::Absent; words.outputs.len()]?;
         let room = line_room(&words);
         Ok(Telling {
             exec,
             inputs,
+            outputs,
             ending,
             shown,
             words,
@@ -207,10 +210,8 @@ impl Reactor for Telling {
 
     fn answer(&mut self, line: &[u8], into: &mut Vec<u8>) -> Result<(), LineErr> {
         read_line(line, self.exec.signature(), &mut self.inputs)?;
-        let outputs = self.exec.signature().outputs.len();
-        let count = count_before(self.ending, outputs);
-        self.exec.step(&self.inputs, &mut self.shown[..outputs]);
-        put_words(&mut self.shown, outputs, count);
+        self.exec.step(&self.inputs, &mut self.outputs);
+        show(self.ending, &self.outputs, &mut self.shown);
         write_line(&self.shown, &self.words, into);
         Ok(())
     }

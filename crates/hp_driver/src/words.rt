@@ -1,11 +1,11 @@
 //! The words of a call.
 ghost use Rattle.std.specs.Prelude.{◌≡◌, ◌↔◌, ◌≤◌, ◌<◌, ◌⊎◌, ℕ, List, [], ◌∷◌, map, take, IfOk, IsTrue, MatchOption};
 ghost use Rattle.std.specs.String.{string_bytes};
-ghost use Rattle.hp_driver.specs.Command.{IsOnTraceBy, IsOnCertBy, IsPlainCheckOf, IsPrintOf, IsNoSourceCommand, IsNoCertCommand, IsNoFileCommand, IsSweepOf, IsTellOf, SpellsNumber};
-ghost use Rattle.hp_driver.specs.Commanded.{SpellsTask, Spells, file_of, limit_of};
+ghost use Rattle.hp_driver.specs.Command.{IsOnTraceBy, IsOnCertBy, IsPlainCheckOf, IsPrintOf, IsNoSourceCommand, IsNoCertCommand, IsNoFileCommand, IsSweepOf, IsTellOf, SpellsNumber, with_digit};
+ghost use Rattle.hp_driver.specs.Commanded.{AreBoth, SpellsTask, Spells, file_of, limit_of};
 
 use crate::sweep::Sweep;
-use hp_arguments::{one_argument, three_arguments, two_arguments};
+use hp_arguments::{is_argument, one_argument, three_arguments, two_arguments};
 use hp_base::{What, is_digit_byte};
 use std::alloc::{AllocError, Global};
 
@@ -172,32 +172,38 @@ fn printing_check<'a>(alloc: Global, words: &'a [String]) -> Result<Option<&'a s
     Ok(None)
 }
 
+/// A file and the name of a node, if both words are arguments.
+fn file_and_node<'a>(file: &'a str, node: &'a str) -> Option<(&'a str, &'a str)>
+    ensures { AreBoth file.entry.now node.entry.now result }
+{
+    if is_argument(file) && is_argument(node) {
+        Some((file, node))
+    } else {
+        None
+    }
+}
+
 /// The words `run FILE NODE --contract`, the option anywhere behind `run`: the file and the name of the node.
-fn telling_run<'a>(
-    alloc: Global,
-    words: &'a [String],
-) -> Result<Option<(&'a str, &'a str)>, AllocError>
-    ensures { IfOk result (λ found. MatchOption found ((file node : List ℕ) → IsTellOf (map string_bytes words.entry.now) file node → ⊥)
-        (λ found. IsTellOf (map string_bytes words.entry.now) found.0.now found.1.now)) }
+fn telling_run<'a>(words: &'a [String]) -> Option<(&'a str, &'a str)>
+    ensures { MatchOption result ((file node : List ℕ) → IsTellOf (map string_bytes words.entry.now) file node → ⊥)
+        (λ found. IsTellOf (map string_bytes words.entry.now) found.0.now found.1.now) }
 {
     let [command, first, second, third] = words else {
-        return Ok(None);
+        return None;
     };
     if command.as_str() != RUN {
-        return Ok(None);
+        return None;
     }
     if third.as_str() == CONTRACT {
-        return two_arguments(alloc, &words[..3]);
+        return file_and_node(first.as_str(), second.as_str());
     }
     if second.as_str() == CONTRACT {
-        let file = one_argument(alloc, &words[..2])?;
-        let node = one_argument(alloc, &words[2..])?;
-        return Ok(file.zip(node));
+        return file_and_node(first.as_str(), third.as_str());
     }
     if first.as_str() == CONTRACT {
-        return two_arguments(alloc, &words[1..]);
+        return file_and_node(second.as_str(), third.as_str());
     }
-    Ok(None)
+    None
 }
 
 /// What the words ask for, if they are of a command over a source text: the file and the task.
@@ -211,7 +217,7 @@ fn source_command<'a>(
     if let Some((file, node)) = command_with_two(alloc, RUN, words)? {
         return Ok(Some((file, Task::Run { node })));
     }
-    if let Some((file, node)) = telling_run(alloc, words)? {
+    if let Some((file, node)) = telling_run(words) {
         return Ok(Some((file, Task::Tell { node })));
     }
     if let Some((file, out)) = command_with_two(alloc, "compile", words)? {
@@ -245,9 +251,21 @@ pub(crate) fn command_of<'a>(
     Ok(Some(Command::Source { file, task }))
 }
 
+/// A number with one more digit behind it, if the byte is one.
+fn with_digit(number: u64, byte: u8) -> Option<u64>
+    requires { number ≤ 1000000 }
+    ensures { result ≡ with_digit number byte }
+{
+    if is_digit_byte(byte) {
+        Some(number * 10 + u64::from(byte - b'0'))
+    } else {
+        None
+    }
+}
+
 /// The number that a word spells in decimal digits, if it is at most this one.
 fn number_of(word: &str, most: u64) -> Option<u64>
-    requires { most < u64.MAX }
+    requires { most ≤ 1000000 }
     ensures { MatchOption result ((number : ℕ) → SpellsNumber word.now number → number ≤ most → ⊥) (λ number. SpellsNumber word.now number × (number ≤ most)) }
 {
     let bytes = word.as_bytes();
@@ -256,13 +274,15 @@ fn number_of(word: &str, most: u64) -> Option<u64>
     }
     let mut number: u64 = 0;
     for i in 0..bytes.len() {
-        if !is_digit_byte(bytes[i]) {
+        let Some(longer) = with_digit(number, bytes[i]) else {
+            return None;
+        };
+        if longer > most {
             return None;
         }
-        let digit = u64::from(bytes[i] - b'0');
-        number = number.saturating_mul(10).saturating_add(digit);
+        number = longer;
     }
-    if number <= most { Some(number) } else { None }
+    Some(number)
 }
 
 /// The words `sweep TASKS INSTANTS`.

@@ -55,9 +55,8 @@ pub fn lift(
     node: &mut FlatNode,
 ) -> Result<usize, AllocError> {
     let mut value = variable;
-    let mut left = clock.len();
-    while left > 0 {
-        left -= 1;
+    for i in 0..clock.len() {
+        let left = clock.len() - 1 - i;
         value = add_step(alloc, types, &clock[..left], clock[left], value, node)?;
     }
     Ok(value)
@@ -153,10 +152,9 @@ pub fn add_bits(
         FlatTy::Enum(number) => {
             let count = count_of(types, FlatTy::Enum(number));
             let tests = add_tests(alloc, number, count, value, node)?;
-            let mut place = width_of(count);
-            while place > 0 {
-                place -= 1;
-                let bit = add_bit(alloc, &tests, place, node)?;
+            let width = width_of(count);
+            for i in 0..width {
+                let bit = add_bit(alloc, &tests, width - 1 - i, node)?;
                 bits.push(bit)?;
             }
             Ok(())

@@ -1,0 +1,1 @@
+autocmd BufNewFile,BufRead *.ept set filetype=hept
