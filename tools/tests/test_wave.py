@@ -1,4 +1,4 @@
-"""Chronograms, pictures and value change dumps: of four examples against stored files, which were looked at, and at their edges.
+"""Chronograms, pictures and value change dumps: of five examples against stored files, which were looked at, and at their edges.
 
 A stored file is made by the call of its test, in examples/: `../tools/hept-wave updown.ept updown --svg < updown.trace`."""
 import os
@@ -17,7 +17,7 @@ from .read_vcd import read
 
 STORED = {'txt': os.path.join(TOOLS, 'tests', 'expected'), 'vcd': os.path.join(TOOLS, 'tests', 'expected'), 'svg': os.path.join(TOP, 'docs', 'pictures')}
 KINDS = {'txt': ['--width', '100'], 'svg': ['--svg'], 'vcd': ['--vcd']}
-WORDS = {'updown': [], 'filter': [], 'lights': [], 'airlock': ['--contract']}
+WORDS = {'updown': [], 'filter': [], 'lights': [], 'airlock': ['--contract'], 'tasks': ['--contract']}
 
 
 def stored(name):
