@@ -1,9 +1,9 @@
 -- The diagram of a control bit.
-use Rattle.std.proofs.Common.{◌≡◌, ◌∷◌, inl, inr, ℕ, suc, ◌+◌, ◌≤◌, Bool, true, false, not, ◌&&◌, ◌||◌, List, Option, refl, sym, ap, ap₂, subst, ◌∙◌}
+use Rattle.std.proofs.Common.{◌≡◌, ◌∷◌, if◌then◌else◌, inl, inr, ℕ, suc, ◌+◌, ◌≤◌, Bool, true, false, not, ◌&&◌, ◌||◌, List, Option, refl, sym, ap, ap₂, subst, ◌∙◌}
 use Rattle.std.specs.Option.{option_map_or}
 use Rattle.std.proofs.lemmas.Bool.{cases_eq}
 use Rattle.hp_diagram.specs.declared.reference.Ref.{Ref}
-use Rattle.hp_diagram.specs.Diagrams.{Diagrams, path_end, function, Means, Keeps, zero_ref, one_ref}
+use Rattle.hp_diagram.specs.Diagrams.{Diagrams, path_end, function, Has, Means, choice, Keeps, zero_ref, one_ref}
 use Rattle.hp_diagram.proofs.Canonical.{with_value, with_value-same, with_value-other}
 use Rattle.hp_quant.specs.Quantifiers.{IsExists}
 use Rattle.hp_quant.specs.Replacements.{replaced}
@@ -64,6 +64,23 @@ module _ (g : Game) (k n : ℕ) (from : control_from g ≤ k) (to : late_from g 
 
   pub bit-low : (t5 : Diagrams) (b : Bool) (r : Ref) → b ≡ false → Means t5 (λ v. function t4 high v && function t4 no_low v) r → Means t5 (OfEarly g (λ s u. bit_of b n (q s u))) r
   bit-low t5 b r e m = subst (λ b. Means t5 (OfEarly g (λ s u. bit_of b n (q s u))) r) (sym e) (Means-equal t5 _ (OfEarly g (λ s u. bit_of false n (q s u))) r (λ v. ap₂ (λ a c. a && c) (high-value v) (low-value v) ∙ both false v) m)
+
+-- ---- a function put in the place of a variable
+
+chosen-value : (F : Bool → Bool) (b : Bool) → (if b then F true else F false) ≡ F b
+chosen-value F true = refl
+chosen-value F false = refl
+
+module _ (t t1 t2 t3 : Diagrams) (k1 : Keeps t t1) (k2 : Keeps t1 t2) (f r one zero high low : Ref) (k : ℕ) (is_one : one ≡ one_ref) (is_zero : zero ≡ zero_ref) (has_f : Has t f) (has_r : Has t r)
+    (mh : Means t1 (put_in t f k one) high) (ml : Means t2 (put_in t1 f k zero) low) where
+  pub put-chosen : (s : Ref) → Means t3 (choice t2 r high low) s → Means t3 (put_in t f k r) s
+  put-chosen s m =
+      let F : Valued → Bool → Bool = λ v b. function t f (with_value v k b) in
+      Means-equal t3 (choice t2 r high low) (put_in t f k r) s (λ v.
+      let test : function t2 r v ≡ function t r v = k2.functions r (k1.has r has_r) v ∙ k1.functions r has_r v in
+      let high_is : function t2 high v ≡ F v true = k2.functions high mh.has v ∙ mh.value v ∙ ap (F v) (ap (λ (q : Ref). function t q v) is_one ∙ one-true t v) in
+      let low_is : function t2 low v ≡ F v false = ml.value v ∙ k1.functions f has_f (with_value v k (function t1 zero v)) ∙ ap (F v) (ap (λ (q : Ref). function t1 q v) is_zero ∙ zero-false t1 v) in
+      (λ j. if test j then high_is j else low_is j) ∙ chosen-value (F v) (function t r v)) m
 
 -- the bit put in its place leaves the rest
 pub left-behind : (g : Game) (k n : ℕ) → control_from g ≤ k → late_from g ≡ suc k + n → (q : Bits → Bits → Set) (t u : Diagrams) (p f s : Ref) (b : Bool) → AreLeft g t k (suc n) q p → Means t (OfEarly g (λ r u. bit_of b n (q r u))) f →

@@ -10,7 +10,7 @@ ghost use Rattle.hp_synth.specs.Building.{HasEach, functions_at};
 ghost use Rattle.hp_synth.specs.Valued.{Valued, states, earlies, control_from, late_from, OfState};
 ghost use Rattle.hp_synth.specs.Verdicts.{IsWon};
 
-use crate::controlling::{control_bit, with};
+use crate::controlling::{control_bit, put};
 use crate::permitted::permitted_choices;
 use hp_boolx::BoolMachine;
 use hp_diagram::{Ref, Table};
@@ -41,7 +41,7 @@ fn bits(
     let mut k = from;
     for i in 0..prefer.len() {
         let fun = control_bit(alloc, t, left, k, late, prefer[i])?;
-        left = with(alloc, t, left, k, fun)?;
+        left = put(alloc, t, left, k, fun)?;
         funs.push(fun)?;
         k += 1;
     }

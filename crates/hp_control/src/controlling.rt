@@ -34,6 +34,20 @@ pub fn with(alloc: Global, t: &mut Table, f: Ref, k: u16, r: Ref) -> Result<Ref,
     compose(alloc, t, f, &by)
 }
 
+/// The function with another function in the place of one variable: chosen by that function from those where the variable is true, and where it is false. So no node
+/// of `f` is made behind a test that does not lead to it.
+pub fn put(alloc: Global, t: &mut Table, f: Ref, k: u16, r: Ref) -> Result<Ref, AllocError>
+    requires f { Has t.old f }
+    requires r { Has t.old r }
+    requires k { k < t.old.vars }
+    ensures ok { IfOk result (Means t.new (put_in t.old f k r)) }
+    ensures keeps { Keeps t.old t.new }
+{
+    let high = with(alloc, t, f, k, one())?;
+    let low = with(alloc, t, f, k, zero())?;
+    t.ite(r, high, low)
+}
+
 /// The function of a control bit: its preferred value, unless only the other one leaves a choice.
 pub fn control_bit(
     alloc: Global,

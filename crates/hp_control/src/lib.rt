@@ -6,4 +6,5 @@ mod controlling;
 mod permitted;
 
 pub use choosing::{functions, permissive};
+pub use controlling::put;
 pub use permitted::permitted_of;

@@ -19,31 +19,31 @@ loop-i-init c = (
 pub returns-in_err-fun-clause-keeps : goal.returns-in_err-fun-clause-keeps
 returns-in_err-fun-clause-keeps c = Keeps-trans _ _ _ c.loop-i.invariant.1 c.control_bit.ensures.keeps
 
-pub with-requires-clause-r : goal.with-requires-clause-r
-with-requires-clause-r c = c.in_ok-fun.ensures.has
+pub put-requires-clause-r : goal.put-requires-clause-r
+put-requires-clause-r c = c.in_ok-fun.ensures.has
 
 pub returns-in_err-left-clause-keeps : goal.returns-in_err-left-clause-keeps
-returns-in_err-left-clause-keeps c = Keeps-trans _ _ _ (Keeps-trans _ _ _ c.loop-i.invariant.1 c.control_bit.ensures.keeps) c.with.ensures.keeps
+returns-in_err-left-clause-keeps c = Keeps-trans _ _ _ (Keeps-trans _ _ _ c.loop-i.invariant.1 c.control_bit.ensures.keeps) c.put.ensures.keeps
 
 pub returns-in_err-push-clause-keeps : goal.returns-in_err-push-clause-keeps
-returns-in_err-push-clause-keeps c = Keeps-trans _ _ _ (Keeps-trans _ _ _ c.loop-i.invariant.1 c.control_bit.ensures.keeps) c.with.ensures.keeps
+returns-in_err-push-clause-keeps c = Keeps-trans _ _ _ (Keeps-trans _ _ _ c.loop-i.invariant.1 c.control_bit.ensures.keeps) c.put.ensures.keeps
 
 pub loop-i-preserved : goal.loop-i-preserved
 loop-i-preserved c = (
   c.in_ok-left.ensures.ok.has,
-  Keeps-trans _ _ _ (Keeps-trans _ _ _ c.loop-i.invariant.1 c.control_bit.ensures.keeps) c.with.ensures.keeps,
+  Keeps-trans _ _ _ (Keeps-trans _ _ _ c.loop-i.invariant.1 c.control_bit.ensures.keeps) c.put.ensures.keeps,
   omega (arith, c.loop-i.invariant.2),
   λ g q from late left.
       let at = c.loop-i.invariant.2 in
       let within : c.loop-i.i < length c.args.prefer.now = omega arith in
-      chosen-more g q c.args.from c.args.late c.loop-i.k c.args.prefer.now c.loop-i.t c.control_bit.new.t c.with.new.t c.loop-i.i c.loop-i.left c.in_ok-fun.fun c.in_ok-left.left c.loop-i.funs.items c.push.new.self.items
+      chosen-more g q c.args.from c.args.late c.loop-i.k c.args.prefer.now c.loop-i.t c.control_bit.new.t c.put.new.t c.loop-i.i c.loop-i.left c.in_ok-fun.fun c.in_ok-left.left c.loop-i.funs.items c.push.new.self.items
       within at from late c.requires.range (c.loop-i.invariant.3 g q from late left) c.control_bit.ensures.keeps
       (λ n p to is. c.in_ok-fun.ensures.ok g n p late (omega (arith, at, from)) to is)
-      c.with.ensures.keeps c.in_ok-left.ensures.ok c.in_ok-push.ensures.items,
-  subst (HasEach c.with.new.t) (sym c.in_ok-push.ensures.items)
-      (has-push c.with.new.t c.loop-i.funs.items c.in_ok-fun.fun
-      (has-keep c.loop-i.t c.with.new.t c.loop-i.funs.items (Keeps-trans _ _ _ c.control_bit.ensures.keeps c.with.ensures.keeps) c.loop-i.invariant.4)
-      (c.with.ensures.keeps.has c.in_ok-fun.fun c.in_ok-fun.ensures.has)),
+      c.put.ensures.keeps c.in_ok-left.ensures.ok c.in_ok-push.ensures.items,
+  subst (HasEach c.put.new.t) (sym c.in_ok-push.ensures.items)
+      (has-push c.put.new.t c.loop-i.funs.items c.in_ok-fun.fun
+      (has-keep c.loop-i.t c.put.new.t c.loop-i.funs.items (Keeps-trans _ _ _ c.control_bit.ensures.keeps c.put.ensures.keeps) c.loop-i.invariant.4)
+      (c.put.ensures.keeps.has c.in_ok-fun.fun c.in_ok-fun.ensures.has)),
 )
 
 pub returns-clause-ok : goal.returns-clause-ok
