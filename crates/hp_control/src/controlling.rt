@@ -4,10 +4,13 @@ ghost use Rattle.hp_diagram.specs.Diagrams.{Has, Means, Keeps};
 ghost use Rattle.hp_control.specs.Controlling.{IsOnly, put_in, AreLeft, bit_of};
 ghost use Rattle.hp_boolx.specs.Game.{Game};
 ghost use Rattle.hp_boolx.specs.Search.{Bits, Set};
-ghost use Rattle.hp_synth.specs.Valued.{OfEarly, control_from, late_from};
+ghost use Rattle.hp_synth.specs.Layouts.{place, IsLayout};
+ghost use Rattle.hp_synth.specs.Rounds.{IsCounts};
+ghost use Rattle.hp_synth.specs.Valued.{over, OfEarly, control_from, late_from};
 
 use hp_diagram::{Ref, Table, one, zero};
-use hp_quant::{compose, exists};
+use hp_quant::compose;
+use hp_synth::{Layout, some_in};
 use std::alloc::{AllocError, Global};
 
 /// The replacement of one variable.
@@ -48,26 +51,28 @@ pub fn put(alloc: Global, t: &mut Table, f: Ref, k: u16, r: Ref) -> Result<Ref, 
     t.ite(r, high, low)
 }
 
-/// The function of a control bit: its preferred value, unless only the other one leaves a choice.
+/// The function of a control bit, in a table where variables stand at places: its preferred value, unless only the other one leaves a choice.
 pub fn control_bit(
     alloc: Global,
     t: &mut Table,
+    layout: &Layout,
     p: Ref,
     k: u16,
-    late: u16,
     prefer: bool,
 ) -> Result<Ref, AllocError>
+    requires layout { IsLayout t.old.vars layout.now }
     requires p { Has t.old p }
-    requires k { k < late }
-    requires late { late ≤ t.old.vars }
+    requires k { k < layout.now.counts.registers + layout.now.counts.early + layout.now.counts.control }
     ensures has { IfOk result (Has t.new) }
-    ensures ok { IfOk result (λ r. (g : Game) (n : ℕ) (q : Bits → Bits → Set) → late ≡ late_from g → control_from g ≤ k
-        → late_from g ≡ suc k + n → AreLeft g t.old k (suc n) q p → Means t.new (OfEarly g (λ s u. bit_of prefer n (q s u))) r) }
+    ensures ok { IfOk result (λ r. (g : Game) (n : ℕ) (q : Bits → Bits → Set) → IsCounts g layout.now.counts → control_from g ≤ k
+        → late_from g ≡ suc k + n → AreLeft g (place layout.now) t.old k (suc n) q p → Means t.new (over (place layout.now) (OfEarly g (λ s u. bit_of prefer n (q s u)))) r) }
     ensures keeps { Keeps t.old t.new }
 {
-    let some = exists(alloc, t, p, k + 1, late)?;
-    let high = with(alloc, t, some, k, one())?;
-    let low = with(alloc, t, some, k, zero())?;
+    let late = t.vars() - layout.counts.late;
+    let at = layout.place(k);
+    let some = some_in(alloc, t, layout, p, k + 1, late)?;
+    let high = with(alloc, t, some, at, one())?;
+    let low = with(alloc, t, some, at, zero())?;
     let no_low = t.not(low)?;
     if prefer {
         t.or(high, no_low)
