@@ -1,16 +1,14 @@
 -- From the diagrams of gates to what a round works on, and to the permitted choices.
-use Rattle.std.proofs.Common.{◌≡◌, ◌↔◌, ℕ, ◌<◌, not, ◌&&◌, IsTrue, List, slice_index_or, Option, Some, None, sym, ap, ap₂, subst, ◌∙◌, arith}
+use Rattle.std.proofs.Common.{◌≡◌, ℕ, ◌<◌, List, slice_index_or, Option, Some, None, sym, ap, ◌∙◌, arith}
 use Rattle.std.specs.Option.{option_map_or}
 use Rattle.hp_diagram.specs.declared.reference.Ref.{Ref}
-use Rattle.hp_diagram.specs.Diagrams.{Diagrams, function, Means, Keeps}
-use Rattle.hp_quant.specs.Quantifiers.{DifferWithin, IsForall}
+use Rattle.hp_diagram.specs.Diagrams.{Diagrams, function, Means}
 use Rattle.hp_quant.specs.Replacements.{replaced}
-use Rattle.hp_boolx.specs.Search.{Bits, Set}
-use Rattle.hp_boolx.specs.Game.{Game, IsForm, joined, valid_choice, bad, permitted}
+use Rattle.hp_boolx.specs.Search.{Bits}
+use Rattle.hp_boolx.specs.Game.{Game, IsForm}
 use Rattle.hp_boolx.specs.Machine.{bit}
-use Rattle.hp_synth.specs.Valued.{Valued, read, all, through, over, states, late_from, total, OfChoice}
-use Rattle.hp_synth.proofs.Ranges.{read-list, every-late}
-use Rattle.hp_synth.proofs.RoundSteps.{Means-equal}
+use Rattle.hp_synth.specs.Valued.{Valued, read, all, through, over, states}
+use Rattle.hp_synth.proofs.Ranges.{read-list}
 
 -- replacements at the places of registers give the next state
 pub next-replaced : (g : Game) → IsForm g → (place : ℕ → ℕ) (t : Diagrams) (by : List (Option Ref)) → ((k : ℕ) → k < g.registers → (r : Ref) × (slice_index_or by (place k) None ≡ Some r) × Means t (over place (λ v. bit (g.next (all g v)) k)) r) → (v : Valued) → states g (through place (replaced t by v)) ≡ g.next (all g (through place v))

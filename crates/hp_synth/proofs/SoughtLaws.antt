@@ -1,5 +1,5 @@
 -- What a solver works on, in its list of references.
-use Rattle.std.proofs.Common.{◌≡◌, ℕ, zero, suc, ◌+◌, ◌<◌, List, [], ◌∷◌, ◌++◌, length, map, slice_index_or, Option, Some, None, refl, sym, ap, subst, ◌∙◌, arith}
+use Rattle.std.proofs.Common.{◌≡◌, ℕ, zero, suc, ◌+◌, ◌<◌, List, [], ◌∷◌, ◌++◌, length, map, slice_index_or, Option, Some, None, refl, ap, subst, ◌∙◌, arith}
 use Rattle.std.proofs.lemmas.List.Elements.{All-nil, All-cons}
 use Rattle.hp_diagram.specs.declared.reference.Ref.{Ref}
 use Rattle.hp_diagram.specs.Diagrams.{Diagrams, Has, Means, Keeps}
@@ -9,7 +9,7 @@ use Rattle.hp_boolx.specs.Machine.{bit}
 use Rattle.hp_synth.specs.Building.{HasEach}
 use Rattle.hp_synth.specs.Kept.{AllMean}
 use Rattle.hp_synth.specs.Rounds.{AreSets}
-use Rattle.hp_synth.specs.Sought.{base, base_at, next_from}
+use Rattle.hp_synth.specs.Sought.{base_at, next_from}
 use Rattle.hp_synth.specs.Valued.{Fun, all, over}
 use Rattle.hp_synth.proofs.Built.{next-replaced}
 
