@@ -1,5 +1,5 @@
 //! Whether the machines of a node have its inputs and outputs.
-ghost use Rattle.std.specs.Prelude.{◌≡◌, ◌∷◌, ◌++◌, [], ◌↔◌, IsTrue, MatchOption, None, Some};
+ghost use Rattle.std.specs.Prelude.{◌≡◌, ◌∷◌, ◌++◌, [], ◌↔◌, ℕ, List, IsTrue, MatchOption, None, Some};
 ghost use Rattle.hp_controlled.specs.Chosen.{IsChosen, IsToldBy, truth};
 ghost use Rattle.hp_machines.specs.Machined.{vars_of};
 ghost use Rattle.hp_obc.specs.Form.{machine_named};
@@ -77,14 +77,16 @@ fn are_truths(vars: &[Var]) -> bool
 pub fn is_chosen(o: &Obc, name: &str, node: &Node) -> bool
     ensures { IsTrue result → IsChosen name.now o.now node.now }
 {
-    match named(o.machines(), name) {
-        None => false,
-        Some(machine) => {
-            machine.name.same(&node.name)
-                && are_vars(&machine.inputs, &node.inputs)
-                && are_vars(&machine.outputs, &node.outputs)
-        }
+    let Some(machine) = named(o.machines(), name) else {
+        return false;
+    };
+    if !machine.name.same(&node.name) {
+        return false;
     }
+    if !are_vars(&machine.inputs, &node.inputs) {
+        return false;
+    }
+    are_vars(&machine.outputs, &node.outputs)
 }
 
 /// Whether the machine of this name has the inputs of the node, and gives its outputs and two truth values more.
@@ -98,7 +100,11 @@ pub fn is_told(o: &Obc, name: &str, node: &Node) -> bool
     if machine.outputs.len() < count {
         return false;
     }
-    are_vars(&machine.inputs, &node.inputs)
-        && are_vars(&machine.outputs[..count], &node.outputs)
-        && are_truths(&machine.outputs[count..])
+    if !are_vars(&machine.inputs, &node.inputs) {
+        return false;
+    }
+    if !are_vars(&machine.outputs[..count], &node.outputs) {
+        return false;
+    }
+    are_truths(&machine.outputs[count..])
 }
