@@ -73,13 +73,13 @@ class OverTheProgram(unittest.TestCase):
 
     def test_all_inputs_find_the_shortest_trace(self):
         done = self.tried('door.ept', 'door', '--all')
-        self.assertEqual((done.returncode, done.stdout), (1, b'true false\n' * 3))
+        self.assertEqual((done.returncode, done.stdout), (9, b'true false\n' * 3))
         self.assertIn(b'`safe` is false at instant 3', done.stderr)
         self.assertEqual(hept('run', 'door.ept', 'door', text=done.stdout, folder=self.folder.name).stdout.split(b'\n')[-2], b'false true')
 
     def test_a_planted_violation_is_found_at_random_and_again(self):
         done = self.tried('box.ept', 'box', '--false', 'fine', '--seed', '7')
-        self.assertEqual(done.returncode, 1, done.stderr)
+        self.assertEqual(done.returncode, 9, done.stderr)
         answers = hept('run', 'box.ept', 'box', text=done.stdout, folder=self.folder.name).stdout.decode().split('\n')[:-1]
         self.assertEqual([it.split()[1] for it in answers], ['true'] * (len(answers) - 1) + ['false'])
         again = self.tried('box.ept', 'box', '--false', 'fine', '--seed', '7')
@@ -102,7 +102,7 @@ class OverTheProgram(unittest.TestCase):
     def test_a_text_of_machines_is_tried_alike(self):
         self.assertEqual(hept('compile', 'door.ept', 'door.obc', folder=self.folder.name).returncode, 0)
         done = self.tried('door.obc', 'door', '--all')
-        self.assertEqual((done.returncode, done.stdout), (1, b'true false\n' * 3))
+        self.assertEqual((done.returncode, done.stdout), (9, b'true false\n' * 3))
 
     def test_a_contract_is_kept(self):
         with open(os.path.join(self.folder.name, 'kept.ept'), 'w') as file:
