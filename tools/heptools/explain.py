@@ -16,9 +16,11 @@ class Told:
 
     def __init__(self, entry, words):
         self.entry, self.words = entry, words
-        self.title = entry.filled(entry.data['title'], words)
-        self.cause = entry.filled(entry.data['cause'], words)
-        self.cure = entry.filled(entry.data['cure'], words)
+        name = words.get('NAME', '')
+        texts = entry.data.get('constructor', entry.data) if name[:1].isupper() or name in ('true', 'false') else entry.data
+        self.title = entry.filled(texts['title'], words).replace('instant(s)', 'instant' if words.get('N') == '1' else 'instants')
+        self.cause = entry.filled(texts['cause'], words)
+        self.cure = entry.filled(texts['cure'], words)
         self.marks = []
 
 
@@ -51,6 +53,7 @@ def look_closer(data, it, source):
     code = it.entry.code
     if code in ('E1', 'E2', 'E4') and it.marks:
         name_feature(data, it, source)
+        mark_name(it, source)
     elif code == 'E7':
         mark_sampled(it, source)
     elif code == 'E8':
@@ -86,6 +89,17 @@ def name_feature(data, it, source):
         name_bad_token(it, word)
     elif it.entry.code == 'E2':
         name_bad_syntax(data, it, source)
+
+
+def mark_name(it, source):
+    """Marks the name that is meant, where it stands behind the place, in the same declaration or equation."""
+    line, column = it.marks[0][:2]
+    name = it.words.get('NAME')
+    if name is None or source.token(line, column) == name:
+        return
+    place = source.behind(line, column, name)
+    if place is not None:
+        it.marks.append((*place, None, f'`{name}`'))
 
 
 def name_bad_syntax(data, it, source):

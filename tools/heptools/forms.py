@@ -24,6 +24,7 @@ def arguments(words):
 
 def is_sweep(tasks, instants):
     """Whether these are 1 to 8 tasks and at most 1,000,000 instants."""
-    if not all(re.fullmatch(r'[0-9]{1,4000}', it) for it in (tasks, instants)):
+    counts = [it.lstrip('0') for it in (tasks, instants)]
+    if not all(re.fullmatch(r'[0-9]+', it) for it in (tasks, instants)) or any(len(it) > 7 for it in counts):
         return False
-    return 1 <= int(tasks) <= 8 and int(instants) <= 1_000_000
+    return 1 <= int(counts[0] or '0') <= 8 and int(counts[1] or '0') <= 1_000_000

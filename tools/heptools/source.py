@@ -1,6 +1,7 @@
 """A source text as people see it: its lines, the tokens at a place, and what an equation holds."""
 import bisect
 import collections
+import itertools
 import re
 import unicodedata
 
@@ -67,6 +68,16 @@ class Source:
                 break
             found.append((word.decode('latin-1'), *self.place(start + at)))
         return found
+
+    def behind(self, line, column, name):
+        """The place of the first token behind the place that is the name, before what may begin another declaration or equation."""
+        start = self.offset(line, column)
+        for word, at in itertools.islice(tokens(self.text[start:start + 20000]), 1, 400):
+            if word == name.encode('latin-1', 'replace'):
+                return self.place(start + at)
+            if word in (b';', b'type', b'node', b'tel', b'let'):
+                return None
+        return None
 
     def heading(self, node):
         """The tokens of the text from the word `node` of this node on, each with its offset."""

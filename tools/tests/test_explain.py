@@ -80,6 +80,17 @@ class FromTheData(unittest.TestCase):
         caret = next(it for it in lines if '^' in it)
         self.assertEqual(shown[caret.index('^')], 'x')
 
+    def test_the_name_that_is_meant_is_marked(self):
+        source = Source('f.ept', b'type mode = Off | On\ntype lamp = Lit | Off\n')
+        lines = explain.lines_of(explain.told(DATA, 'E4 2:6 Off twice', source), source)
+        carets = [it.index('^') for it in lines if '^' in it]
+        shown = next(it for it in lines if 'lamp' in it)
+        self.assertEqual([shown[at:at + 3] for at in carets], ['lam', 'Off'])
+
+    def test_a_constructor_is_told_as_one(self):
+        self.assertEqual(self.title_of('switch x', 'E6 1:1 Back branch'), 'the constructor `Back` is missing, or stands there twice')
+        self.assertEqual(self.title_of('node', 'E6 1:1 y branch'), '`y` is missing in a branch, or stands there twice')
+
     def title_of(self, text, line):
         return explain.told(DATA, line, Source('f.ept', text.encode())).title
 

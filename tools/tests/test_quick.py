@@ -38,7 +38,10 @@ class Words(unittest.TestCase):
         self.assertEqual(forms.arguments(['run', '--contract', 'a', 'b']), ['a', 'b'])
         self.assertIsNone(forms.arguments(['run', 'a', 'b', '--contract', '--contract']))
         self.assertEqual(forms.arguments(['sweep', '08', '01000000']), ['08', '01000000'])
+        self.assertEqual(forms.arguments(['sweep', '1', '0' * 9000]), ['1', '0' * 9000])
         self.assertIsNone(forms.arguments(['sweep', '1', '٣']))
+        self.assertIsNone(forms.arguments(['sweep', '1', '9' * 9000]))
+        self.assertIsNone(forms.arguments(['sweep', '', '']))
         self.assertIsNone(forms.arguments([]))
 
 

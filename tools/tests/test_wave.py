@@ -1,4 +1,4 @@
-"""Chronograms, pictures and value change dumps: of three examples against stored files, which were looked at, and at their edges.
+"""Chronograms, pictures and value change dumps: of five examples against stored files, which were looked at, and at their edges.
 
 A stored file is made by the call of its test, in examples/: `../tools/hept-wave updown.ept updown --svg < updown.trace`."""
 import os
@@ -17,7 +17,7 @@ from .read_vcd import read
 
 STORED = {'txt': os.path.join(TOOLS, 'tests', 'expected'), 'vcd': os.path.join(TOOLS, 'tests', 'expected'), 'svg': os.path.join(TOP, 'docs', 'pictures')}
 KINDS = {'txt': ['--width', '100'], 'svg': ['--svg'], 'vcd': ['--vcd']}
-NAMES = ('updown', 'filter', 'lights')
+WORDS = {'updown': [], 'filter': [], 'lights': [], 'airlock': ['--contract'], 'tasks': ['--contract']}
 
 
 def stored(name):
@@ -76,19 +76,19 @@ class OverTheProgram(unittest.TestCase):
     def setUp(self):
         program()
 
-    def test_three_examples_are_drawn_as_stored(self):
-        for name in NAMES:
+    def test_examples_are_drawn_as_stored(self):
+        for name, asked in WORDS.items():
             for ending, words in KINDS.items():
                 with self.subTest(f'{name}.{ending}'):
-                    done = tool('hept-wave', f'{name}.ept', name, *words, text=trace_of(name), folder=EXAMPLES)
+                    done = tool('hept-wave', f'{name}.ept', name, *asked, *words, text=trace_of(name), folder=EXAMPLES)
                     self.assertEqual((done.returncode, done.stderr), (0, b''))
                     self.assertEqual(done.stdout.decode(), stored(f'{name}.{ending}').decode())
 
     def test_dumps_say_what_the_program_says(self):
-        for name in NAMES:
+        for name, asked in WORDS.items():
             with self.subTest(name):
-                answers = hept('run', os.path.join(EXAMPLES, f'{name}.ept'), name, text=trace_of(name)).stdout.decode().split('\n')[:-1]
-                wanted = [[shown(it) for it in f'{line} {answer}'.split()] for line, answer in zip(trace_of(name).decode().split('\n'), answers)]
+                answers = hept('run', os.path.join(EXAMPLES, f'{name}.ept'), name, *asked, text=trace_of(name)).stdout.decode().split('\n')[:-1]
+                wanted = [[shown(it.rpartition('=')[2]) for it in f'{line} {answer}'.split()] for line, answer in zip(trace_of(name).decode().split('\n'), answers)]
                 self.assertEqual([list(row.values()) for row in read(stored(f'{name}.vcd').decode())[1]], wanted)
 
     def test_the_words_of_a_contract_are_shown(self):

@@ -2,6 +2,7 @@ pub mod LineLaws
 pub mod MarkLaws
 pub mod FunctionLaws
 pub mod StepLaws
+pub mod ChosenLaws
 pub mod ReadyLaws
 pub mod CheckLaws
 pub mod CertmadeLemmas

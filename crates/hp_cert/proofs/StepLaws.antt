@@ -12,8 +12,11 @@ use Rattle.hp_diagram.proofs.Kept.{function-zero}
 use Rattle.hp_quant.specs.Replacements.{replaced, HasAll}
 use Rattle.hp_synth.specs.Building.{HasEach, functions_at}
 use Rattle.hp_synth.specs.Kept.{AllMean}
-use Rattle.hp_synth.specs.Valued.{Valued, Fun, read, states, earlies, controls, control_from, OfState, OfChoice}
+use Rattle.hp_synth.specs.declared.layout.Layout.{Layout}
+use Rattle.hp_synth.specs.Layouts.{place, variable, IsLayout}
+use Rattle.hp_synth.specs.Valued.{Valued, Fun, through, over, read, states, earlies, controls, control_from, OfState, OfChoice}
 use Rattle.hp_synth.proofs.Gates.{states-valuation}
+use Rattle.hp_synth.proofs.LayoutLaws.{seen}
 use Rattle.hp_synth.proofs.Ranges.{read-len, read-same, read-list}
 
 -- ---- tests
@@ -119,66 +122,18 @@ module _ (g : Game) where
           let row = after_not (X (states g v)) _ (every-at g.registers (λ r. not (X r) || every_of g.early (λ u. not (valid_early g r u) || permitted g (λ s. not (X s)) r u (F r u))) h (states g v) (read-len 0 g.registers v)) p.0 in
           after_not (valid_early g (states g v) (earlies g v)) _ (every-at g.early (λ u. not (valid_early g (states g v) u) || permitted g (λ s. not (X s)) (states g v) u (F (states g v) u)) row (earlies g v) (read-len g.registers g.early v)) p.1
 
-  -- ---- functions in the place of control bits
-
-  module _ (t : Diagrams) (by : List (Option Ref)) (funs : List Ref) (from : ℕ) (is_from : from ≡ control_from g) (count : length funs ≡ g.control)
-      (put : (k : ℕ) → k < length funs → slice_index_or by (from + k) None ≡ Some (slice_index_or funs k zero_ref)) (others : (y : ℕ) → (y < from) ⊎ (from + length funs ≤ y) → slice_index_or by y None ≡ None) where
-    stays : (v : Valued) (y : ℕ) → y < from → replaced t by v y ≡ v y
-    stays v y l = ap (λ o. option_map_or (λ f. function t f v) o (v y)) (others y (inl l))
-
-    same_states : (v : Valued) → states g (replaced t by v) ≡ states g v
-    same_states v = read-same 0 g.registers (replaced t by v) v (λ y low high. stays v y (omega (arith, is_from, high)))
-
-    same_earlies : (v : Valued) → earlies g (replaced t by v) ≡ earlies g v
-    same_earlies v = read-same g.registers g.early (replaced t by v) v (λ y low high. stays v y (omega (arith, is_from, high)))
-
-    bit_at : (fs : List Ref) (v : Valued) (k : ℕ) → k < length fs → slice_index_or (functions_at t fs v) k false ≡ function t (slice_index_or fs k zero_ref) v
-    bit_at [] v k l = absurd (omega (arith, l))
-    bit_at (f ∷ fs) v zero l = refl
-    bit_at (f ∷ fs) v (suc k) l = bit_at fs v k (omega (arith, l))
-
-    bits_len : (fs : List Ref) (v : Valued) → length (functions_at t fs v) ≡ length fs
-    bits_len [] v = refl
-    bits_len (f ∷ fs) v = ap suc (bits_len fs v)
-
-    same_controls : (v : Valued) → controls g (replaced t by v) ≡ functions_at t funs v
-    same_controls v =
-        let len = bits_len funs v in
-        ap (λ n. read (control_from g) n (replaced t by v)) (sym (len ∙ count))
-        ∙ read-list (control_from g) (replaced t by v) (functions_at t funs v)
-        (λ k l. let less : k < length funs = omega (arith, len, l) in
-        ap (λ n. replaced t by v (n + k)) (sym is_from) ∙ ap (λ o. option_map_or (λ f. function t f v) o (v (from + k))) (put k less) ∙ sym (bit_at funs v k less))
-
-    pub controlled-choice : (Z : Bits → Bits → Set) (v : Valued) → OfChoice g Z (replaced t by v) ≡ Z (states g v) (earlies g v) (functions_at t funs v)
-    controlled-choice Z v =
-        ap (λ s. Z s (earlies g (replaced t by v)) (controls g (replaced t by v))) (same_states v)
-        ∙ ap (λ u. Z (states g v) u (controls g (replaced t by v))) (same_earlies v) ∙ ap (Z (states g v) (earlies g v)) (same_controls v)
-
-module _ (t : Diagrams) (by : List (Option Ref)) (funs : List Ref) (from : ℕ)
-    (put : (k : ℕ) → k < length funs → slice_index_or by (from + k) None ≡ Some (slice_index_or funs k zero_ref)) (others : (y : ℕ) → (y < from) ⊎ (from + length funs ≤ y) → slice_index_or by y None ≡ None) where
-  pub has_controlled : HasEach t funs → HasAll t by
-  has_controlled has x f e = where_ (cases_lt x from)
-    where
-      nothing : slice_index_or by x None ≡ None → Has t f
-      nothing n = let p : None ≡ Some f = sym n ∙ e in absurd cc
-
-      where_ : (x < from) ⊎ (from ≤ x) → Has t f
-      where_ (inl l) = nothing (others x (inl l))
-      where_ (inr l) = next (cases_lt (x - from) (length funs))
-        where
-          next : (x - from < length funs) ⊎ (length funs ≤ x - from) → Has t f
-          next (inr far) = nothing (others x (inr (omega (arith, l, far))))
-          next (inl less) =
-              let at : from + (x - from) ≡ x = omega (arith, l) in
-              let p : Some (slice_index_or funs (x - from) zero_ref) ≡ Some f = sym (put (x - from) less) ∙ ap (λ n. slice_index_or by n None) at ∙ e in
-              let same : slice_index_or funs (x - from) zero_ref ≡ f = cc in
-              subst (Has t) same (has (x - from) zero_ref less)
-
 -- ---- the same of other functions
 
-pub transfer : (b : Bool) (p q a c : Valued → Bool) (W : Type 0) → ((v : Valued) → p v ≡ a v) → ((v : Valued) → q v ≡ c v) → IsTrue b ↔ ((v : Valued) → IsTrue (p v) → IsTrue (q v)) → ((v : Valued) → IsTrue (a v) → IsTrue (c v)) ↔ W → IsTrue b ↔ W
-transfer b p q a c W e f is told =
-    (λ h. told.0 (λ v i. subst IsTrue (f v) (is.0 h v (subst IsTrue (sym (e v)) i))), λ w. is.1 (λ v i. subst IsTrue (sym (f v)) (told.1 w v (subst IsTrue (e v) i))))
+-- where variables stand at places
+pub transfer : (vars : ℕ) (l : Layout) → IsLayout vars l → (b : Bool) (p q a c : Valued → Bool) (W : Type 0) → ((v : Valued) → p v ≡ a (through (place l) v)) → ((v : Valued) → q v ≡ c (through (place l) v)) →
+    IsTrue b ↔ ((v : Valued) → IsTrue (p v) → IsTrue (q v)) → ((v : Valued) → IsTrue (a v) → IsTrue (c v)) ↔ W → IsTrue b ↔ W
+transfer vars l placed b p q a c W e f is told = (
+  λ h. told.0 (λ v i.
+      let w : Valued = through (variable l) v in
+      let back : through (place l) w ≡ v = seen vars l placed v in
+      subst (λ z. IsTrue (c z)) back (subst IsTrue (f w) (is.0 h w (subst IsTrue (sym (e w)) (subst (λ z. IsTrue (a z)) (sym back) i))))),
+  λ w. is.1 (λ v i. subst IsTrue (sym (f v)) (told.1 w (through (place l) v) (subst IsTrue (e v) i))),
+)
 
 -- ---- references by their places
 
@@ -189,18 +144,18 @@ mean_at t (g ∷ fs) [] h k f d e = absurd h
 mean_at t (g ∷ fs) (r ∷ rs) h zero f d e = let same : g ≡ f = cc in subst (λ z. Means t z r) same h.0
 mean_at t (g ∷ fs) (r ∷ rs) h (suc k) f d e = mean_at t fs rs h.1 k f d e
 
-pub set_at : (g : Game) (t : Diagrams) (Xs : List Set) (rs : List Ref) → AllMean t (map (OfState g) Xs) rs → (k : ℕ) (d : Ref) → k < length rs → Means t (OfState g (rank Xs (suc k))) (slice_index_or rs k d)
-set_at g t [] [] h k d l = absurd (omega (arith, l))
-set_at g t [] (r ∷ rs) h k d l = absurd h
-set_at g t (X ∷ Xs) [] h k d l = absurd h
-set_at g t (X ∷ Xs) (r ∷ rs) h zero d l = h.0
-set_at g t (X ∷ Xs) (r ∷ rs) h (suc k) d l = set_at g t Xs rs h.1 k d (omega (arith, l))
+pub set_at : (g : Game) (place : ℕ → ℕ) (t : Diagrams) (Xs : List Set) (rs : List Ref) → AllMean t (map (λ X. over place (OfState g X)) Xs) rs → (k : ℕ) (d : Ref) → k < length rs → Means t (over place (OfState g (rank Xs (suc k)))) (slice_index_or rs k d)
+set_at g place t [] [] h k d l = absurd (omega (arith, l))
+set_at g place t [] (r ∷ rs) h k d l = absurd h
+set_at g place t (X ∷ Xs) [] h k d l = absurd h
+set_at g place t (X ∷ Xs) (r ∷ rs) h zero d l = h.0
+set_at g place t (X ∷ Xs) (r ∷ rs) h (suc k) d l = set_at g place t Xs rs h.1 k d (omega (arith, l))
 
-pub sets_len : (g : Game) (t : Diagrams) (Xs : List Set) (rs : List Ref) → AllMean t (map (OfState g) Xs) rs → length Xs ≡ length rs
-sets_len g t [] [] h = refl
-sets_len g t [] (r ∷ rs) h = absurd h
-sets_len g t (X ∷ Xs) [] h = absurd h
-sets_len g t (X ∷ Xs) (r ∷ rs) h = ap suc (sets_len g t Xs rs h.1)
+pub sets_len : (g : Game) (place : ℕ → ℕ) (t : Diagrams) (Xs : List Set) (rs : List Ref) → AllMean t (map (λ X. over place (OfState g X)) Xs) rs → length Xs ≡ length rs
+sets_len g place t [] [] h = refl
+sets_len g place t [] (r ∷ rs) h = absurd h
+sets_len g place t (X ∷ Xs) [] h = absurd h
+sets_len g place t (X ∷ Xs) (r ∷ rs) h = ap suc (sets_len g place t Xs rs h.1)
 
-pub nothing_means : (g : Game) (t : Diagrams) (r : Ref) → r ≡ zero_ref → Means t (OfState g (λ q. false)) r
-nothing_means g t r e = record { has = (let z = ap (λ (r : Ref). r.index) e in omega (arith, z)); value = λ v. function-zero t v r (ap (λ (r : Ref). r.index) e) }
+pub nothing_means : (g : Game) (place : ℕ → ℕ) (t : Diagrams) (r : Ref) → r ≡ zero_ref → Means t (over place (OfState g (λ q. false))) r
+nothing_means g place t r e = record { has = (let z = ap (λ (r : Ref). r.index) e in omega (arith, z)); value = λ v. function-zero t v r (ap (λ (r : Ref). r.index) e) }

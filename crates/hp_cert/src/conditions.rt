@@ -19,7 +19,7 @@ use crate::value::value;
 use hp_boolx::BoolMachine;
 use hp_diagram::{Ref, Table};
 use hp_quant::{Line, reference};
-use hp_synth::prepare;
+use hp_synth::{Layout, layout_of, prepare};
 use std::alloc::{AllocError, Global};
 
 /// Whether a state is in the set, or in the last rank.
@@ -43,10 +43,11 @@ pub fn holds_at_first(m: &BoolMachine, c: &Cert) -> bool
     holds_at(&c.lines, &c.kind, &m.init)
 }
 
-/// A table with the gates of a machine and some functions of the lines of a certificate.
+/// A table with the gates of a machine and some functions of the lines of a certificate, in the solver's order of variables.
 #[derive(Drop)]
 struct Ready {
     table: Table,
+    layout: Layout,
     /// What is valid, the hypothesis, the duty, the valid choices, the valid early values, and the next value of each register.
     roots: Vec<Ref>,
     /// The function of each line that is reached.
@@ -63,14 +64,16 @@ fn build(
     requires lines { AreLines 2 lines.now }
     requires vars { All (λ (l : plain.Line). l.var < variables m.now) lines.now }
     requires numbers { All (IsRef (length lines.now + 2)) numbers.now }
-    ensures { IfOk result (λ r. IsReady m.now lines.now numbers.now r.table r.roots.items r.lines.items) }
+    ensures { IfOk result (λ r. IsReady m.now lines.now numbers.now r.layout r.table r.roots.items r.lines.items) }
 {
+    let layout = layout_of(alloc, m)?;
     let mut table = Table::new(alloc, m.vars())?;
-    let roots = prepare(alloc, m, &mut table)?;
+    let roots = prepare(alloc, m, &layout, &mut table)?;
     let marks = reached(alloc, lines, numbers)?;
-    let lines = functions(alloc, &mut table, lines, &marks)?;
+    let lines = functions(alloc, &mut table, &layout, lines, &marks)?;
     Ok(Ready {
         table,
+        layout,
         roots,
         lines,
     })
@@ -94,12 +97,21 @@ pub fn keeps(
     requires first { IsTrue (set_of lines.now inv m.now.init) }
     ensures { IfOk result (λ b. IsTrue b ↔ Keeps m.now lines.now inv funs.now) }
 {
+    // The proof wants the machine's form.
+    let _vars = m.vars();
     let mut numbers = Vec::from_slice(alloc, funs)?;
     numbers.push(inv)?;
     let mut ready = build(alloc, m, lines, &numbers)?;
     let set = reference(&ready.lines, inv);
     let bits = references(alloc, &ready.lines, funs)?;
-    win_holds(alloc, &mut ready.table, m.counts, &ready.roots, set, &bits)
+    win_holds(
+        alloc,
+        &mut ready.table,
+        &ready.layout,
+        &ready.roots,
+        set,
+        &bits,
+    )
 }
 
 /// The first rank, counted from 0, from some state of which a violation, or the rank before, cannot be forced by the next instant.
@@ -115,7 +127,9 @@ pub fn first_failing(
     requires scope { All (ReadsBelow lines.now m.now.registers) ranks.now }
     ensures { IfOk result (FirstFailing m.now lines.now ranks.now) }
 {
+    // The proof wants the machine's form.
+    let _vars = m.vars();
     let mut ready = build(alloc, m, lines, ranks)?;
     let sets = references(alloc, &ready.lines, ranks)?;
-    first_weak(alloc, &mut ready.table, m.counts, &ready.roots, &sets)
+    first_weak(alloc, &mut ready.table, &ready.layout, &ready.roots, &sets)
 }

@@ -1,3 +1,4 @@
 mod BitFunctions
-mod ControlBits
+pub mod ControlBits
 mod ChoosingLaws
+mod PermittedLaws

@@ -2,78 +2,94 @@
 ghost use Rattle.std.specs.Prelude.{◌≡◌, ◌+◌, ◌≤◌, not, length, IfOk};
 ghost use Rattle.hp_diagram.specs.Diagrams.{Has, Means, Keeps};
 ghost use Rattle.hp_boolx.specs.Solved.{IsWin};
-ghost use Rattle.hp_boolx.specs.Game.{Game, preferred};
+ghost use Rattle.hp_boolx.specs.Game.{Game, permitted, preferred};
 ghost use Rattle.hp_boolx.specs.Machine.{game, variables};
 ghost use Rattle.hp_boolx.specs.Search.{Bits, Set};
-ghost use Rattle.hp_control.specs.Controlling.{AreFunctions, AreLeft, IsPermissive};
+ghost use Rattle.hp_control.specs.Controlling.{AreFunctions, AreFunctionsAt, AreLeft, IsPermissive};
 ghost use Rattle.hp_synth.specs.Building.{HasEach, functions_at};
-ghost use Rattle.hp_synth.specs.Valued.{Valued, states, earlies, control_from, late_from, OfState};
+ghost use Rattle.hp_synth.specs.Layouts.{place, IsLayout};
+ghost use Rattle.hp_synth.specs.Rounds.{IsCounts};
+ghost use Rattle.hp_synth.specs.Valued.{Valued, through, states, earlies, control_from, OfState, OfChoice};
 ghost use Rattle.hp_synth.specs.Verdicts.{IsWon};
 
-use crate::controlling::{control_bit, with};
+use crate::controlling::{control_bit, put};
 use crate::permitted::permitted_choices;
 use hp_boolx::BoolMachine;
 use hp_diagram::{Ref, Table};
-use hp_synth::{Solved, Verdict};
+use hp_synth::{Layout, Solved, Verdict, layout_of, renamed};
 use std::alloc::{AllocError, Global};
 
-/// The functions of the control bits from `from` on, one by one: each has its preferred value, unless only the other one leaves a choice, and takes its bit's place in
-/// what is left.
+/// The functions of a controller, one for each control bit in order, in a table where the machine's variables stand at the places of a layout.
+#[derive(Drop)]
+pub struct PlacedFunctions {
+    pub layout: Layout,
+    pub funs: Vec<Ref>,
+}
+
+/// The functions of the control bits, one by one: each has its preferred value, unless only the other one leaves a choice, and takes its bit's place in what is left.
 fn bits(
     alloc: Global,
     t: &mut Table,
+    layout: &Layout,
     choices: Ref,
-    from: u16,
-    late: u16,
     prefer: &[bool],
 ) -> Result<Vec<Ref>, AllocError>
+    requires layout { IsLayout t.old.vars layout.now }
     requires choices { Has t.old choices }
-    requires range { from + length prefer.now ≡ late }
-    requires late { late ≤ t.old.vars }
+    requires count { length prefer.now ≡ layout.now.counts.control }
     ensures has { IfOk result (λ funs. HasEach t.new funs.items) }
-    ensures ok { IfOk result (λ funs. (g : Game) (q : Bits → Bits → Set) → from ≡ control_from g → late ≡ late_from g → AreLeft g t.old from (length prefer.now) q choices
-        → (v : Valued) → functions_at t.new funs.items v ≡ preferred prefer.now (q (states g v) (earlies g v))) }
+    ensures ok { IfOk result (λ funs. (g : Game) (q : Bits → Bits → Set) → IsCounts g layout.now.counts → AreLeft g (place layout.now) t.old (control_from g) (length prefer.now) q choices
+        → (v : Valued) → functions_at t.new funs.items v ≡ preferred prefer.now (q (states g (through (place layout.now) v)) (earlies g (through (place layout.now) v)))) }
     ensures keeps { Keeps t.old t.new }
 {
     let _vars = t.vars();
     let mut funs = Vec::new(alloc);
     let mut left = choices;
-    let mut k = from;
+    let mut k = layout.counts.registers + layout.counts.early;
     for i in 0..prefer.len() {
-        let fun = control_bit(alloc, t, left, k, late, prefer[i])?;
-        left = with(alloc, t, left, k, fun)?;
+        let fun = control_bit(alloc, t, layout, left, k, prefer[i])?;
+        left = put(alloc, t, left, layout.place(k), fun)?;
         funs.push(fun)?;
         k += 1;
     }
     Ok(funs)
 }
 
-/// The functions of a machine, where these are its safe states.
+/// The functions of a machine, where these are its safe states, in an order of variables in which they are found with few nodes.
 fn functions_of(
     alloc: Global,
     t: &mut Table,
     m: &BoolMachine,
     inv: Ref,
-) -> Result<Vec<Ref>, AllocError>
+) -> Result<PlacedFunctions, AllocError>
     requires inv { Has t.old inv }
     requires fits { variables m.now ≡ t.old.vars }
-    ensures has { IfOk result (λ funs. HasEach t.new funs.items) }
-    ensures ok { IfOk result (λ funs. (X : Set) → Means t.old (OfState (game m.now) X) inv → IsWin (game m.now) X → AreFunctions (game m.now) t.new funs.items) }
+    ensures layout { IfOk result (λ p. IsLayout (variables m.now) p.layout) }
+    ensures has { IfOk result (λ p. HasEach t.new p.funs.items) }
+    ensures ok { IfOk result (λ p. (X : Set) → Means t.old (OfState (game m.now) X) inv → IsWin (game m.now) X → AreFunctionsAt (game m.now) (place p.layout) t.new p.funs.items) }
     ensures keeps { Keeps t.old t.new }
 {
-    let choices = permitted_choices(alloc, t, m, inv)?;
-    let counts = m.counts;
-    let from = counts.registers + counts.early;
-    bits(alloc, t, choices, from, from + counts.control, &m.prefer)
+    // The proof of `keeps` wants the table's rules.
+    let _vars = t.vars();
+    let layout = layout_of(alloc, m)?;
+    let choices = permitted_choices(alloc, t, m, &layout, inv)?;
+    let funs = bits(alloc, t, &layout, choices, &m.prefer)?;
+    Ok(PlacedFunctions { layout, funs })
 }
 
 /// The functions of a controller, one for each control bit in order: at each state and all early values they are the preferred permitted choice, and the preference
-/// itself where none is permitted. The verdict stays, and so does the function of each earlier reference.
-pub fn functions(alloc: Global, s: &mut Solved, m: &BoolMachine) -> Result<Vec<Ref>, AllocError>
+/// itself where none is permitted. They are functions of variables that stand at the places of a layout. The verdict stays, and so does the function of each earlier
+/// reference.
+pub fn placed_functions(
+    alloc: Global,
+    s: &mut Solved,
+    m: &BoolMachine,
+) -> Result<PlacedFunctions, AllocError>
     requires fits { variables m.now ≡ s.old.table.vars }
     requires won { IsWon (game m.now) s.old.table s.old.verdict }
-    ensures has { IfOk result (λ funs. HasEach s.new.table funs.items) }
-    ensures ok { IfOk result (λ funs. AreFunctions (game m.now) s.new.table funs.items) }
+    ensures layout { IfOk result (λ p. IsLayout (variables m.now) p.layout) }
+    ensures has { IfOk result (λ p. HasEach s.new.table p.funs.items) }
+    ensures ok { IfOk result (λ p. AreFunctionsAt (game m.now) (place p.layout) s.new.table p.funs.items) }
     ensures verdict { s.new.verdict ≡ s.old.verdict }
     ensures keeps { Keeps s.old.table s.new.table }
 {
@@ -82,6 +98,34 @@ pub fn functions(alloc: Global, s: &mut Solved, m: &BoolMachine) -> Result<Vec<R
         Verdict::Lose { .. } => unreachable!(),
     };
     functions_of(alloc, &mut s.table, m, inv)
+}
+
+/// The same functions, where each variable stands at the place of its own number. The verdict stays, and so does the function of each earlier reference.
+pub fn functions(alloc: Global, s: &mut Solved, m: &BoolMachine) -> Result<Vec<Ref>, AllocError>
+    requires fits { variables m.now ≡ s.old.table.vars }
+    requires won { IsWon (game m.now) s.old.table s.old.verdict }
+    ensures has { IfOk result (λ funs. HasEach s.new.table funs.items) }
+    ensures ok { IfOk result (λ funs. AreFunctions (game m.now) s.new.table funs.items) }
+    ensures verdict { s.new.verdict ≡ s.old.verdict }
+    ensures keeps { Keeps s.old.table s.new.table }
+{
+    let placed = placed_functions(alloc, s, m)?;
+    renamed(alloc, &mut s.table, &placed.layout, &placed.funs)
+}
+
+/// The permitted choices of a machine, where these are its safe states.
+fn choices_of(alloc: Global, t: &mut Table, m: &BoolMachine, inv: Ref) -> Result<Ref, AllocError>
+    requires inv { Has t.old inv }
+    requires fits { variables m.now ≡ t.old.vars }
+    ensures ok { IfOk result (λ r. (X : Set) → Means t.old (OfState (game m.now) X) inv → Means t.new (OfChoice (game m.now) (permitted (game m.now) (λ s. not (X s)))) r) }
+    ensures keeps { Keeps t.old t.new }
+{
+    // The proof of `keeps` wants the table's rules.
+    let _vars = t.vars();
+    let layout = layout_of(alloc, m)?;
+    let choices = permitted_choices(alloc, t, m, &layout, inv)?;
+    let own = renamed(alloc, t, &layout, &[choices])?;
+    Ok(own[0])
 }
 
 /// The permitted choices, as one function of the registers, the early and the control variables: it is true exactly where, at the state and the early values, the
@@ -99,5 +143,5 @@ pub fn permissive(alloc: Global, s: &mut Solved, m: &BoolMachine) -> Result<Ref,
         Verdict::Win { inv } => *inv,
         Verdict::Lose { .. } => unreachable!(),
     };
-    permitted_choices(alloc, &mut s.table, m, inv)
+    choices_of(alloc, &mut s.table, m, inv)
 }

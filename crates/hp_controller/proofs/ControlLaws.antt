@@ -8,7 +8,7 @@ use Rattle.hp_boolx.specs.Search.{Bits}
 use Rattle.hp_boolx.specs.Solved.{IsChoice}
 use Rattle.hp_cert.specs.Certmade.Made.{HaveFunctions}
 use Rattle.hp_cert.specs.Certmade.Placed.{RefersBack}
-use Rattle.hp_control.specs.Controlling.{AreFunctions}
+use Rattle.hp_control.specs.Controlling.{AreFunctionsAt}
 use Rattle.hp_diagram.specs.Diagrams.{Diagrams, function}
 use Rattle.hp_diagram.specs.declared.reference.Ref.{Ref}
 use Rattle.hp_flat.specs.declared.node.FlatTy.TheVariants.{Bool as Truth}
@@ -17,12 +17,16 @@ use Rattle.hp_flat.specs.Equations.{FlatEqn}
 use Rattle.hp_quant.specs.declared.line.Line.{Line}
 use Rattle.hp_quant.specs.Lines.{line_function}
 use Rattle.hp_synth.specs.Building.{functions_at}
-use Rattle.hp_synth.specs.Valued.{Valued, states, earlies, read}
+use Rattle.hp_synth.specs.Valued.{Valued, through, states, earlies, read}
+use Rattle.hp_synth.specs.declared.layout.Layout.{Layout}
+use Rattle.hp_synth.specs.Layouts.{place, variable, IsLayout}
+use Rattle.hp_synth.proofs.LayoutLaws.{seen}
 use Rattle.hp_synth.proofs.Ranges.{read-list}
-use Rattle.hp_controller.specs.Controllers.{bit_variable, line_eqns, output_eqns, node_of_lines}
+use Rattle.hp_controller.specs.Controllers.{moved, bit_variable, line_eqns, output_eqns, node_of_lines}
 use Rattle.hp_controller.specs.Controlling.{IsOperator, IsController}
 use Rattle.hp_controller.specs.Laws.{bit_at}
 use Rattle.hp_controller.proofs.ControllerLaws.{gives}
+use Rattle.hp_controller.proofs.MovedLaws.{lines_moved, back_moved}
 use Rattle.hp_controller.proofs.WellMadeLaws.{well_made}
 
 -- ---- bits
@@ -63,23 +67,26 @@ all_bits from (suc n) = (refl, all_bits (from + 1) n)
 
 -- ---- the controller
 
-pub controls : (m : Machine) (t : Diagrams) (funs : List Ref) (name : List ℕ) (lines : List Line) (numbers : List ℕ) → AreFunctions (game m) t funs → HaveFunctions t funs lines numbers → RefersBack lines → name ≡ m.name ++ codes "$ctl"
-    → IsController m (node_of_lines name (m.registers + m.early) lines numbers)
-controls m t funs name lines numbers are have back named = record {
+-- it has a line for each node of functions of variables that stand at places, and tests the variable that stands there
+pub controls : (m : Machine) (vars : ℕ) (layout : Layout) → IsLayout vars layout → (t : Diagrams) (funs : List Ref) (name : List ℕ) (lines : List Line) (numbers : List ℕ) → AreFunctionsAt (game m) (place layout) t funs → HaveFunctions t funs lines numbers → RefersBack lines
+    → name ≡ m.name ++ codes "$ctl" → IsController m (node_of_lines name (m.registers + m.early) (map (moved (variable layout)) lines) numbers)
+controls m vars layout placed t funs name at_places numbers are have back named = record {
   name = named;
-  bits = all_bits 0 (m.registers + m.early + length lines + length numbers);
+  bits = all_bits 0 (m.registers + m.early + length (map (moved (variable layout)) at_places) + length numbers);
   inputs = refl;
-  stateless = lines_stateless (m.registers + m.early) 0 lines (output_eqns (m.registers + m.early) (length lines) (length lines) numbers) (outputs_stateless (m.registers + m.early) (length lines) (length lines) numbers);
-  well_made = λ types callees. well_made types callees name (m.registers + m.early) lines numbers;
+  stateless = lines_stateless (m.registers + m.early) 0 (map (moved (variable layout)) at_places) (output_eqns (m.registers + m.early) (length (map (moved (variable layout)) at_places)) (length (map (moved (variable layout)) at_places)) numbers) (outputs_stateless (m.registers + m.early) (length (map (moved (variable layout)) at_places)) (length (map (moved (variable layout)) at_places)) numbers);
+  well_made = λ types callees. well_made types callees name (m.registers + m.early) (map (moved (variable layout)) at_places) numbers;
   gives = λ answers past r u now lr lu goes.
       let v : Valued = bit_at (r ++ u) in
+      let w : Valued = through (variable layout) v in
+      let seen_is : through (place layout) w ≡ v = seen vars layout placed v in
       let as_many : length (r ++ u) ≡ m.registers + m.early = length-append r u ∙ ap₂ (λ a b. a + b) lr lu in
-      let state : states (game m) v ≡ r = ap (λ n. read 0 n v) (sym lr) ∙ read-list 0 v r (first_bits r u) in
-      let early : earlies (game m) v ≡ u = ap₂ (λ a n. read a n v) (sym lr) (sym lu) ∙ read-list (length r) v u (λ k h. later_bits r u k) in (
-        functions_at t funs v,
-        subst (λ s. IsChoice (game m) s u (functions_at t funs v)) state (subst (λ e. IsChoice (game m) (states (game m) v) e (functions_at t funs v)) early (are v)),
-        gives answers name (m.registers + m.early) lines numbers back past (r ++ u) now as_many goes
-            ∙ both_mapped (λ n. line_function lines n v) numbers
-            ∙ ap (λ bs. map (λ b. B b) bs) (have v ∙ sym (functions-mapped t funs v)),
+      let state : states (game m) (through (place layout) w) ≡ r = ap (λ (x : Valued). states (game m) x) seen_is ∙ ap (λ n. read 0 n v) (sym lr) ∙ read-list 0 v r (first_bits r u) in
+      let early : earlies (game m) (through (place layout) w) ≡ u = ap (λ (x : Valued). earlies (game m) x) seen_is ∙ ap₂ (λ a n. read a n v) (sym lr) (sym lu) ∙ read-list (length r) v u (λ k h. later_bits r u k) in (
+        functions_at t funs w,
+        subst (λ s. IsChoice (game m) s u (functions_at t funs w)) state (subst (λ e. IsChoice (game m) (states (game m) (through (place layout) w)) e (functions_at t funs w)) early (are w)),
+        gives answers name (m.registers + m.early) (map (moved (variable layout)) at_places) numbers (back_moved (variable layout) at_places back) past (r ++ u) now as_many goes
+            ∙ both_mapped (λ n. line_function (map (moved (variable layout)) at_places) n v) numbers
+            ∙ ap (λ bs. map (λ b. B b) bs) (lines_moved (variable layout) at_places numbers v ∙ have w ∙ sym (functions-mapped t funs w)),
       );
 }

@@ -1,6 +1,7 @@
 pub mod NodeLaws
 pub mod ControllerLaws
 pub mod WellMadeLaws
+pub mod MovedLaws
 pub mod ControlLaws
 pub mod GateLaws
 pub mod StepLaws

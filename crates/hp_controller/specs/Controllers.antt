@@ -24,6 +24,10 @@ atom_at inputs count (suc (suc i)) = if nat_lt i count then Read (inputs + i) el
 abbrev pub test_at : ℕ → ℕ → Atom
 test_at inputs x = if nat_lt x inputs then Read x else Fixed (B false)
 
+-- a line whose variable has another number
+abbrev pub moved : (ℕ → ℕ) → Line → Line
+moved to l = record { var = to l.var; low = l.low; high = l.high }
+
 -- the equation of a variable, on the base clock
 abbrev pub equation : ℕ → ℕ → ObcOp → List Atom → FlatEqn
 equation at target op args = record { targets = target ∷ []; clock = []; right = operator op args; restart = []; at = at }

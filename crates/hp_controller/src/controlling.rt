@@ -1,17 +1,20 @@
 //! The controller of a machine.
-ghost use Rattle.std.specs.Prelude.{◌≡◌, ◌++◌, ◌≤◌, length, codes, IfOk};
+ghost use Rattle.std.specs.Prelude.{◌≡◌, ◌++◌, ◌≤◌, length, map, codes, IfOk};
 ghost use Rattle.hp_boolx.specs.Machine.{game, variables};
+ghost use Rattle.hp_controller.specs.Controllers.{moved};
 ghost use Rattle.hp_controller.specs.Controlling.{IsController};
 ghost use Rattle.hp_diagram.specs.Diagrams.{Keeps};
+ghost use Rattle.hp_synth.specs.Layouts.{variable};
 ghost use Rattle.hp_synth.specs.Verdicts.{IsWon};
 
 use crate::node::node_of_lines;
 use hp_base::Name;
 use hp_boolx::BoolMachine;
 use hp_cert::certmade::make_page;
-use hp_control::functions;
+use hp_control::placed_functions;
 use hp_flat::FlatNode;
-use hp_synth::Solved;
+use hp_quant::Line;
+use hp_synth::{Layout, Solved};
 use std::alloc::{AllocError, Global};
 
 /// The name of the controller of a node.
@@ -24,8 +27,24 @@ fn controller_name(alloc: Global, node: &Name) -> Result<Name, AllocError>
     Name::new(alloc, &bytes)
 }
 
+/// Lines of a table where variables stand at places, as lines of these variables themselves.
+fn named_lines(alloc: Global, layout: &Layout, lines: &[Line]) -> Result<Vec<Line>, AllocError>
+    ensures { IfOk result (λ named. named.items ≡ map (moved (variable layout.now)) lines.now) }
+{
+    let mut named = Vec::with_capacity(alloc, lines.len())?;
+    for line in lines {
+        named.push(Line {
+            var: layout.variable(line.var),
+            low: line.low,
+            high: line.high,
+        })?;
+    }
+    Ok(named)
+}
+
 /// The controller of a machine in which nothing is forced: at each state and all early values it gives the preferred permitted choice, and the preference where none is
-/// permitted. The verdict stays, and so does the function of each earlier reference.
+/// permitted. It has a line for each node of its functions in the solver's order of variables, in which there are few. The verdict stays, and so does the function of each
+/// earlier reference.
 pub fn controller(alloc: Global, s: &mut Solved, m: &BoolMachine) -> Result<FlatNode, AllocError>
     requires fits { variables m.now ≡ s.old.table.vars }
     requires won { IsWon (game m.now) s.old.table s.old.verdict }
@@ -35,14 +54,15 @@ pub fn controller(alloc: Global, s: &mut Solved, m: &BoolMachine) -> Result<Flat
     ensures keeps { Keeps s.old.table s.new.table }
 {
     let counts = m.counts;
-    let funs = functions(alloc, s, m)?;
-    let page = make_page(alloc, &s.table, &funs)?;
+    let placed = placed_functions(alloc, s, m)?;
+    let page = make_page(alloc, &s.table, &placed.funs)?;
+    let lines = named_lines(alloc, &placed.layout, &page.lines)?;
     let name = controller_name(alloc, &m.name)?;
     let node = node_of_lines(
         alloc,
         &name,
         counts.registers + counts.early,
-        &page.lines,
+        &lines,
         &page.numbers,
     )?;
     Ok(node)

@@ -64,6 +64,10 @@ pub answers_line : (e : Executor) (line : List ℕ) (values : List Value) → re
     executing e line ≡ Ok (step_of e values)
 answers_line e line values h k = ap (read_and_step step_of e) (read_ok (kinds_of e.signature.inputs) line values h k)
 
+pub tells_line : (t : Teller) (line : List ℕ) (values : List Value) → refusal (kinds_of t.executor.signature.inputs) (words line) ≡ None → values_of (kinds_of t.executor.signature.inputs) (words line) ≡ Some values →
+    telling t line ≡ Ok (told_of t values)
+tells_line t line values h k = ap (read_and_step told_of t) (read_ok (kinds_of t.executor.signature.inputs) line values h k)
+
 pub keeps_behaviour : (old new : Executor) (values : List Value) (h : HasBehaviour old) → ((b : Behaviour) → Runs old b → Runs new b) →
     ((b : Behaviour) → Runs old b → IsKinded old b → AreOfKinds (kinds_of old.signature.inputs) values → IsKinded new b) → AreOfKinds (kinds_of old.signature.inputs) values → HasBehaviour new
 keeps_behaviour old new values h runs kinded fits = record { behaviour = h.behaviour; runs = runs h.behaviour h.runs; kinded = kinded h.behaviour h.runs h.kinded fits }

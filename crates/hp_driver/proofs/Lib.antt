@@ -1,5 +1,4 @@
 pub mod CallLaws
-pub mod SweepLaws
 pub mod TellLaws
 pub mod Shown
 pub mod ChoosingLaws

@@ -26,19 +26,24 @@ at-push (r ∷ rs) y zero d l = refl
 at-push (r ∷ rs) y (suc k) d l = at-push rs y k d (omega (arith, l))
 
 -- the table has what stands at the places of registers
-pub course-has-all : (t : Diagrams) (layout : Layout) (roots : List Ref) (course : Course) → IsLayout t.vars layout → HasEach t roots → 5 + layout.counts.registers ≤ length roots → IsCourse t layout roots course → HasAll t course.by.items
-course-has-all t layout roots course placed has many is x g e =
+pub values-have : (t : Diagrams) (layout : Layout) (roots : List Ref) (by : List (Option Ref)) → IsLayout t.vars layout → HasEach t roots → 5 + layout.counts.registers ≤ length roots →
+    ((k : ℕ) → k < layout.counts.registers → slice_index_or by (place layout k) None ≡ Some (slice_index_or roots (5 + k) zero_ref)) →
+    ((k : ℕ) → layout.counts.registers ≤ k → slice_index_or by (place layout k) None ≡ None) → HasAll t by
+values-have t layout roots by placed has many registers_are others x g e =
     let v : ℕ = variable layout x in
-    let there : slice_index_or course.by.items (place layout v) None ≡ Some g = ap (λ (y : ℕ). slice_index_or course.by.items y None) (placed.again x) ∙ e in
+    let there : slice_index_or by (place layout v) None ≡ Some g = ap (λ (y : ℕ). slice_index_or by y None) (placed.again x) ∙ e in
     elim (cases_lt v layout.counts.registers) [
       | inl before ↦
-          let same : Some (slice_index_or roots (5 + v) zero_ref) ≡ Some g = sym (is.registers_are v before) ∙ there in
+          let same : Some (slice_index_or roots (5 + v) zero_ref) ≡ Some g = sym (registers_are v before) ∙ there in
           let one : slice_index_or roots (5 + v) zero_ref ≡ g = cc in
           subst (Has t) one (has-at t roots (5 + v) zero_ref (omega (arith, before, many)) has)
       | inr behind ↦
-          let none : None ≡ Some g = sym (is.others v behind) ∙ there in
+          let none : None ≡ Some g = sym (others v behind) ∙ there in
           absurd cc
     ]
+
+pub course-has-all : (t : Diagrams) (layout : Layout) (roots : List Ref) (course : Course) → IsLayout t.vars layout → HasEach t roots → 5 + layout.counts.registers ≤ length roots → IsCourse t layout roots course → HasAll t course.by.items
+course-has-all t layout roots course placed has many is = values-have t layout roots course.by.items placed has many is.registers_are is.others
 
 -- one reference more
 pub course-pushed : (t : Diagrams) (layout : Layout) (roots : List Ref) (y : Ref) (course : Course) → 5 + layout.counts.registers ≤ length roots → IsCourse t layout roots course → IsCourse t layout (roots ++ y ∷ []) course

@@ -4,6 +4,7 @@ use Rattle.std.proofs.lemmas.Bool.{cases_lt}
 use Rattle.hp_synth.specs.declared.layout.Layout.{Layout}
 use Rattle.hp_synth.specs.Layouts.{at, place, variable, IsLayout, IsPlain, Undoes, AreInverse}
 use Rattle.hp_boolx.specs.Game.{Game}
+use Rattle.hp_boolx.specs.declared.machine.Counts.{Counts}
 use Rattle.hp_synth.specs.Rounds.{IsCounts}
 use Rattle.hp_synth.specs.Valued.{Valued, through, total}
 
@@ -68,6 +69,33 @@ plain-layout vars l fits is =
     back y = ap (λ (xs : List ℕ). slice_index_or xs y y) is.1
 
 module _ (vars : ℕ) (l : Layout) (is : IsLayout vars l) where
+  variable-within : (y : ℕ) → y < vars → variable l y < vars
+  variable-within y lt =
+      elim (cases_lt (variable l y) vars) [
+        | inl below ↦ below
+        | inr ge ↦ let same : variable l y ≡ y = sym (is.beyond (variable l y) ge) ∙ is.again y in absurd (omega (arith, same, ge, lt))
+      ]
+
+  variable-beyond : (y : ℕ) → vars ≤ y → variable l y ≡ y
+  variable-beyond y ge =
+      elim (cases_lt (variable l y) vars) [
+        | inl below ↦ let within = is.within (variable l y) below in let same = is.again y in absurd (omega (arith, within, same, ge))
+        | inr far ↦ sym (is.beyond (variable l y) far) ∙ is.again y
+      ]
+
+  -- places and variables change their parts
+  pub turned-layout : (other : Layout) → other.counts ≡ l.counts → other.places.items ≡ l.variables.items → other.variables.items ≡ l.places.items → IsLayout vars other
+  turned-layout other counts places variables =
+      let at_place : (x : ℕ) → place other x ≡ variable l x = λ x. ap (λ (xs : List ℕ). at xs x) places in
+      let at_variable : (y : ℕ) → variable other y ≡ place l y = λ y. ap (λ (xs : List ℕ). at xs y) variables in
+      record {
+        fits = subst (λ (c : Counts). c.registers + c.early + c.control + c.late ≡ vars) (sym counts) is.fits;
+        within = λ x lt. subst (λ y. y < vars) (sym (at_place x)) (variable-within x lt);
+        beyond = λ x ge. at_place x ∙ variable-beyond x ge;
+        there = λ x. at_variable (place other x) ∙ ap (place l) (at_place x) ∙ is.again x;
+        again = λ y. at_place (variable other y) ∙ ap (variable l) (at_variable y) ∙ is.there y;
+      }
+
   -- two variables have two places
   pub apart : (x z : ℕ) → x ≢ z → place l x ≢ place l z
   apart x z differ same = differ (sym (is.there x) ∙ ap (variable l) same ∙ is.there z)

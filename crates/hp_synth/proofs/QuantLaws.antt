@@ -13,7 +13,7 @@ use Rattle.hp_synth.specs.Quantified.{DifferIn, IsSomeIn, IsAllIn}
 use Rattle.hp_synth.specs.Rounds.{of_all}
 use Rattle.hp_synth.specs.Valued.{Valued, Fun, through, over, early_from, control_from, late_from, total, OfState, OfEarly, OfChoice}
 use Rattle.hp_synth.proofs.LayoutLaws.{seen, unseen}
-use Rattle.hp_synth.proofs.Ranges.{some-late, some-control, some-early, every-control}
+use Rattle.hp_synth.proofs.Ranges.{some-late, every-late, some-control, some-early, every-control}
 
 iff-trans : {A B C : Type 0} → (A ↔ B) → (B ↔ C) → (A ↔ C)
 iff-trans p q = (λ a. q.0 (p.0 a), λ c. p.1 (q.1 c))
@@ -66,7 +66,7 @@ module _ (vars : ℕ) (l : Layout) (is : IsLayout vars l) where
     differ-own : (v w : Valued) → DifferIn (place l) from to (through (variable l) v) w → DifferWithin from to v (through (place l) w)
     differ-own v w d = λ x out. (λ j. sym (seen vars l is v) j x) ∙ d x out
 
-    some-own : IsSomeIn (place l) from to new f s → (v : Valued) → IsTrue (function new s (through (variable l) v)) ↔ ((w : Valued) × DifferWithin from to v w × IsTrue (p w))
+    pub some-own : IsSomeIn (place l) from to new f s → (v : Valued) → IsTrue (function new s (through (variable l) v)) ↔ ((w : Valued) × DifferWithin from to v w × IsTrue (p w))
     some-own h v = (
       λ e. let q = (h.value (through (variable l) v)).0 e in (through (place l) q.0, differ-own v q.0 q.1, sym (same q.0) ∙ q.2),
       λ q. (h.value (through (variable l) v)).1 (through (variable l) q.0, differ-table v q.0 q.1, at_table q.0 q.2),
@@ -79,7 +79,7 @@ module _ (vars : ℕ) (l : Layout) (is : IsLayout vars l) where
     )
 
   -- the function of a reference, at a valuation of the machine's variables
-  own-value : (new : Diagrams) (s : Ref) (q : Fun) → ((v : Valued) → function new s (through (variable l) v) ≡ q v) → (v : Valued) → function new s v ≡ over (place l) q v
+  pub own-value : (new : Diagrams) (s : Ref) (q : Fun) → ((v : Valued) → function new s (through (variable l) v) ≡ q v) → (v : Valued) → function new s v ≡ over (place l) q v
   own-value new s q h v = ap (function new s) (sym (unseen vars l is v)) ∙ h (through (place l) v)
 
   -- ---- over the variables of a game
@@ -92,6 +92,15 @@ module _ (vars : ℕ) (l : Layout) (is : IsLayout vars l) where
           has = h.has;
           value = own-value new s (OfChoice g (λ r u c. some_of g.late (F r u c)))
               (some-late g (of_all g F) (λ v. function new s (through (variable l) v)) F (λ v. refl) (some-own (late_from g) (total g) new f (of_all g F) s same moved));
+        }
+
+    pub late-all : (F : Bits → Bits → Bits → Set) → from ≡ late_from g → to ≡ total g → ((v : Valued) → f v ≡ over (place l) (of_all g F) v) → IsAllIn (place l) from to new f s → Means new (over (place l) (OfChoice g (λ r u c. every_of g.late (F r u c)))) s
+    late-all F a b same h =
+        let moved : IsAllIn (place l) (late_from g) (total g) new f s = subst (λ m. IsAllIn (place l) m (total g) new f s) a (subst (λ m. IsAllIn (place l) from m new f s) b h) in
+        record {
+          has = h.has;
+          value = own-value new s (OfChoice g (λ r u c. every_of g.late (F r u c)))
+              (every-late g (of_all g F) (λ v. function new s (through (variable l) v)) F (λ v. refl) (all-own (late_from g) (total g) new f (of_all g F) s same moved));
         }
 
     pub control-some : (F : Bits → Bits → Set) → from ≡ control_from g → to ≡ late_from g → ((v : Valued) → f v ≡ over (place l) (OfChoice g F) v) → IsSomeIn (place l) from to new f s → Means new (over (place l) (OfEarly g (λ r u. some_of g.control (F r u)))) s

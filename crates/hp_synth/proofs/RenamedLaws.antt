@@ -86,3 +86,8 @@ each-has t u by [] [] len is = All-nil (Has u)
 each-has t u by [] (s ∷ made) len is = absurd (omega (arith, len))
 each-has t u by (r ∷ refs) [] len is = absurd (omega (arith, len))
 each-has t u by (r ∷ refs) (s ∷ made) len is = All-cons (Has u) s made (is 0 r s refl refl).has (each-has t u by refs made (omega (arith, len)) (λ i p q e d. is (suc i) p q e d))
+
+-- functions that are placed, and then named by variables that are told where they stand
+pub placed-back : (p q : ℕ → ℕ) → ((x : ℕ) → q (p x) ≡ x) → (fs : List Fun) → map (over q) (map (over p) fs) ≡ fs
+placed-back p q same [] = refl
+placed-back p q same (f ∷ fs) = λ j. (λ v. f (λ x. v (same x j))) ∷ placed-back p q same fs j

@@ -1,5 +1,5 @@
 -- What a solver works on, in its list of references.
-use Rattle.std.proofs.Common.{◌≡◌, ℕ, zero, suc, ◌+◌, ◌<◌, List, [], ◌∷◌, ◌++◌, length, map, slice_index_or, Option, Some, None, refl, sym, ap, subst, ◌∙◌, arith}
+use Rattle.std.proofs.Common.{◌≡◌, ℕ, zero, suc, ◌+◌, ◌<◌, List, [], ◌∷◌, ◌++◌, length, map, slice_index_or, Option, Some, None, refl, ap, subst, ◌∙◌, arith}
 use Rattle.std.proofs.lemmas.List.Elements.{All-nil, All-cons}
 use Rattle.hp_diagram.specs.declared.reference.Ref.{Ref}
 use Rattle.hp_diagram.specs.Diagrams.{Diagrams, Has, Means, Keeps}
@@ -9,7 +9,7 @@ use Rattle.hp_boolx.specs.Machine.{bit}
 use Rattle.hp_synth.specs.Building.{HasEach}
 use Rattle.hp_synth.specs.Kept.{AllMean}
 use Rattle.hp_synth.specs.Rounds.{AreSets}
-use Rattle.hp_synth.specs.Sought.{base, base_at, next_from}
+use Rattle.hp_synth.specs.Sought.{base_at, next_from}
 use Rattle.hp_synth.specs.Valued.{Fun, all, over}
 use Rattle.hp_synth.proofs.Built.{next-replaced}
 
@@ -74,18 +74,3 @@ are-sets g form place t (a ∷ b ∷ c ∷ e ∷ f ∷ rs) rest by d h at =
           let is : Means t (over place (λ v. bit (g.next (all g v)) (0 + k))) (slice_index_or rs k d) = next-at g place t 0 g.registers rest rs d nexts k l in
           (slice_index_or rs k d, at k l ∙ ap Some root, subst (λ (m : ℕ). Means t (over place (λ v. bit (g.next (all g v)) m)) (slice_index_or rs k d)) (omega arith) is));
     }
-
--- ---- where each variable stands at the place of its own number
-
-map-same : (fs : List Fun) → map (over (λ x. x)) fs ≡ fs
-map-same [] = refl
-map-same (f ∷ fs) = ap (λ q. f ∷ q) (map-same fs)
-
-pub base-plain : (g : Game) (place : ℕ → ℕ) → ((x : ℕ) → place x ≡ x) → base_at place g ≡ base g
-base-plain g place is = (λ j. base_at (λ x. is x j) g) ∙ map-same (base g)
-
-pub are-sets-plain : (g : Game) → IsForm g → (t : Diagrams) (roots : List Ref) (by : List (Option Ref)) (d : Ref) → AllMean t (base g) roots →
-    ((k : ℕ) → k < g.registers → slice_index_or by k None ≡ Some (slice_index_or roots (5 + k) d)) →
-    AreSets (λ x. x) t (record { valid = slice_index_or roots 0 d; hyp = slice_index_or roots 1 d; duty = slice_index_or roots 2 d; choices = slice_index_or roots 3 d; earlies = slice_index_or roots 4 d }) by g
-are-sets-plain g form t roots by d h at =
-    are-sets g form (λ x. x) t roots [] by d (none-more t (base_at (λ x. x) g) roots (subst (λ (fs : List Fun). AllMean t fs roots) (sym (base-plain g (λ x. x) (λ x. refl))) h)) at

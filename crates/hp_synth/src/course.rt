@@ -5,7 +5,6 @@ ghost use Rattle.hp_synth.specs.Courses.{IsCourse};
 ghost use Rattle.hp_synth.specs.Layouts.{place, IsLayout};
 
 use crate::layout::Layout;
-use hp_boolx::Counts;
 use hp_diagram::Ref;
 use hp_quant::Memo;
 use std::alloc::{AllocError, Global};
@@ -35,24 +34,8 @@ impl Course {
     }
 }
 
-/// The next value in the place of each register, where these are the references of a solver, and each variable stands at the place of its own number.
-pub fn replacements(
-    alloc: Global,
-    vars: u16,
-    counts: Counts,
-    roots: &[Ref],
-) -> Result<Vec<Option<Ref>>, AllocError>
-    requires fits { counts.registers + counts.early + counts.control + counts.late ≡ vars }
-    requires roots { 5 + counts.registers ≤ length roots.now }
-    ensures len { IfOk result (λ by. length by.items ≡ vars) }
-    ensures registers { IfOk result (λ by. (k : ℕ) → k < counts.registers → slice_index_or by.items k None ≡ Some (slice_index_or roots.now (5 + k) zero_ref)) }
-    ensures others { IfOk result (λ by. (k : ℕ) → counts.registers ≤ k → slice_index_or by.items k None ≡ None) }
-{
-    next_values(alloc, vars, &Layout::plain(alloc, counts), roots)
-}
-
-/// The next value at the place of each register.
-fn next_values(
+/// The next value at the place of each register, where these are the references of a solver.
+pub fn next_values(
     alloc: Global,
     vars: u16,
     layout: &Layout,

@@ -8,7 +8,7 @@ use std::alloc::{AllocError, Global};
 /// How many variables a machine has of each kind, where each of them stands in a table, and which variable stands at each place. Both lists
 /// are empty where each stands at the place of its own number.
 #[derive(Drop)]
-pub(crate) struct Layout {
+pub struct Layout {
     pub counts: Counts,
     pub places: Vec<u16>,
     pub variables: Vec<u16>,
@@ -50,13 +50,37 @@ impl Layout {
         }
     }
 
+    /// The layout of a table where each variable stands at the place of its own number, seen from one with this layout: places and variables change their parts.
+    pub(crate) fn turned(&self, alloc: Global) -> Result<Layout, AllocError>
+        ensures layout { IfOk result (λ other. (vars : ℕ) → IsLayout vars self.now → IsLayout vars other) }
+        ensures places { IfOk result (λ other. (x : ℕ) → place other x ≡ variable self.now x) }
+    {
+        let places = Vec::from_slice(alloc, &self.variables)?;
+        let variables = Vec::from_slice(alloc, &self.places)?;
+        Ok(Layout {
+            counts: self.counts,
+            places,
+            variables,
+        })
+    }
+
     /// Where the variable stands.
-    pub(crate) fn place(&self, x: u16) -> u16
+    pub fn place(&self, x: u16) -> u16
         ensures { result ≡ place self.now x }
     {
         match self.places.get(usize::from(x)) {
             Some(y) => *y,
             None => x,
+        }
+    }
+
+    /// Which variable stands at the place.
+    pub fn variable(&self, y: u16) -> u16
+        ensures { result ≡ variable self.now y }
+    {
+        match self.variables.get(usize::from(y)) {
+            Some(x) => *x,
+            None => y,
         }
     }
 

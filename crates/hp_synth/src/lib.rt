@@ -15,9 +15,13 @@ mod solving;
 mod sweep;
 mod verdict;
 
-pub use course::replacements;
+pub use course::next_values;
+pub use layout::Layout;
 pub use next::next_set;
+pub use ordering::layout_of;
 pub use preparation::prepare;
+pub use quantifying::{all_in, some_in};
+pub use renaming::{placed, renamed};
 pub use rounds::{Sets, bad};
 pub use solving::solve;
 pub use verdict::{Solved, Verdict};

@@ -111,8 +111,8 @@ fn places_of(alloc: Global, vars: u16, variables: &[u16]) -> Result<Vec<u16>, Al
     Ok(places)
 }
 
-/// Where the variables of a machine stand in a solver's table.
-pub(crate) fn layout_of(alloc: Global, m: &BoolMachine) -> Result<Layout, AllocError>
+/// Where the variables of a machine stand in a solver's table: in the order in which functions of the machine are found with few nodes.
+pub fn layout_of(alloc: Global, m: &BoolMachine) -> Result<Layout, AllocError>
     ensures layout { IfOk result (IsLayout (variables m.now)) }
     ensures counts { IfOk result (λ layout. IsCounts (game m.now) layout.counts) }
 {

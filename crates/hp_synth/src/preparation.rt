@@ -2,12 +2,12 @@
 ghost use Rattle.std.specs.Prelude.{◌≡◌, ◌+◌, ◌<◌, ◌++◌, All, length, map, slice_index_or, IfOk, OnOk};
 ghost use Rattle.hp_diagram.specs.Diagrams.{Has, Means, Keeps, zero_ref};
 ghost use Rattle.hp_boolx.specs.Game.{Game, valid_choice, valid_early};
-ghost use Rattle.hp_boolx.specs.Machine.{game, variables};
+ghost use Rattle.hp_boolx.specs.Machine.{game};
 ghost use Rattle.hp_synth.specs.Building.{HasEach, AreGates};
 ghost use Rattle.hp_synth.specs.Kept.{AllMean};
 ghost use Rattle.hp_synth.specs.Rounds.{IsCounts};
 ghost use Rattle.hp_synth.specs.Layouts.{place, IsLayout};
-ghost use Rattle.hp_synth.specs.Sought.{base, base_at};
+ghost use Rattle.hp_synth.specs.Sought.{base_at};
 ghost use Rattle.hp_synth.specs.Valued.{all, over, OfChoice, OfEarly};
 
 use crate::building::gate_diagrams;
@@ -78,17 +78,9 @@ fn prepare_gates(
     Ok(roots)
 }
 
-/// The references of what is valid, the hypothesis, the duty, the valid choices, the valid early values, and the next value of each register.
-pub fn prepare(alloc: Global, m: &BoolMachine, t: &mut Table) -> Result<Vec<Ref>, AllocError>
-    requires { variables m.now ≡ t.old.vars }
-    ensures keeps { Keeps t.old t.new }
-    ensures ok { IfOk result (λ roots. AllMean t.new (base (game m.now)) roots.items) }
-{
-    prepare_at(alloc, m, &Layout::plain(alloc, m.counts), t)
-}
-
-/// The same references, in a table where variables stand at places.
-pub(crate) fn prepare_at(
+/// The references of what is valid, the hypothesis, the duty, the valid choices, the valid early values, and the next value of each register, in a table where
+/// variables stand at places.
+pub fn prepare(
     alloc: Global,
     m: &BoolMachine,
     layout: &Layout,

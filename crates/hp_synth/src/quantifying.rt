@@ -10,7 +10,7 @@ use hp_quant::{all_marked, either_marked, some_marked};
 use std::alloc::{AllocError, Global};
 
 /// The function that is true where some values of the variables from `from` up to, not including, `to` make it true.
-pub(crate) fn some_in(
+pub fn some_in(
     alloc: Global,
     t: &mut Table,
     layout: &Layout,
@@ -30,7 +30,7 @@ pub(crate) fn some_in(
 }
 
 /// The function that is true where all values of these variables make it true.
-pub(crate) fn all_in(
+pub fn all_in(
     alloc: Global,
     t: &mut Table,
     layout: &Layout,

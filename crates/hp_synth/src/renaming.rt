@@ -28,7 +28,7 @@ fn names(alloc: Global, t: &mut Table, layout: &Layout) -> Result<Vec<Option<Ref
 }
 
 /// The references of the same functions where each variable stands at the place of its own number.
-pub(crate) fn renamed(
+pub fn renamed(
     alloc: Global,
     t: &mut Table,
     layout: &Layout,
@@ -43,4 +43,24 @@ pub(crate) fn renamed(
 {
     let by = names(alloc, t, layout)?;
     compose_all(alloc, t, refs, &by)
+}
+
+/// The references of the same functions where each variable stands at its place, of functions of variables that stand at the places of their own numbers.
+pub fn placed(
+    alloc: Global,
+    t: &mut Table,
+    layout: &Layout,
+    refs: &[Ref],
+) -> Result<Vec<Ref>, AllocError>
+    requires layout { IsLayout t.old.vars layout.now }
+    requires has { HasEach t.old refs.now }
+    ensures has { IfOk result (λ made. HasEach t.new made.items) }
+    ensures len { IfOk result (λ made. length made.items ≡ length refs.now) }
+    ensures ok { IfOk result (λ made. (fs : List Fun) → AllMean t.old fs refs.now → AllMean t.new (map (over (place layout.now)) fs) made.items) }
+    ensures keeps { Keeps t.old t.new }
+{
+    // The proof of `keeps` wants the table's rules.
+    let _vars = t.vars();
+    let turned = layout.turned(alloc)?;
+    renamed(alloc, t, &turned, refs)
 }

@@ -10,7 +10,7 @@ ghost use Rattle.hp_synth.specs.Verdicts.{IsSolved, refs_of};
 
 use crate::layout::Layout;
 use crate::ordering::layout_of;
-use crate::preparation::prepare_at;
+use crate::preparation::prepare;
 use crate::search::search;
 use crate::verdict::Solved;
 use hp_boolx::BoolMachine;
@@ -41,7 +41,7 @@ pub fn solve(alloc: Global, m: &BoolMachine) -> Result<Solved, AllocError>
 {
     let mut table = Table::new(alloc, m.vars())?;
     let layout = layout_of(alloc, m)?;
-    let mut roots = prepare_at(alloc, m, &layout, &mut table)?;
+    let mut roots = prepare(alloc, m, &layout, &mut table)?;
     let init = initial(alloc, m, &layout)?;
     let verdict = search(alloc, m, &layout, &mut table, &mut roots, &init)?;
     Ok(Solved { table, verdict })

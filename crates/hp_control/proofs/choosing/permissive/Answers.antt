@@ -14,7 +14,7 @@ returns-clause-ok c =
     let g = game m in
     let form = game-form m (subst IsMachine c.m.view_is c.m.invariant) in
     let won = subst (IsWon g c.args.s.now.table) c.in-Win.is c.requires.won in
-    if_ok-map c.permitted_choices.result (λ r is.
+    if_ok-map c.choices_of.result (λ r is.
     let means = is won.0 won.1 in
     record {
       has = means.has;
@@ -22,4 +22,4 @@ returns-clause-ok c =
           let told = permissive g form won.0 won.2 (states g v) (earlies g v) (controls g v) (read-len (control_from g) g.control v) in
           (λ h. told.0 (sym (means.value v) ∙ h), λ p. means.value v ∙ told.1 p);
     })
-    c.permitted_choices.ensures.ok
+    c.choices_of.ensures.ok

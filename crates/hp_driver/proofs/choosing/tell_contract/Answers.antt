@@ -1,9 +1,12 @@
-use Rattle.std.proofs.Common.{[], rules, IsTrue}
+use Rattle.std.proofs.Common.{◌≡◌, ◌++◌, [], rules, IsTrue, codes, subst}
+use Rattle.hp_controlled.specs.Chosen.{IsToldBy}
 use Rattle.hp_io.proofs.ToldLaws.{Grows-nil}
 use Rattle.hp_driver.specs.Command.{not_built_line}
-use Rattle.hp_driver.specs.Follows.{NodeRun, NodeTold}
+use Rattle.hp_driver.specs.Follows.{ChosenOutcome, NodeTold}
 use Rattle.hp_driver.specs.Status.{code_of}
-use Rattle.hp_driver.proofs.ChoosingLaws.{node_failed, node_not_built, node_ran, told_failed, told_not_built, told_memory, plain_told, contract_told}
+use Rattle.hp_driver.specs.Systems.{that_tells}
+use Rattle.hp_driver.specs.declared.telling.Ending.TheVariants.{Told}
+use Rattle.hp_driver.proofs.ChoosingLaws.{told_failed, told_not_built, told_memory, contract_told}
 use Rattle.hp_driver.proofs.OutcomeLaws.{told_of}
 use Rattle.hp_driver.proofs.RanLaws.{heard_nothing}
 use Rattle.hp_driver.proofs.choosing.tell_contract.Goals as goal
@@ -33,4 +36,7 @@ returns-clause-outcome g c =
     let name = c.args.name.now in
     let ran = c.tell_chosen.ensures.outcome in
     let is : IsTrue c.is_told.result = search rules in
-    (ran.0, ran.1, ran.2, ran.3, ran.4, contract_told o n name ran.0 ran.1 (code_of c.tell_chosen.result) c.requires.some ? ?)
+    let called : c.as_str.result.now ≡ name ++ codes "$contract" = search rules in
+    let runs : c.as_str-2.result.now ≡ name ++ codes "$contract" = search rules in
+    (ran.0, ran.1, ran.2, ran.3, ran.4, contract_told o n name ran.0 ran.1 (code_of c.tell_chosen.result) c.requires.some (subst (λ z. IsToldBy z o n) called (c.is_told.ensures is))
+        (subst (λ z. ChosenOutcome (that_tells Told o z) o z ran.0 ran.1 (code_of c.tell_chosen.result)) runs ran.5))

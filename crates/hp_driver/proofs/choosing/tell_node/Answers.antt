@@ -3,7 +3,7 @@ use Rattle.std.specs.Prelude.{is_some, IsTrue}
 use Rattle.hp_driver.proofs.choosing.tell_node.Goals as goal
 
 pub tell_plain-requires-clause-none : goal.tell_plain-requires-clause-none
-tell_plain-requires-clause-none g c = ?
+tell_plain-requires-clause-none g c = search rules
 
 pub tell_contract-requires-clause-some : goal.tell_contract-requires-clause-some
-tell_contract-requires-clause-some g c = ?
+tell_contract-requires-clause-some g c = search rules

@@ -1,16 +1,20 @@
-use Rattle.std.proofs.Common.{List, subst}
-use Rattle.hp_boolx.specs.Machine.{game}
-use Rattle.hp_synth.specs.Kept.{AllMean}
+use Rattle.std.proofs.Common.{◌≡◌, List, sym, ap, subst, ◌∙◌}
+use Rattle.hp_diagram.specs.declared.reference.Ref.{Ref}
+use Rattle.hp_diagram.proofs.Choices.{Keeps-trans}
+use Rattle.hp_boolx.specs.declared.gate.Gate.{Gate}
+use Rattle.hp_boolx.specs.Machine.{Machine, game}
 use Rattle.hp_synth.specs.Layouts.{place}
-use Rattle.hp_synth.specs.Valued.{Fun}
-use Rattle.hp_synth.proofs.LayoutLaws.{plain-place}
-use Rattle.hp_synth.proofs.RoundSteps.{if_ok-map}
-use Rattle.hp_synth.proofs.SoughtLaws.{base-plain}
+use Rattle.hp_synth.proofs.LayoutLaws.{layout-total}
+use Rattle.hp_synth.specs.Building.{AreGates}
 use Rattle.hp_synth.proofs.preparation.prepare.Goals as goal
 
-pub returns-clause-ok : goal.returns-clause-ok
-returns-clause-ok c =
+pub prepare_gates-requires-clause-gates : goal.prepare_gates-requires-clause-gates
+prepare_gates-requires-clause-gates c =
     let m = c.args.m.now in
-    if_ok-map c.prepare_at.result (λ roots h.
-    subst (λ (fs : List Fun). AllMean c.prepare_at.new.t fs roots.items) (base-plain (game m) (place c.plain.result) (plain-place c.plain.result c.plain.ensures.plain)) h)
-    c.prepare_at.ensures.ok
+    let t = c.gate_diagrams.new.t in
+    let gates : c.deref.result.now ≡ m.gates = c.deref.ensures.value ∙ ap (λ (n : Machine). n.gates) c.m.view_is in
+    subst (λ (rs : List Ref). AreGates (game m) (place c.args.layout.now) t m.gates rs) (sym c.deref-2.ensures.value)
+    (subst (λ (gs : List Gate). AreGates (game m) (place c.args.layout.now) t gs c.in_ok-gates.gates.items) gates (c.in_ok-gates.ensures.ok (game m) (sym (layout-total c.args.t.now.vars c.args.layout.now (game m) c.requires.layout c.requires.counts))))
+
+pub returns-clause-keeps : goal.returns-clause-keeps
+returns-clause-keeps c = Keeps-trans _ _ _ c.gate_diagrams.ensures.keeps c.prepare_gates.ensures.keeps
