@@ -1,5 +1,5 @@
 -- The machines of a program whose nodes choose the values of their controllable variables.
-use Rattle.std.specs.Prelude.{◌≡◌, ℕ, List, [], ◌∷◌, ◌++◌, Some, codes}
+use Rattle.std.specs.Prelude.{◌≡◌, ℕ, List, [], ◌∷◌, ◌++◌, Some}
 use Rattle.hp_base.specs.declared.ty.Ty.TheVariants.{Bool}
 use Rattle.hp_machines.specs.Machined.{Heading, heading_of_machine, vars_of}
 use Rattle.hp_obc.specs.Form.{TypesForm, machine_named}

@@ -76,7 +76,7 @@ fn flat_observers(alloc: Global, program: &Program) -> Result<Vec<FlatNode>, Con
 /// Adds the machines of a node.
 fn add_machines(
     alloc: Global,
-    context: Context<'_>,
+    context: Context<'_, '_>,
     node: &Node,
     flat: FlatNode,
     machines: &mut Vec<Machine>,
@@ -90,7 +90,7 @@ fn add_machines(
 /// The machines of nodes, of which these are the clocked equations, in order.
 fn machines_of(
     alloc: Global,
-    context: Context<'_>,
+    context: Context<'_, '_>,
     nodes: &[&Node],
     flats: Vec<FlatNode>,
 ) -> Result<Vec<Machine>, ControlledErr> {
@@ -120,11 +120,7 @@ pub fn controlled_machines(alloc: Global, program: &Program) -> Result<Obc, Cont
         all,
         names: numbers_of(alloc, &names)?,
     };
-    let context = Context {
-        program,
-        types: &types,
-        observers: &observers,
-    };
+    let context = Context::new(program, &types, &observers);
     let machines = machines_of(alloc, context, &nodes, flats)?;
     let file = formed(alloc, types, machines)?;
     Ok(file)

@@ -19,10 +19,24 @@ const MAX_SOURCE_NAME: usize = 255;
 
 /// What is known when the machines of nodes are made.
 #[derive(Clone, Copy)]
-pub struct Context<'c> {
+pub struct Context<'c, 'o> {
     pub program: &'c Program,
     pub types: &'c [ObcType],
-    pub observers: &'c Observers<'c>,
+    pub observers: &'c Observers<'o>,
+}
+
+impl<'c, 'o> Context<'c, 'o> {
+    pub fn new(
+        program: &'c Program,
+        types: &'c [ObcType],
+        observers: &'c Observers<'o>,
+    ) -> Context<'c, 'o> {
+        Context {
+            program,
+            types,
+            observers,
+        }
+    }
 }
 
 /// A name with an ending, which is short.
@@ -110,7 +124,7 @@ struct Chosen {
 /// The node that chooses, made of its clocked equations.
 fn choosing(
     alloc: Global,
-    context: Context<'_>,
+    context: Context<'_, '_>,
     node: &Node,
     flat: FlatNode,
     abstraction: &Abstraction,
@@ -133,7 +147,8 @@ fn choosing(
         flat,
         context.observers,
     )?;
-    if watched.early.len() != usize::from(m.counts.early)
+    if chosen.len() > watched.node.inputs
+        || watched.early.len() != usize::from(m.counts.early)
         || watched.late.len() != usize::from(m.counts.late)
     {
         return Err(ControlledErr::NotBuilt);
@@ -223,7 +238,7 @@ fn add_chosen(
 /// variables has the machine of its own equations.
 pub fn add_contract(
     alloc: Global,
-    context: Context<'_>,
+    context: Context<'_, '_>,
     node: &Node,
     flat: FlatNode,
     machines: &mut Vec<Machine>,
