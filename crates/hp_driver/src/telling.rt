@@ -7,8 +7,9 @@ ghost use Rattle.hp_lines.specs.Lines.{line_bound};
 ghost use Rattle.hp_lines.specs.Values.{HaveFewConstructors};
 ghost use Rattle.hp_driver.specs.Executing.{HasBehaviour};
 ghost use Rattle.hp_driver.specs.Teller.{teller};
-ghost use Rattle.hp_driver.specs.Telling.{count_before, shown_values, word, word_kinds};
+ghost use Rattle.hp_driver.specs.Telling.{count_before, shown_kinds, shown_values, word, word_kinds};
 
+use crate::execution::room_for;
 use crate::trace_limits::Reactor;
 use hp_base::{Kind, MAX_NAME, Name, Signature, Value, copy_names};
 use hp_exec::Exec;
@@ -171,18 +172,29 @@ fn show(ending: Ending, outputs: &[Value], shown: &mut [Value])
     shown[count + 1] = enforced;
 }
 
+/// Room for what is shown of a step, and the kinds of that.
+fn shown_for(
+    alloc: Global,
+    ending: Ending,
+    s: &Signature,
+) -> Result<(Vec<Value>, Signature), AllocError>
+    ensures shown { IfOk result (λ r. length r.0.items ≡ count_before ending (length s.now.outputs) + 2) }
+    ensures words { IfOk result (λ r. kinds_of r.1.outputs ≡ shown_kinds ending (kinds_of s.now.outputs)) }
+{
+    let count = count_before(ending, s.outputs.len());
+    let words = words_of(alloc, s, count)?;
+    let shown = vec![in alloc; Value::Absent; words.outputs.len()]?;
+    Ok((shown, words))
+}
+
 impl Telling {
     pub(crate) fn new(alloc: Global, exec: Exec, ending: Ending) -> Result<Telling, AllocError>
         requires few { HaveFewConstructors (kinds_of exec.signature.inputs) }
         requires behaves { HasBehaviour exec }
         ensures { IfOk result (λ t. t ≡ teller exec ending) }
     {
-        let s = exec.signature();
-        let count = count_before(ending, s.outputs.len());
-        let inputs = vec![in alloc; Value::Absent; s.inputs.len()]?;
-        let outputs = vec![in alloc; Value::Absent; s.outputs.len()]?;
-        let words = words_of(alloc, s, count)?;
-        let shown = vec![in alloc; Value::Absent; words.outputs.len()]?;
+        let (inputs, outputs) = room_for(alloc, exec.signature())?;
+        let (shown, words) = shown_for(alloc, ending, exec.signature())?;
         let room = line_room(&words);
         Ok(Telling {
             exec,
