@@ -32,7 +32,7 @@ use Rattle.hp_driver.specs.Follows.{Accepts, IsOrdered, TextOutcome, NodeOutcome
 use Rattle.hp_driver.specs.Found.{node_in}
 use Rattle.hp_driver.specs.Leaves.{Leaves}
 use Rattle.hp_driver.specs.Leaving.{WritesText, TextLeaves, NodeLeaves, ContractLeaves}
-use Rattle.hp_driver.specs.Outcome.{Outcome, Gives, GivesMoreThan, HasNoProgram, HasContract}
+use Rattle.hp_driver.specs.Outcome.{Outcome, GivesMoreThan, HasNoProgram, HasContract}
 use Rattle.hp_driver.specs.Ran.{ReportsOrNot}
 use Rattle.hp_driver.proofs.ContractLaws.{contract_told_by}
 use Rattle.hp_driver.proofs.GameLaws.{are_said}

@@ -1,13 +1,12 @@
 -- From how a machine that chooses was run, or refused, to what the call did.
-use Rattle.std.proofs.Common.{◌≡◌, ℕ, ◌⊎◌, inl, inr, true, List, [], ◌∷◌, ◌++◌, None, Some, refl, sym, ap, subst, ◌∙◌, arith}
+use Rattle.std.proofs.Common.{◌≡◌, ℕ, ◌⊎◌, inl, inr, List, [], ◌∷◌, ◌++◌, None, Some, refl, sym, ap, subst, ◌∙◌, arith}
 use Rattle.std.specs.Prelude.{codes, is_some, IsTrue, Option}
 use Rattle.hp_base.specs.declared.limit.Limit.{Limit}
 use Rattle.hp_io.specs.Events.{put_events}
 use Rattle.hp_io.specs.Files.{Files}
-use Rattle.hp_io.specs.Told.{Grows}
 use Rattle.hp_io.specs.declared.console.Event.{Event}
 use Rattle.hp_controlled.specs.Chosen.{AreControlledMachines, IsChosen, IsToldBy}
-use Rattle.hp_exec.specs.Answers.{Executes, IsPassed}
+use Rattle.hp_exec.specs.Answers.{Executes}
 use Rattle.hp_exec.specs.Executors.{Executor}
 use Rattle.hp_exec.specs.declared.error.ExecErr.{ExecErr}
 use Rattle.hp_exec.specs.declared.error.ExecErr.TheVariants.{Limit as Passed}
@@ -16,15 +15,14 @@ use Rattle.hp_tree.specs.Meaning.{node_among}
 use Rattle.hp_tree.specs.Programs.{Node}
 use Rattle.hp_tree.specs.declared.program.Item.{Item}
 use Rattle.law_decided.specs.Outcomes.{AreKeptInGames}
-use Rattle.hp_driver.specs.Command.{IsRunOf, IsTellOf, IsCompileOf, IsSweepOf, IsSummary, not_built_line, no_node_line}
-use Rattle.hp_driver.specs.Controls.{has_controls}
+use Rattle.hp_driver.specs.Command.{IsSummary, not_built_line, no_node_line}
 use Rattle.hp_driver.specs.Diagnostics.{executor_line}
 use Rattle.hp_driver.specs.Executing.{executing}
 use Rattle.hp_driver.specs.Follows.{Accepts, ChoosingCompile, ChoosingRun, ChoosingTell, ChosenOutcome, NodeRun, NodeTold, RefusedChosen, SweepOutcome}
-use Rattle.hp_driver.specs.Leaves.{Leaves, IsPrinted}
+use Rattle.hp_driver.specs.Leaves.{Leaves}
 use Rattle.hp_driver.specs.Leaving.{ChoosingLeaves, WritesMachines}
-use Rattle.hp_driver.specs.Outcome.{Outcome, IsHeld, AreChosen, AsksToChoose, AsksToRun, IsAskedFor, IsMachine}
-use Rattle.hp_driver.specs.Ran.{Ran, ReportsOrNot}
+use Rattle.hp_driver.specs.Outcome.{Outcome, IsHeld, AreChosen, AsksToChoose, AsksToRun, IsAskedFor}
+use Rattle.hp_driver.specs.Ran.{Ran}
 use Rattle.hp_driver.specs.Systems.{System, of_machine, that_tells}
 use Rattle.hp_driver.specs.Teller.{teller, telling}
 use Rattle.hp_driver.specs.declared.telling.Ending.{Ending}
@@ -39,16 +37,16 @@ teller_mirrors : (ending : Ending) (name : List ℕ) (o : Obc) (e : Executor) �
 teller_mirrors ending name o e h = record { says = teller_says o name e h ending; refuses = teller_refuses o name e h ending }
 
 pub chosen_ran : (o : Obc) (name : List ℕ) (e : Executor) (log : List Event) (line : List ℕ) (status : ℕ) → Executes o name e → Ran executing e log line status → ChosenOutcome (of_machine o name) o name log line status
-chosen_ran o name e log line status h r words files asked passed not_built =
+chosen_ran o name e log line status h r words files asked passed unbuilt =
     outcome executing e (of_machine o name) (machine_mirrors name o e h) words files (asked (machine_of name o e h)) log line status r
 
 pub told_ran : (ending : Ending) (o : Obc) (name : List ℕ) (e : Executor) (log : List Event) (line : List ℕ) (status : ℕ) → Executes o name e → Ran telling (teller e ending) log line status →
     ChosenOutcome (that_tells ending o name) o name log line status
-told_ran ending o name e log line status h r words files asked passed not_built =
+told_ran ending o name e log line status h r words files asked passed unbuilt =
     outcome telling (teller e ending) (that_tells ending o name) (teller_mirrors ending name o e h) words files (asked (machine_of name o e h)) log line status r
 
 pub chosen_memory : (s : System) (o : Obc) (name : List ℕ) → ChosenOutcome s o name [] [] 6
-chosen_memory s o name words files asked passed not_built = Outcome.no_memory
+chosen_memory s o name words files asked passed unbuilt = Outcome.no_memory
 
 -- ---- it is refused
 
@@ -56,16 +54,16 @@ abbrev pub RefusedByAll : ExecErr → List ℕ → ℕ → Type 0
 RefusedByAll error line status = (name : List ℕ) → RefusedChosen name error line status
 
 pub refused_failed : (error : ExecErr) (line : List ℕ) (b : ℕ) (rest : List ℕ) (status : ℕ) → RefusedByAll error (line ++ b ∷ rest) status → RefusedByAll error line 5
-refused_failed error line b rest status f name s o h words files asked passed not_built = Outcome.line_failed line b rest (f name s o h words files asked passed not_built)
+refused_failed error line b rest status f name s o h words files asked passed unbuilt = Outcome.line_failed line b rest (f name s o h words files asked passed unbuilt)
 
 pub refused_memory : (error : ExecErr) → RefusedByAll error [] 6
-refused_memory error name s o h words files asked passed not_built = Outcome.no_memory
+refused_memory error name s o h words files asked passed unbuilt = Outcome.no_memory
 
 pub no_such : (error : ExecErr) → RefusedByAll error not_built_line 1
-no_such error name s o h words files asked passed not_built = not_built
+no_such error name s o h words files asked passed unbuilt = unbuilt
 
 pub too_large : (limit : Limit) → RefusedByAll (Passed limit) (executor_line limit) 1
-too_large limit name s o h words files asked passed not_built = passed limit h
+too_large limit name s o h words files asked passed unbuilt = passed limit h
 
 -- ---- a node is run
 
@@ -152,19 +150,16 @@ module _ (out : List ℕ) (ordered : List Item) where
   compile_not_built words files file program held e some kept w = Outcome.not_built (AsksToChoose.to_compile w some) held kept
 
   module _ (o : Obc) (machines : AreControlledMachines ordered o) where
-    written_of : (files : Option Files) (file : List ℕ) (program : List Item) (held : IsHeld files file program) → held.clocked ≡ ordered → AreKeptInGames held.clocked → AreChosen files file o
-    written_of = chosen_of out ordered o machines
-
     pub compiled : (status : ℕ) → (status ≡ 0) ⊎ (status ≡ 5) ⊎ (status ≡ 6) → ChoosingCompile out ordered [] status
-    compiled status (inl h) words files file program held e some kept w = subst (Outcome words files [] []) (sym h) (Outcome.chosen_compiled w (written_of files file program held e kept) some)
-    compiled status (inr (inl h)) words files file program held e some kept w = subst (Outcome words files [] []) (sym h) (Outcome.chosen_not_written w (written_of files file program held e kept) some)
+    compiled status (inl h) words files file program held e some kept w = subst (Outcome words files [] []) (sym h) (Outcome.chosen_compiled w (chosen_of out ordered o machines files file program held e kept) some)
+    compiled status (inr (inl h)) words files file program held e some kept w = subst (Outcome words files [] []) (sym h) (Outcome.chosen_not_written w (chosen_of out ordered o machines files file program held e kept) some)
     compiled status (inr (inr h)) words files file program held e some kept w = subst (Outcome words files [] []) (sym h) Outcome.no_memory
 
     pub compiled_leaves : (before after : Option Files) (status : ℕ) → WritesMachines o out before after status → ChoosingLeaves out ordered before after status
     compiled_leaves before after status (WritesMachines.nothing same) words file program held e some kept w = Leaves.as_they_were same (λ y v h. omega (arith, h))
-    compiled_leaves before after status (WritesMachines.whole printed all) words file program held e some kept w = Leaves.chosen_written w (written_of before file program held e kept) some printed all
+    compiled_leaves before after status (WritesMachines.whole printed all) words file program held e some kept w = Leaves.chosen_written w (chosen_of out ordered o machines before file program held e kept) some printed all
     compiled_leaves before after status (WritesMachines.part why printed others this) words file program held e some kept w =
-        Leaves.chosen_in_part why w (written_of before file program held e kept) some printed others this
+        Leaves.chosen_in_part why w (chosen_of out ordered o machines before file program held e kept) some printed others this
 
 -- ---- a sweep
 

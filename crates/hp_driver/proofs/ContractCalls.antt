@@ -53,6 +53,9 @@ module _ (words : List (List ℕ)) (held : Files) (file name text : List ℕ) (p
   not_system : (s : System) → IsAskedFor words (Some held) s → ⊥
   not_system s (IsAskedFor.a_node {file = x} {node = y} r compiled found) = source_contract words x file name (IsOverSource.to_run r) over
   not_system s (IsAskedFor.a_machine {file = x} {node = y} v others found) = exec_contract words x y file name v over
+  not_system s (IsAskedFor.a_chosen_node {file = x} {node = y} n r chosen some named found is) = source_contract words x file name (IsOverSource.to_run r) over
+  not_system s (IsAskedFor.a_contract {file = x} {node = y} n r chosen named some found is) = source_contract words x file name (IsOverSource.to_tell r) over
+  not_system s (IsAskedFor.no_contract {file = x} {node = y} n r chosen named none found is) = source_contract words x file name (IsOverSource.to_tell r) over
 
   module _ (has : (clocked : List Item) (ranks : List (List ℕ)) → IsArranged program clocked ranks → HasDecidable clocked name) where
     node_there : (x y : List ℕ) (p : List Item) → IsOverContract words x y → (h : IsHeld (Some held) x p) → node_among h.clocked y ≡ None → ⊥

@@ -1,5 +1,5 @@
 -- What was read in a call, and that nothing fails over calm objects.
-use Rattle.std.proofs.Common.{◌≡◌, ◌≢◌, ◌∙◌, ◌⊎◌, inl, inr, ℕ, List, [], ◌∷◌, ◌++◌, sym, subst, true, false, true≢false}
+use Rattle.std.proofs.Common.{◌≡◌, ◌≢◌, ◌∙◌, inl, inr, ℕ, List, [], ◌∷◌, sym, subst, true≢false}
 use Rattle.std.specs.Prelude.{Option}
 use Rattle.hp_base.specs.Limits.{most}
 use Rattle.hp_io.specs.Faults.{Faults, Rose, IsCalm}

@@ -87,6 +87,6 @@ pub shown_of_kinds : (ending : Ending) (kinds : List KindData) (outputs : List V
 shown_of_kinds ending kinds outputs h =
     let count = count_before ending (length kinds) in
     let words_are : AreOfKinds word_kinds (words_behind count outputs) =
-        (word_is 65534 (slice_index_or outputs count (B true)) (codes "assume=false") (codes "assume=true"), (word_is 65535 (slice_index_or outputs (count + 1) (B true)) (codes "enforce=false") (codes "enforce=true"), tt)) in
+    (word_is 65534 (slice_index_or outputs count (B true)) (codes "assume=false") (codes "assume=true"), (word_is 65535 (slice_index_or outputs (count + 1) (B true)) (codes "enforce=false") (codes "enforce=true"), tt)) in
     subst (λ n. AreOfKinds (shown_kinds ending kinds) (take (count_before ending n) outputs ++ words_behind (count_before ending n) outputs)) (sym (many kinds outputs h))
     (behind (take count kinds) word_kinds (take count outputs) (words_behind count outputs) (taken count kinds outputs h) words_are)

@@ -1,5 +1,5 @@
 -- Words of one form are of no other.
-use Rattle.std.proofs.Common.{◌≡◌, ◌<◌, ℕ, suc, ◌⊎◌, inl, inr, Bool, true, false, List, [], ◌∷◌, length, sym, subst, refl, ap, ◌∙◌, arith}
+use Rattle.std.proofs.Common.{◌≡◌, ◌<◌, ℕ, suc, ◌⊎◌, inl, inr, Bool, true, false, List, [], ◌∷◌, get_or, length, sym, subst, refl, ap, ◌∙◌, arith}
 use Rattle.std.specs.Prelude.{codes}
 use Rattle.hp_arguments.specs.Words.{IsArgument}
 use Rattle.hp_driver.specs.Command.{IsOnTraceBy, IsOnCertBy, IsRunOf, IsTellOf, IsExecOf, IsCheckOf, IsCompileOf, IsProveOf, IsVerifyOf, IsSweepOf, IsOverSource, IsOverContract, ReadsSource, IsOver, Writes}
@@ -218,6 +218,9 @@ check_chooses words file x print program w (AsksToChoose.to_compile {out = y} c 
 
 -- ---- the words of a sweep
 
+sweep_check : codes "sweep" ≡ codes "check" → ⊥
+sweep_check e = let first : 115 ≡ 99 = ap (λ (w : List ℕ). get_or w 0 0) e in omega (arith, first)
+
 module _ (words : List (List ℕ)) (tasks instants : ℕ) (w : IsSweepOf words tasks instants) where
   sweep_three : length words ≡ 3
   sweep_three = ap length w.spelled
@@ -228,7 +231,7 @@ module _ (words : List (List ℕ)) (tasks instants : ℕ) (w : IsSweepOf words t
   pub sweep_source : (file : List ℕ) → IsOverSource words file → ⊥
   sweep_source file (IsOverSource.to_run {node = y} r) = let e : codes "sweep" ≡ codes "run" = sweep_named (codes "run") (file ∷ y ∷ []) r.spelled in cc
   sweep_source file (IsOverSource.to_tell {node = y} r) = let four = tell_four words file y r in let three = sweep_three in omega (arith, four, three)
-  sweep_source file (IsOverSource.to_check print c) = let k = checking words file print c in let e : codes "sweep" ≡ codes "check" = sweep_named (codes "check") k.behind k.spelled in cc
+  sweep_source file (IsOverSource.to_check print c) = let k = checking words file print c in sweep_check (sweep_named (codes "check") k.behind k.spelled)
   sweep_source file (IsOverSource.to_compile {out = y} c) = let e : codes "sweep" ≡ codes "compile" = sweep_named (codes "compile") (file ∷ y ∷ []) c.spelled in cc
 
   pub sweep_contract : (file node : List ℕ) → IsOverContract words file node → ⊥

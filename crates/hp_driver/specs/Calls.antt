@@ -1,6 +1,6 @@
 -- What a call of the tool does.
 -- Source: own
-use Rattle.std.specs.Prelude.{◌≡◌, ℕ, List, Option}
+use Rattle.std.specs.Prelude.{ℕ, List, Option}
 use Rattle.hp_io.specs.Faults.{Faults}
 use Rattle.hp_io.specs.Files.{Files}
 use Rattle.hp_io.specs.Reads.{Reads, Reading}

@@ -14,7 +14,7 @@ use Rattle.hp_driver.specs.Log.{heard, said, has_ended}
 use Rattle.hp_driver.specs.Values.{first_bad}
 use Rattle.hp_driver.specs.Answers.{IsAnswer}
 use Rattle.hp_driver.specs.Systems.{System, of_node, of_machine, that_tells, inputs_of}
-use Rattle.hp_driver.specs.declared.telling.Ending.TheVariants.{Told, Kept}
+use Rattle.hp_driver.specs.declared.telling.Ending.TheVariants as ending
 use Rattle.hp_controlled.specs.Chosen.{AreControlledMachines, IsChosen, IsToldBy}
 use Rattle.hp_io.specs.Events.{put_events}
 use Rattle.hp_compile.specs.Arranged.{IsArranged, IsArrangeable}
@@ -119,9 +119,9 @@ pub data IsAskedFor (words : List (List ℕ)) (files : Option Files) : System �
   a_chosen_node : {file node : List ℕ} {o : Obc} (n : Node) → IsRunOf words file node → (chosen : AreChosen files file o) → has_controls chosen.program ≡ true →
       node_among chosen.held.clocked node ≡ Some n → IsMachine node o → IsChosen node o n → IsAskedFor words files (of_machine o node)
   a_contract : {file node : List ℕ} {o : Obc} (n : Node) → IsTellOf words file node → (chosen : AreChosen files file o) → node_among chosen.held.clocked node ≡ Some n →
-      IsTrue (is_some n.contract) → IsMachine (node ++ codes "$contract") o → IsToldBy (node ++ codes "$contract") o n → IsAskedFor words files (that_tells Told o (node ++ codes "$contract"))
+      IsTrue (is_some n.contract) → IsMachine (node ++ codes "$contract") o → IsToldBy (node ++ codes "$contract") o n → IsAskedFor words files (that_tells ending.Told o (node ++ codes "$contract"))
   no_contract : {file node : List ℕ} {o : Obc} (n : Node) → IsTellOf words file node → (chosen : AreChosen files file o) → node_among chosen.held.clocked node ≡ Some n →
-      n.contract ≡ None → IsMachine node o → IsChosen node o n → IsAskedFor words files (that_tells Kept o node)
+      n.contract ≡ None → IsMachine node o → IsChosen node o n → IsAskedFor words files (that_tells ending.Kept o node)
 
 -- The words ask for the machines of a program that choose the values of its controllable variables, or for what its contracts assume and enforce.
 pub data AsksToChoose (words : List (List ℕ)) (file : List ℕ) (program : List Item) : Type 0 where

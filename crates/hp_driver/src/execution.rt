@@ -37,7 +37,10 @@ impl Model for Execution {
 }
 
 /// Room for the inputs and for the outputs of a step.
-pub(crate) fn room_for(alloc: Global, signature: &Signature) -> Result<(Vec<Value>, Vec<Value>), AllocError>
+pub(crate) fn room_for(
+    alloc: Global,
+    signature: &Signature,
+) -> Result<(Vec<Value>, Vec<Value>), AllocError>
     ensures inputs { IfOk result (λ r. length r.0.items ≡ length signature.now.inputs) }
     ensures outputs { IfOk result (λ r. length r.1.items ≡ length signature.now.outputs) }
 {

@@ -28,8 +28,8 @@ returns-in-Err-NotBuilt-clause-leaves g c = λ words file program held e some ke
     nothing_written words (g.F.Folder.files c.args.files.now) (code_of c.report.result)
     (not_done (g.E.Sink.took c.args.diag.now) (g.E.Sink.took c.report.new.diag) not_built_line (code_of c.report.result) c.report.ensures.reports)
 
-pub returns-clause-outcome : goal.returns-clause-outcome
-returns-clause-outcome g c = ([], Grows-nil (g.E.Sink.took c.args.diag.now), compile_memory c.args.out.now c.args.ordered.now)
+pub returns-in-Err-OutOfMemory-clause-outcome : goal.returns-in-Err-OutOfMemory-clause-outcome
+returns-in-Err-OutOfMemory-clause-outcome g c = ([], Grows-nil (g.E.Sink.took c.args.diag.now), compile_memory c.args.out.now c.args.ordered.now)
 
-pub returns-clause-leaves : goal.returns-clause-leaves
-returns-clause-leaves g c = λ words file program held e some kept w. nothing_written words (g.F.Folder.files c.args.files.now) 6 (λ h. omega (arith, h))
+pub returns-in-Err-OutOfMemory-clause-leaves : goal.returns-in-Err-OutOfMemory-clause-leaves
+returns-in-Err-OutOfMemory-clause-leaves g c = λ words file program held e some kept w. nothing_written words (g.F.Folder.files c.args.files.now) 6 (λ h. omega (arith, h))

@@ -39,8 +39,8 @@ returns-in-Err-NotBuilt-clause-outcome g c =
     let told = told_of (ChoosingRun name ordered []) (run_failed name ordered []) (g.E.Sink.took c.args.diag.now) (g.E.Sink.took c.report.new.diag) not_built_line 1 (code_of c.report.result) c.report.ensures.reports (run_not_built name ordered) in
     ([], told.0, Grows-nil (g.C.Console.events c.args.console.now), heard_nothing (g.C.Console.left c.args.console.now), told.1, told.2)
 
-pub returns-clause-outcome : goal.returns-clause-outcome
-returns-clause-outcome g c = (
+pub returns-in-Err-OutOfMemory-clause-outcome : goal.returns-in-Err-OutOfMemory-clause-outcome
+returns-in-Err-OutOfMemory-clause-outcome g c = (
   [],
   [],
   Grows-nil (g.C.Console.events c.args.console.now),

@@ -3,7 +3,7 @@ use Rattle.hp_io.proofs.ToldLaws.{Grows-nil}
 use Rattle.hp_driver.specs.Executing.{executing}
 use Rattle.hp_driver.specs.Ran.{Ran}
 use Rattle.hp_driver.specs.Status.{code_of}
-use Rattle.hp_driver.specs.Systems.{of_machine, that_tells}
+use Rattle.hp_driver.specs.Systems.{of_machine}
 use Rattle.hp_driver.proofs.ChoosingLaws.{chosen_ran, chosen_memory}
 use Rattle.hp_driver.proofs.ExecutionLaws.{few_inputs, behaves}
 use Rattle.hp_driver.proofs.RanLaws.{heard_nothing}

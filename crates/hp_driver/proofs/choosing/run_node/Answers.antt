@@ -1,15 +1,15 @@
 use Rattle.std.proofs.Common.{[], rules, IsTrue}
 use Rattle.hp_io.proofs.ToldLaws.{Grows-nil}
 use Rattle.hp_driver.specs.Command.{not_built_line}
-use Rattle.hp_driver.specs.Follows.{NodeRun, NodeTold}
+use Rattle.hp_driver.specs.Follows.{NodeRun}
 use Rattle.hp_driver.specs.Status.{code_of}
-use Rattle.hp_driver.proofs.ChoosingLaws.{node_failed, node_not_built, node_ran, told_failed, told_not_built, told_memory, plain_told, contract_told}
+use Rattle.hp_driver.proofs.ChoosingLaws.{node_failed, node_not_built, node_ran}
 use Rattle.hp_driver.proofs.OutcomeLaws.{told_of}
 use Rattle.hp_driver.proofs.RanLaws.{heard_nothing}
 use Rattle.hp_driver.proofs.choosing.run_node.Goals as goal
 
-pub returns-then-is_chosen-clause-outcome : goal.returns-then-is_chosen-clause-outcome
-returns-then-is_chosen-clause-outcome g c =
+pub returns-then-not-is_chosen-clause-outcome : goal.returns-then-not-is_chosen-clause-outcome
+returns-then-not-is_chosen-clause-outcome g c =
     let o = c.args.machines.now in
     let n = c.args.node.now in
     let name = c.args.name.now in

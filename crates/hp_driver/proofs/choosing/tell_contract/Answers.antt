@@ -21,8 +21,8 @@ returns-in_default-clause-outcome g c = (
   told_memory c.args.machines.now c.args.node.now c.args.name.now,
 )
 
-pub returns-then-is_told-clause-outcome : goal.returns-then-is_told-clause-outcome
-returns-then-is_told-clause-outcome g c =
+pub returns-then-not-is_told-clause-outcome : goal.returns-then-not-is_told-clause-outcome
+returns-then-not-is_told-clause-outcome g c =
     let o = c.args.machines.now in
     let n = c.args.node.now in
     let name = c.args.name.now in
@@ -37,6 +37,12 @@ returns-clause-outcome g c =
     let ran = c.tell_chosen.ensures.outcome in
     let is : IsTrue c.is_told.result = search rules in
     let called : c.as_str.result.now ≡ name ++ codes "$contract" = search rules in
-    let runs : c.as_str-2.result.now ≡ name ++ codes "$contract" = search rules in
-    (ran.0, ran.1, ran.2, ran.3, ran.4, contract_told o n name ran.0 ran.1 (code_of c.tell_chosen.result) c.requires.some (subst (λ z. IsToldBy z o n) called (c.is_told.ensures is))
-        (subst (λ z. ChosenOutcome (that_tells Told o z) o z ran.0 ran.1 (code_of c.tell_chosen.result)) runs ran.5))
+    let runs : c.as_str-2.result.now ≡ name ++ codes "$contract" = search rules in (
+      ran.0,
+      ran.1,
+      ran.2,
+      ran.3,
+      ran.4,
+      contract_told o n name ran.0 ran.1 (code_of c.tell_chosen.result) c.requires.some (subst (λ z. IsToldBy z o n) called (c.is_told.ensures is))
+          (subst (λ z. ChosenOutcome (that_tells Told o z) o z ran.0 ran.1 (code_of c.tell_chosen.result)) runs ran.5),
+    )

@@ -1,5 +1,4 @@
-use Rattle.std.proofs.Common.{◌≡◌, true, None, rules}
-use Rattle.std.specs.Prelude.{is_some, IsTrue}
+use Rattle.std.proofs.Common.{rules}
 use Rattle.hp_driver.proofs.choosing.tell_node.Goals as goal
 
 pub tell_plain-requires-clause-none : goal.tell_plain-requires-clause-none

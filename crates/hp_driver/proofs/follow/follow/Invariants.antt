@@ -1,4 +1,4 @@
-use Rattle.std.proofs.Common.{◌≡◌, ◌-◌, ◌*◌, ◌<◌, List, length}
+use Rattle.std.proofs.Common.{◌-◌, ◌*◌, ◌<◌, List, length}
 use Rattle.hp_io.specs.declared.console.Event.{Event}
 use Rattle.hp_io.specs.Faults.{Same}
 use Rattle.hp_io.specs.Told.{Grows, Loses}

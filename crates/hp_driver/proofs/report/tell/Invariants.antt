@@ -1,4 +1,4 @@
-use Rattle.std.proofs.Common.{length, ◌-◌, ◌≡◌, ◌≤◌, take}
+use Rattle.std.proofs.Common.{length, ◌-◌, ◌≤◌, take}
 use Rattle.hp_io.specs.Faults.{Same}
 use Rattle.hp_io.specs.Told.{Grows}
 use Rattle.hp_driver.proofs.report.tell.Given as goal

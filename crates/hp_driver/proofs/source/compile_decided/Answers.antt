@@ -1,4 +1,4 @@
-use Rattle.std.proofs.Common.{◌≡◌, [], true, false, rules}
+use Rattle.std.proofs.Common.{◌≡◌, true, false, rules}
 use Rattle.hp_driver.specs.Controls.{has_controls}
 use Rattle.hp_driver.specs.Diagnostics.{contract_line}
 use Rattle.hp_driver.specs.declared.words.Task.TheVariants.{Compile}

@@ -9,4 +9,4 @@ pub loop-i-preserved : goal.loop-i-preserved
 loop-i-preserved c =
     let added = c.in_ok-add_kind.ensures in
     kind_added (kinds_seen c.args.outputs.now.items) (kinds_seen c.loop-i.outputs.items) (kinds_seen c.add_kind.new.outputs.items) (kind_seen c.in_ok-kind.kind)
-      c.args.from.now c.index-from-i.result c.loop-i.i (omega arith) c.loop-i.invariant added c.in_ok-kind.ensures
+    c.args.from.now c.index-from-i.result c.loop-i.i (omega arith) c.loop-i.invariant added c.in_ok-kind.ensures

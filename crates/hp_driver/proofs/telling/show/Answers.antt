@@ -8,8 +8,8 @@ pub returns : goal.returns
 returns c =
     let count = c.count_before-count.ensures in
     let written = set_two c.copy_from_slice.new.self (drop c.count_before-count.result c.args.shown.now) c.count_before-count.result c.word-assumed.result c.word-enforced.result
-            (c.copy_from_slice.ensures.len ∙ length-take-le c.count_before-count.result c.args.shown.now (omega (arith, c.requires, count)))
-            (length-drop c.count_before-count.result c.args.shown.now ∙ omega (arith, c.requires, count)) in
+    (c.copy_from_slice.ensures.len ∙ length-take-le c.count_before-count.result c.args.shown.now (omega (arith, c.requires, count)))
+    (length-drop c.count_before-count.result c.args.shown.now ∙ omega (arith, c.requires, count)) in
     let first = c.copy_from_slice.ensures.after in
     let assumed = c.word-assumed.ensures in
     let enforced = c.word-enforced.ensures in

@@ -1,7 +1,7 @@
-use Rattle.std.proofs.Common.{ℕ, List, [], map, inl, inr, sym, subst, rules, arith, refl, ◌∙◌}
+use Rattle.std.proofs.Common.{[], map, inl, inr, sym, subst, rules, arith, refl}
 use Rattle.std.proofs.lemmas.Option.{MatchOption-at_none, MatchOption-at_some}
-use Rattle.hp_io.specs.Faults.{Rose, AllSame}
-use Rattle.hp_io.proofs.FaultLaws.{Same-refl, AllSame-refl, AllSame-trans}
+use Rattle.hp_io.specs.Faults.{AllSame}
+use Rattle.hp_io.proofs.FaultLaws.{Same-refl, AllSame-trans}
 use Rattle.std.specs.String.{string_bytes}
 use Rattle.hp_io.specs.Reads.{Gave, ReadFailed}
 use Rattle.hp_io.proofs.ToldLaws.{Grows-nil}
