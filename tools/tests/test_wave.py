@@ -70,6 +70,20 @@ class Parts(unittest.TestCase):
         self.assertEqual([list(row.values()) for row in found], [[shown(it) for it in row] for row in rows])
 
 
+def most_memory(process):
+    """The most memory that a process held until it ended, in KiB. (What `wait4` tells counts what this process held when it made the other.)"""
+    most = 0
+    while process.poll() is None:
+        try:
+            with open(f'/proc/{process.pid}/status') as status:
+                held = [int(line.split()[1]) for line in status if line.startswith('VmHWM:')]
+        except OSError:
+            held = []
+        most = max([most, *held])
+        time.sleep(0.01)
+    return most
+
+
 class OverTheProgram(unittest.TestCase):
     maxDiff = None
 
@@ -121,10 +135,10 @@ class OverTheProgram(unittest.TestCase):
             start = time.monotonic()
             with open(os.path.join(folder, 'trace'), 'rb') as trace, open(os.path.join(folder, 'vcd'), 'wb') as out:
                 done = subprocess.Popen([os.path.join(TOOLS, 'hept-wave'), os.path.join(EXAMPLES, 'updown.ept'), 'updown', '--vcd'], stdin=trace, stdout=out, env=surroundings())
-                _, status, used = os.wait4(done.pid, 0)
-            self.assertEqual(status, 0)
+                most = most_memory(done)
+            self.assertEqual(done.returncode, 0)
             self.assertLess(time.monotonic() - start, 60)
-            self.assertLess(used.ru_maxrss, 100_000)
+            self.assertLess(most, 100_000)
             with open(os.path.join(folder, 'vcd'), 'rb') as file:
                 file.seek(-20, os.SEEK_END)
                 self.assertEqual(file.read().split()[-1], b'#1000000')
