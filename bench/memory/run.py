@@ -57,7 +57,8 @@ def differs(status, taken, said, wanted, wanted_said):
 
 def main():
     most = int(sys.argv[1]) if len(sys.argv) > 1 else None
-    subprocess.run([os.path.join(TOP, "hept"), "check", os.path.join(EXAMPLES, "p1.ept")], check=True, capture_output=True)
+    if not os.access(os.path.join(TOP, "crates", "hp_main", "out", "hp_main"), os.X_OK):
+        sys.exit("crates/hp_main/out/hp_main is not there: rt ci builds it")
     wrong = 0
     with tempfile.TemporaryDirectory() as folder:
         wrapper = os.path.join(folder, "refuse.so")
