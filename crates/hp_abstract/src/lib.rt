@@ -1,4 +1,4 @@
-//! The Boolean machine of a node's contract: the circuit of its Boolean abstraction, from the tree. Invariant: it is the circuit that `hp_drawing` defines. Used by `hp_verdicts`, `hp_driver`.
+//! The Boolean machine of a node's contract: the circuit of its Boolean abstraction, from the tree. Invariant: it is the circuit that `hp_drawing` defines. Used by `hp_verdicts`, `hp_controlled`, `hp_driver`; its specs by `law_decided`.
 #![tactic(auto)]
 
 mod abstracted;

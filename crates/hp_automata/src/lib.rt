@@ -1,4 +1,4 @@
-//! Automata, removed from a program: each becomes equations over words of its own. Invariant: no automaton is left, and all other equations stay as they are. Used by `hp_machines`.
+//! Automata, removed from a program: each becomes equations over words of its own. Invariant: no automaton is left, and all other equations stay as they are. Used by `hp_machines`, `hp_controlled`; its specs by the laws.
 #![tactic(auto)]
 
 ghost use Rattle.std.specs.Prelude.{◌≡◌, IfOk};

@@ -1,4 +1,4 @@
-//! What every crate speaks of: names and their bytes, places in a text, values, kinds, arithmetic of 32 bits, limits. Invariant: a name has at most 255 bytes of its alphabet, a value is of its kind. Used by all crates.
+//! What every crate speaks of: names and their bytes, places in a text, values, kinds, arithmetic of 32 bits, limits. Invariant: a name has at most 270 bytes of its alphabet (255 in a source text), a value is of its kind. Used by all crates.
 #![tactic(auto)]
 
 mod byte;

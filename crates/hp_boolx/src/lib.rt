@@ -1,4 +1,4 @@
-//! Boolean machines, and the game on them: the environment chooses early values, the controller controls, and the environment late values. Invariant: gates stand behind what they read. Used by `hp_circuit`, `hp_synth`, `hp_cert`.
+//! Boolean machines, and the game on them: the environment chooses early values, the controller controls, and the environment late values. Invariant: gates stand behind what they read. Used by `hp_circuit` and all crates of games above it.
 #![tactic(auto)]
 
 mod checked;

@@ -1,4 +1,4 @@
-//! Causality: which points of a node read each other in a circle, and else an order of all points. Invariant: a cycle begins with the first of its points in the text. Used by `hp_compile`.
+//! Causality: which points of a node read each other in a circle, and else an order of all points. Invariant: a cycle begins with the first of its points in the text. Used by `hp_compile`; its specs by `hp_driver`.
 #![tactic(auto)]
 
 ghost use Rattle.std.specs.Prelude.{◌≡◌, OnOk, IfOk, IfErr, [], ◌∷◌, ◌++◌};

@@ -1,4 +1,4 @@
-//! Circuits of one instant: wires, each with a value that other wires and slots give it, and the Boolean machine that has their bits as gates. Invariant: slots keep the order of places. Used by `hp_drawing`, `hp_abstract`, `hp_verdicts`.
+//! Circuits of one instant: wires, each with a value that other wires and slots give it, and the Boolean machine that has their bits as gates. Invariant: slots keep the order of places. Used by `hp_drawing`, `hp_abstract`, `hp_verdicts`, `hp_controller`, `hp_controlled` and the laws.
 #![tactic(auto)]
 
 mod abstraction;

@@ -1,4 +1,4 @@
-//! Clocks: which part of the instants each local, equation and expression is there at. Invariant: the clocks that are written are the shortest ones; a refusal names the first unit from which on there are none. Used by `hp_compile`.
+//! Clocks: which part of the instants each local, equation and expression is there at. Invariant: the clocks that are written are the shortest ones; a refusal names the first unit from which on there are none. Used by `hp_compile`; its specs by `hp_driver` and the laws.
 #![tactic(auto)]
 
 ghost use Rattle.std.specs.Prelude.{◌≡◌, IfOk, IfErr};

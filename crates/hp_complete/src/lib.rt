@@ -1,4 +1,4 @@
-//! Programs without automata as clocked equations (flattening). Invariant: each expression that is no name has a variable and one equation on its clock, in the order of making. Used by `hp_machines`.
+//! Programs without automata as clocked equations (flattening). Invariant: each expression that is no name has a variable and one equation on its clock, in the order of making. Used by `hp_machines`, `hp_controlled`; its specs by the laws.
 #![tactic(auto)]
 
 mod block;

@@ -1,4 +1,4 @@
-//! The permitted choices of a solved machine, and the functions of a controller: the preferred one of them, bit by bit. Invariant: the choice is permitted at every valuation where one is. Used by `hp_cert`, `hp_controller`, `hp_games`.
+//! The permitted choices of a solved machine, and the functions of a controller: the preferred one of them, bit by bit. Invariant: the choice is permitted at every valuation where one is. Used by `hp_cert`, `hp_verdicts`, `hp_controller`, `hp_games`.
 #![tactic(auto)]
 
 mod choosing;

@@ -1,4 +1,4 @@
-//! Used by no command yet. The controller of a machine as a node of clocked equations, and nodes that ask it for the values of their last inputs. Invariant: the equations of a node that asks are its own, with more behind them.
+//! The controller of a machine as a node of clocked equations, and nodes that ask it for the values of their last inputs. Invariant: the equations of a node that asks are its own, with more behind them. Used by `hp_controlled`.
 #![tactic(auto)]
 
 mod controlling;

@@ -1,4 +1,4 @@
-//! Inlined calls replaced by equations, the shapes of contracts, and what is counted of a program. Invariant: no inlined call is left, and new names hold a `$`, which no source name does. Used by `hp_compile`.
+//! Inlined calls replaced by equations, the shapes of contracts, and what is counted of a program. Invariant: no inlined call is left, and new names hold a `$`, which no source name does. Used by `hp_compile`, `hp_driver`; its specs by the laws.
 #![tactic(auto)]
 
 ghost use Rattle.std.specs.Prelude.{◌≡◌, ◌↔◌, IfErr, IfOk, OnOk};

@@ -1,4 +1,4 @@
-//! Whether types, machines and clocked equations have the form that is asked for. Invariant: a yes is that they have it. Used by `hp_machines`.
+//! Whether types, machines and clocked equations have the form that is asked for. Invariant: a yes is that they have it. Used by `hp_machines`, `hp_controlled`; its specs by the laws.
 #![tactic(auto)]
 
 mod command;

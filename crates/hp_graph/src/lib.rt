@@ -1,4 +1,4 @@
-//! Orders and cycles of a graph that is given by its edges. Invariant: ranks fall along each edge, or the points of a cycle are named. Used by `hp_cause`, `hp_circuit`, `hp_complete`.
+//! Orders and cycles of a graph that is given by its edges. Invariant: ranks fall along each edge, or the points of a cycle are named. Used by `hp_cause`, `hp_circuit`, `hp_complete`; its specs by `law_drawing`, `law_decided`.
 #![tactic(auto)]
 
 mod edges;

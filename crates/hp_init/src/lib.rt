@@ -1,4 +1,4 @@
-//! Initialisation: which names may be Nil at first, and where a value is wanted that may be. Invariant: the classes are the least ones; the refusal is the first unmet want. Used by `hp_compile`.
+//! Initialisation: which names may be Nil at first, and where a value is wanted that may be. Invariant: the classes are the least ones; the refusal is the first unmet want. Used by `hp_compile`; its specs by `hp_driver` and the laws.
 #![tactic(auto)]
 
 ghost use Rattle.std.specs.Prelude.{◌≡◌, [], ◌∷◌, None, OnOk, IfOk, IfErr};

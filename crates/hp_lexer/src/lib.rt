@@ -1,4 +1,4 @@
-//! The tokens of a source text. Invariant: tokens stand in the order of the text, each the longest at its place, and tell their places. Used by `hp_parser`.
+//! The tokens of a source text. Invariant: tokens stand in the order of the text, each the longest at its place, and tell their places. Used by `hp_parser`, `hp_compile`, `hp_print` and the laws.
 #![tactic(auto)]
 
 mod gap;

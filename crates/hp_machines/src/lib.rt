@@ -1,4 +1,4 @@
-//! The machines of a program: automata are removed, nodes made clocked equations, these put in order and made machines, and neighbouring cases joined. Invariant: callees stand before their callers. Used by `hp_driver`.
+//! The machines of a program: automata are removed, nodes made clocked equations, these put in order and made machines, and neighbouring cases joined. Invariant: callees stand before their callers. Used by `hp_driver`, `hp_controlled`; its specs by the laws.
 #![tactic(auto)]
 
 ghost use Rattle.std.specs.Prelude.{IfErr, IfOk};

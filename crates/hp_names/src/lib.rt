@@ -1,4 +1,4 @@
-//! The names of a program: each is declared, once in its scope, and known where it is used. Invariant: the refusal is the first breach in the text. Used by `hp_compile`.
+//! The names of a program: each is declared, once in its scope, and known where it is used. Invariant: the refusal is the first breach in the text. Used by `hp_compile`; its specs by `hp_init`, `hp_drawing`, `hp_abstract`, `hp_driver` and the laws.
 #![tactic(auto)]
 
 ghost use Rattle.std.specs.Prelude.{◌≡◌, ◌↔◌, [], OnOk, IfOk, IfErr};

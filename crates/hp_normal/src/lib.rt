@@ -1,4 +1,4 @@
-//! Needless copies taken out of clocked equations. Invariant: outputs keep their values at every instant. Used by `hp_machines`.
+//! Needless copies taken out of clocked equations. Invariant: outputs keep their values at every instant. Used by `hp_machines`; its specs by `hp_form` and the laws.
 #![tactic(auto)]
 
 mod copy;

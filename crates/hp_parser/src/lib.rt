@@ -1,4 +1,4 @@
-//! The tree of a source text, or the first token at which no program goes on. Invariant: a tree that is made is the one tree that the grammar gives the text, within the limits. Used by `hp_compile`.
+//! The tree of a source text, or the first token at which no program goes on. Invariant: a tree that is made is the one tree that the grammar gives the text, within the limits. Used by `hp_compile`, `hp_print` and the laws.
 #![tactic(auto)]
 
 mod atom;

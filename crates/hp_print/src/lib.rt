@@ -1,4 +1,4 @@
-//! The canonical text of a program. Invariant: what is printed parses to the same tree but for places. Used by `hp_driver` (`check --print`).
+//! The canonical text of a program. Invariant: what is printed parses to the same tree but for places. Used by `hp_driver` (`check --print`); its specs by the laws.
 #![tactic(auto)]
 
 ghost use Rattle.std.specs.Prelude.{◌≡◌, ◌≤◌, length, IfOk};

@@ -1,4 +1,4 @@
-//! Quantifiers, composition and other passes over whole decision diagrams. Invariant: the table grows, and references keep their functions. Used by `hp_synth`, `hp_control`, `hp_cert`.
+//! Quantifiers, composition and other passes over whole decision diagrams. Invariant: the table grows, and references keep their functions. Used by `hp_synth`, `hp_control`, `hp_cert`, `hp_verdicts`, `hp_controller`.
 #![tactic(auto)]
 
 mod implication;

@@ -1,4 +1,4 @@
-//! Boolean machines, solved: nothing is forced and the safe states are known, or in how many instants a violation is forced. Invariant: the count is the least. Used by `hp_control`, `hp_cert`, `hp_verdicts`.
+//! Boolean machines, solved: nothing is forced and the safe states are known, or in how many instants a violation is forced. Invariant: the count is the least. Used by `hp_control`, `hp_cert`, `hp_verdicts`, `hp_controller`, `hp_controlled`, `hp_games`.
 #![tactic(auto)]
 
 mod building;

@@ -1,4 +1,4 @@
-//! The machine of scheduled equations. Invariant: a step of the machine is an instant of the equations. Used by `hp_machines`.
+//! The machine of scheduled equations. Invariant: a step of the machine is an instant of the equations. Used by `hp_machines`; its specs by `hp_form` and the laws.
 #![tactic(auto)]
 
 mod command;

@@ -1,4 +1,4 @@
-//! The types of a program, and the definitions of its names. Invariant: an accepted program has one type for each expression and one equation for each name; the refusal is the first breach. Used by `hp_compile`.
+//! The types of a program, and the definitions of its names. Invariant: an accepted program has one type for each expression and one equation for each name; the refusal is the first breach. Used by `hp_compile`; its specs by `hp_driver` and the laws.
 #![tactic(auto)]
 
 ghost use Rattle.std.specs.Prelude.{◌≡◌, ◌↔◌, [], All, OnOk, IfOk, IfErr};

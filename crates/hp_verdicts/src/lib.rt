@@ -1,4 +1,4 @@
-//! The contracts of a program, decided: nothing is forced in any of them, or the first in which a violation is; and their certificates, made and checked. Invariant: contracts are taken in the order of the text. Used by `hp_driver`.
+//! The contracts of a program, decided: nothing is forced in any of them, or the first in which a violation is; and their certificates, made and checked. Invariant: contracts are taken in the order of the text. Used by `hp_driver`; its specs by `law_decided`.
 #![tactic(auto)]
 
 mod certificate;
