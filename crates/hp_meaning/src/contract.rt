@@ -9,7 +9,7 @@ ghost use Rattle.hp_meaning.specs.Contract.FreePlaces.{AbstractEarlyValuesLaw, E
 ghost use Rattle.hp_meaning.specs.Contract.Game.{AllowedLaw, ChoiceTypesLaw, ChosenLaw, ForcedLaw, GuaranteeLaw, KeptLaw, OneChoiceLaw, PermittedLaw};
 ghost use Rattle.hp_meaning.specs.Contract.Guarantee.{GuaranteedLaw, RunGuaranteedLaw, RunKeepsDutyLaw};
 ghost use Rattle.hp_meaning.specs.Contract.ChosenRuns.{InstanceLaw, TypedControlsLaw, UncontrolledLaw};
-ghost use Rattle.hp_meaning.specs.Contract.SteeredRuns.{ChosenReactionLaw, OneChosenLaw, OneChosenRunLaw, OneReactionByLaw, OneSteeredLaw, SteeredLaw};
+ghost use Rattle.hp_meaning.specs.Contract.SteeredRuns.{ChosenReactionLaw, OneReactionByLaw, OneSteeredLaw, SteeredLaw};
 
 /// So many values take the least number of bits in which each has a code, which is its number.
 pub fn codes_of_values()
@@ -55,11 +55,9 @@ pub fn duty_is_kept()
     ensures { GuaranteeLaw }
 {}
 
-/// In a ranked program whose clocks are right, for each function that chooses by what is known before the choice, there is exactly one reaction over each list of inputs in which each instance, at every depth, has the values that it chooses. So is it with the greatest permitted values, if a function chooses these; that one does is shown by machines alone.
+/// In a ranked program whose clocks are right, for each function that chooses by what is known before the choice, there is exactly one reaction over each list of inputs in which each instance, at every depth, has the values that it chooses.
 pub fn one_steered_run()
-    ensures one { OneReactionByLaw }
-    ensures chosen { OneChosenLaw }
-    ensures run { OneChosenRunLaw }
+    ensures { OneReactionByLaw }
 {}
 
 /// The meaning in which each node chooses so says the same as that rule.

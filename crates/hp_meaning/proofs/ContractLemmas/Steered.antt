@@ -13,7 +13,7 @@ use Rattle.hp_tree.specs.Programs.{TypeDecl, Node}
 use Rattle.hp_tree.specs.Operators.{real, is_there}
 use Rattle.hp_tree.specs.Instant.{Inputs, Controls, Fresh, Head, Tail, Instance, Place, Instant, Past, Given, part, parts, own, alone, nothing, in_row}
 use Rattle.hp_tree.specs.Meaning.{Nodes, names_of, types_of, controls_of, given_to, node, nodes}
-use Rattle.hp_tree.specs.Reaction.{Reaction, row_of, controls_at, outputs_at}
+use Rattle.hp_tree.specs.Reaction.{Reaction, row_of, controls_at}
 use Rattle.hp_meaning.specs.Causal.Causality.{Ranked, IsRanked}
 use Rattle.hp_meaning.specs.Causal.Clocked.{ClocksRight}
 use Rattle.hp_meaning.specs.Causal.OneReaction.{OneInstant, ReactionOf}
@@ -21,15 +21,13 @@ use Rattle.hp_meaning.specs.Causal.Points.{Placed, points}
 use Rattle.hp_meaning.specs.Causal.Steering.{steered_by}
 use Rattle.hp_meaning.proofs.CausalLemmas.Fix.{Fixed}
 use Rattle.hp_meaning.proofs.CausalLemmas.Swap.{given, with_instances, OfParts, AgreeWhere, node_swap_given}
-use Rattle.hp_meaning.proofs.CausalLemmas.Unique.{AllOne, solved, none_one, one_of, as_solved, node_one, onto, ranked_reverse, reaction_one, same_pasts}
+use Rattle.hp_meaning.proofs.CausalLemmas.Unique.{AllOne, solved, none_one, one_of, as_solved, node_one, onto, ranked_reverse, reaction_one}
 use Rattle.hp_meaning.proofs.CausalLemmas.Unsteered.{unsteered_same}
 use Rattle.hp_meaning.specs.Contract.Forgetting.{erase, ContractsCallNothing}
 use Rattle.hp_meaning.specs.Contract.FreePlaces.{is_call, calls_of, instance_at}
-use Rattle.hp_meaning.specs.Contract.Game.{Choice, at_controls, IsChosen}
-use Rattle.hp_meaning.proofs.ContractLemmas.Games.{one_choice}
-use Rattle.hp_meaning.proofs.ContractLemmas.KeptContracts.{throughout_map}
+use Rattle.hp_meaning.specs.Contract.Game.{Choice, at_controls}
 use Rattle.hp_meaning.specs.Contract.ChosenRuns.{own_past, Controlled, ControlledThroughout}
-use Rattle.hp_meaning.specs.Contract.SteeredRuns.{Strategy, IsStrategy, Follows, steered, steered_meaning, AllClocksRight, OneReactionByLaw, OneChosenLaw, OneChosenRunLaw, OneSteeredLaw, SteeredLaw, ChosenReactionLaw}
+use Rattle.hp_meaning.specs.Contract.SteeredRuns.{Strategy, IsStrategy, Follows, steered, steered_meaning, AllClocksRight, OneReactionByLaw, OneSteeredLaw, SteeredLaw, ChosenReactionLaw}
 use Rattle.hp_meaning.proofs.ContractLemmas.Beside.{early_unsteered}
 use Rattle.hp_meaning.proofs.ContractLemmas.Callees.{Word, word_of, calls_held}
 use Rattle.hp_meaning.proofs.ContractLemmas.Instances.{EachCall}
@@ -366,19 +364,3 @@ one_reaction_by program s f inputs r k c is =
       is_one = (one.past, so.0, so.1);
       only = λ past h. one.only past (blanked program s is f inputs h.0 past (chosen_law program s f inputs h.0 past is h.1 h.2));
     }
-
-pub one_chosen : OneChosenLaw
-one_chosen program s f inputs r k c is chooses =
-    let one = one_reaction_by program s f inputs r k c is in
-    record {
-      past = one.past;
-      is_one = (one.is_one.0, one.is_one.1, throughout_map (Follows s) (IsChosen program) (λ n history vs early c e. subst (IsChosen program n history vs early) (sym e) (chooses n history vs early)) (reverse program) f one.past one.is_one.2);
-      only = λ past h. one.only past (h.0, h.1, throughout_map (IsChosen program) (Follows s) (λ n history vs early c x. one_choice program n history vs early c (s n history vs early) x (chooses n history vs early)) (reverse program) f past h.2);
-    }
-
-pub one_chosen_run : OneChosenRunLaw
-one_chosen_run program s f inputs outputs others r k c is chooses a b =
-    let one = one_chosen program s f (reverse inputs) r k c is chooses in
-    let at_a = same_pasts a.past one.past (one.only a.past (a.frees, a.reaction.reaction, a.chosen)) in
-    let at_b = same_pasts b.past one.past (one.only b.past (b.frees, b.reaction.reaction, b.chosen)) in
-    sym a.gives ∙ ap (λ past. reverse (map (outputs_at program f) past)) (at_a ∙ sym at_b) ∙ b.gives

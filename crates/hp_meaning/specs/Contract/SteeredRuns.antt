@@ -16,8 +16,8 @@ use Rattle.hp_meaning.specs.Causal.OneReaction.{ReactionOf, OneReactionOf}
 use Rattle.hp_meaning.specs.Causal.Steering.{steered_by}
 use Rattle.hp_meaning.specs.Contract.Forgetting.{erase, ContractsCallNothing}
 use Rattle.hp_meaning.specs.Contract.FreePlaces.{IsEarly}
-use Rattle.hp_meaning.specs.Contract.Game.{Choice, at_controls, IsChosen}
-use Rattle.hp_meaning.specs.Contract.ChosenRuns.{ChoiceRule, ControlledThroughout, IsChosenRun}
+use Rattle.hp_meaning.specs.Contract.Game.{Choice, at_controls}
+use Rattle.hp_meaning.specs.Contract.ChosenRuns.{ChoiceRule, ControlledThroughout}
 
 -- a choice for a node, by its own abstract history, its inputs and an instant of early values
 abbrev pub Strategy : Type 0
@@ -59,10 +59,6 @@ AllClocksRight (NodeItem n ∷ items) = ClocksRight n × AllClocksRight items
 abbrev pub ReactsBy : List Item → ChoiceRule → List ℕ → List (List Value) → Past → Type 0
 ReactsBy program rule f inputs past = (frees : List Instant) × Reaction program f inputs frees past × ControlledThroughout rule (reverse program) f past
 
--- The function chooses the greatest permitted values, in each node, after each history.
-abbrev pub Chooses : List Item → Strategy → Type 0
-Chooses program s = (n : Node) (history : Past) (inputs : List Value) (early : Instant) → IsChosen program n history inputs early (s n history inputs early)
-
 -- ---- the laws
 
 -- Over each list of inputs there is exactly one reaction in which each instance at every depth has the values that the function chooses.
@@ -71,20 +67,6 @@ OneReactionByLaw =
     (program : List Item) (s : Strategy) (f : List ℕ) (inputs : List (List Value))
     → IsRanked program → AllClocksRight program → ContractsCallNothing program → IsStrategy program s
     → OneReactionOf (ReactsBy program (Follows s) f inputs)
-
--- So a run of chosen values is one over each list of inputs as soon as some function chooses.
-abbrev pub OneChosenLaw : Type 0
-OneChosenLaw =
-    (program : List Item) (s : Strategy) (f : List ℕ) (inputs : List (List Value))
-    → IsRanked program → AllClocksRight program → ContractsCallNothing program → IsStrategy program s → Chooses program s
-    → OneReactionOf (ReactsBy program (IsChosen program) f inputs)
-
--- Two such runs over the same inputs give the same outputs.
-abbrev pub OneChosenRunLaw : Type 0
-OneChosenRunLaw =
-    (program : List Item) (s : Strategy) (f : List ℕ) (inputs outputs others : List (List Value))
-    → IsRanked program → AllClocksRight program → ContractsCallNothing program → IsStrategy program s → Chooses program s
-    → IsChosenRun program f inputs outputs → IsChosenRun program f inputs others → outputs ≡ others
 
 -- Of the instants at which each node chooses so there is exactly one reaction, whatever is given.
 abbrev pub OneSteeredLaw : Type 0
