@@ -14,6 +14,7 @@ mod run;
 mod source;
 mod status;
 mod sweep;
+mod system;
 mod telling;
 mod tool;
 mod trace_limits;
@@ -23,5 +24,6 @@ pub use laws::{
     plain_programs_are_good, written_certificates_are_good, written_machines_agree_with_nodes,
 };
 pub use status::Status;
+pub use system::run_on_system;
 pub use tool::run_tool;
 pub use trace_limits::MAX_LINES;

@@ -1,12 +1,12 @@
 -- Laws of folders that fail nowhere but in reads of names that they do not hold.
-use Rattle.std.proofs.Common.{◌≡◌, ◌∙◌, ◌≤◌, ◌<◌, ◌+◌, ℕ, zero, suc, Bool, true, false, cond, List, [], ◌∷◌, ◌++◌, length, map, take, None, Some, refl, sym, ap, arith, string_bytes}
+use Rattle.std.proofs.Common.{◌≡◌, ◌∙◌, ◌≤◌, ℕ, zero, suc, Bool, true, false, cond, List, [], ◌∷◌, map, take, None, Some, refl, sym, ap, arith, string_bytes}
 use Rattle.std.specs.Prelude.{bytes_eq, String, Vec}
 use Rattle.std.specs.declared.alloc.Global.{Global}
 use Rattle.std.specs.FinMap as finmap
-use Rattle.std.specs.Ordering.{nat_cmp, eq_by_cmp}
+use Rattle.std.specs.Ordering.{nat_cmp}
 use Rattle.std.specs.Cmp.Lexicographic.{slice_cmp}
 use Rattle.std.proofs.lemmas.Cmp.{nat_list_cmp_total}
-use Rattle.hp_io.specs.Faults.{Faults, Rose, Same, AllSame, NoneFell, one_more}
+use Rattle.hp_io.specs.Faults.{Rose, AllSame, NoneFell, one_more}
 use Rattle.hp_io.specs.Memory.{CalmState, calm_faults, entry_of, files_of, names_of, is_among}
 use Rattle.hp_io.proofs.Placed.{tied}
 

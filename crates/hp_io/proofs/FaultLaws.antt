@@ -1,5 +1,5 @@
 -- Laws of faults.
-use Rattle.std.proofs.Common.{◌≡◌, ◌∙◌, ap, sym, refl, List, ℕ}
+use Rattle.std.proofs.Common.{◌∙◌, ap, sym, refl, List, ℕ}
 use Rattle.hp_io.specs.Faults.{Faults, Same, Rose, AllSame, one_more}
 
 pub Same-refl : (a : Faults) → Same a a

@@ -3,3 +3,4 @@ pub mod FaultLaws
 pub mod Given
 pub mod Placed
 pub mod ToldLaws
+mod WholeLaws

@@ -1,5 +1,5 @@
 -- Reads of a folder.
-use Rattle.std.specs.Prelude.{◌≡◌, ◌⊎◌, ℕ, List, [], ◌∷◌, Option}
+use Rattle.std.specs.Prelude.{◌≡◌, ℕ, List, [], ◌∷◌, Option}
 use Rattle.hp_io.specs.Faults.{Faults, Rose, AllSame}
 use Rattle.hp_io.specs.Told.{Grows}
 

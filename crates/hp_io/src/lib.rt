@@ -34,4 +34,4 @@ pub use real_console::RealConsole;
 pub use real_folder::RealFolder;
 pub use real_sink::RealSink;
 pub use sink::Sink;
-pub use tries::{TRIES, read_once, write_once};
+pub use tries::{TRIES, read_once, read_whole, write_once, write_whole};

@@ -1,14 +1,11 @@
 ghost use Rattle.std.specs.Prelude.{◌≡◌, ◌≤◌, ℕ, false, [], length, IfErr, OnOk};
 
 use crate::counts::raise;
-use crate::tries::{open, read_once, write_once};
+use crate::tries::{open, read_whole, write_whole};
 use crate::{Failed, Folder, ReadErr, WriteErr};
 use std::fs::OpenOptions;
 use std::marker::Model;
 use std::rt::Files;
-
-/// How many bytes are read at a time.
-const CHUNK: usize = 65_536;
 
 /// The files of the system. Contracts see it as its counts of faults, each one for all names, and whether the
 /// last call failed.
@@ -44,30 +41,18 @@ impl<R: Files> RealFolder<R> {
 }
 
 fn read_file<R: Files>(rt: &R, name: &str, limit: usize, into: &mut Vec<u8>) -> Result<(), ReadErr>
+    requires { into.old.items ≡ [] }
     ensures within { OnOk result (length into.new.items ≤ limit) }
     ensures limit { IfErr result (λ e. (n : ℕ) → e ≡ ReadErr.TooLong n → n ≡ limit) }
 {
     let mut file = open(rt, OpenOptions::new().read(true), name)?;
-    let mut chunk = [0; CHUNK];
-    while into.len() <= limit {
-        let room = CHUNK.min((limit - into.len()).saturating_add(1));
-        let count = read_once(&mut file, &mut chunk[..room])?;
-        if count == 0 {
-            return Ok(());
-        }
-        into.extend_from_slice(&chunk[..count])?;
-    }
-    Err(ReadErr::TooLong { limit })
+    read_whole(&mut file, limit, into)
 }
 
 fn write_file<R: Files>(rt: &R, name: &str, bytes: &[u8]) -> Result<(), Failed> {
     let mut options = OpenOptions::new();
     let mut file = open(rt, options.write(true).create(true).truncate(true), name)?;
-    let mut done = 0;
-    while done < bytes.len() {
-        done += write_once(&mut file, &bytes[done..])?;
-    }
-    Ok(())
+    write_whole(&mut file, bytes)
 }
 
 impl<R: Files> Folder for RealFolder<R> {

@@ -1,8 +1,7 @@
 //! The program `hept`: the commands over the real files, console and diagnostics. Invariant: the status is that of the top call. Used by people and scripts.
 #![tactic(auto)]
 
-use hp_driver::{Status, run_tool};
-use hp_io::{RealConsole, RealFolder, RealSink};
+use hp_driver::{Status, run_on_system};
 use std::io::ErrorKind;
 use std::process::ExitCode;
 use std::rt::Env;
@@ -26,15 +25,5 @@ fn main(rt: HostRuntime) -> ExitCode {
         // Words that cannot be read are none of the forms.
         Err(_) => Vec::new(rt.alloc()),
     };
-    let mut files = RealFolder::new(&rt);
-    let mut console = RealConsole::new(&rt);
-    let mut diagnostics = RealSink::new(rt.stderr());
-    let status = run_tool(
-        rt.alloc(),
-        words.as_slice(),
-        &mut files,
-        &mut console,
-        &mut diagnostics,
-    );
-    ExitCode::from(status)
+    ExitCode::from(run_on_system(rt.alloc(), words.as_slice(), &rt, &rt, rt.stderr()))
 }

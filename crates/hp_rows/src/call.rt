@@ -1,11 +1,13 @@
-//! One call of the tool over objects in memory.
+//! One call of the tool over objects in memory, or over the system.
 use crate::bytes::add_text;
 use crate::fields::{numbers_in, object_in, strings_in, text_in};
 use crate::malformed::Malformed;
-use hp_driver::run_tool;
+use crate::stream::Stream;
+use hp_driver::{run_on_system, run_tool};
 use hp_io::{MemConsole, MemFolder, MemSink};
 use serde_json::Value;
 use std::alloc::Global;
+use std::rt::Files;
 
 /// What a call did.
 #[derive(Drop)]
@@ -80,4 +82,19 @@ pub fn call(
     let mut console = console(alloc, row, step)?;
     let mut sink = MemSink::new(numbers_in(alloc, row, "sink_fails")?);
     call_over(alloc, words.as_slice(), files, &mut console, &mut sink)
+}
+
+/// Calls the tool as a step of a row says, over the files of the system and streams that stand in for the standard ones.
+pub fn call_on_system(rt: &(impl Files + AllocGlobal), step: &Value) -> Result<Done, Malformed> {
+    let alloc = rt.alloc();
+    let words = strings_in(alloc, step, "words")?;
+    let input = text_in(alloc, step, "input")?;
+    let output = Stream::new(alloc, input.as_slice());
+    let errors = Stream::new(alloc, &[]);
+    let status = run_on_system(alloc, words.as_slice(), rt, &output, &errors);
+    Ok(Done {
+        said: output.into_arrived(),
+        diagnostics: errors.into_arrived(),
+        status,
+    })
 }

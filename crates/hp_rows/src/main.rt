@@ -1,4 +1,4 @@
-//! A program beside the tool: it runs tables of rows, calls of the tool over objects in memory, with what each must do (`data/README.md`). Invariant: a row passes where the call did just that. Used by the gate alone.
+//! A program beside the tool: it runs tables of rows, calls of the tool over objects in memory and over the system, with what each must do (`data/README.md`). Invariant: a row passes where the call did just that. Used by the gate alone.
 #![tactic(auto)]
 
 mod bytes;
@@ -7,6 +7,7 @@ mod fault;
 mod fields;
 mod malformed;
 mod row;
+mod stream;
 mod table;
 
 use crate::table::run_table;

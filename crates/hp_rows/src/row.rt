@@ -1,12 +1,13 @@
 //! Whether a row holds: its calls, one after the other over one folder, against what it wants of each.
 use crate::bytes::add_text;
-use crate::call::{Done, call, folder};
+use crate::call::{Done, call, call_on_system, folder};
 use crate::fault::{Fault, differs};
 use crate::fields::{has_only, items_in, number_in, object_in, text_in};
 use crate::malformed::Malformed;
 use hp_io::{Folder, MemFolder};
 use serde_json::Value;
 use std::alloc::Global;
+use std::rt::Files;
 
 const ROW_FIELDS: [&str; 7] = [
     "row",
@@ -18,8 +19,9 @@ const ROW_FIELDS: [&str; 7] = [
     "sink_fails",
 ];
 
-const STEP_FIELDS: [&str; 9] = [
+const STEP_FIELDS: [&str; 10] = [
     "words",
+    "system",
     "input",
     "said",
     "diagnostics",
@@ -119,31 +121,50 @@ fn compare_done(alloc: Global, step: &Value, done: &Done, files: &MemFolder) -> 
     compare_not_held(alloc, step, files)
 }
 
-fn run_step(alloc: Global, row: &Value, step: &Value, files: &mut MemFolder) -> Result<(), Fault> {
+/// Whether a step is a call over the system.
+fn is_on_system(step: &Value) -> bool {
+    step.get("system").and_then(Value::as_bool) == Some(true)
+}
+
+fn run_step(
+    rt: &(impl Files + AllocGlobal),
+    row: &Value,
+    step: &Value,
+    files: &mut MemFolder,
+) -> Result<(), Fault> {
     if !has_only(step, &STEP_FIELDS) {
         return Err(Fault::Malformed(Malformed::UnknownField));
     }
-    let done = call(alloc, row, step, files)?;
+    let alloc = rt.alloc();
+    let done = if is_on_system(step) {
+        call_on_system(rt, step)?
+    } else {
+        call(alloc, row, step, files)?
+    };
     compare_done(alloc, step, &done, files)?;
     Ok(keep_rest(step, done.diagnostics.as_slice(), files)?)
 }
 
-fn run_steps(alloc: Global, row: &Value, files: &mut MemFolder) -> Result<(), Fault> {
+fn run_steps(
+    rt: &(impl Files + AllocGlobal),
+    row: &Value,
+    files: &mut MemFolder,
+) -> Result<(), Fault> {
     let steps = items_in(row, "steps")?;
     if steps.is_empty() {
         return Err(Fault::Malformed(Malformed::NoStep));
     }
     for step in steps {
-        run_step(alloc, row, step, files)?;
+        run_step(rt, row, step, files)?;
     }
     Ok(())
 }
 
 /// Runs a row. It fails with the first thing in which the row does not hold.
-pub fn run_row(alloc: Global, row: &Value) -> Result<(), Fault> {
+pub fn run_row(rt: &(impl Files + AllocGlobal), row: &Value) -> Result<(), Fault> {
     if !has_only(row, &ROW_FIELDS) {
         return Err(Fault::Malformed(Malformed::UnknownField));
     }
-    let mut files = folder(alloc, row)?;
-    run_steps(alloc, row, &mut files)
+    let mut files = folder(rt.alloc(), row)?;
+    run_steps(rt, row, &mut files)
 }

@@ -7,6 +7,7 @@ use hp_io::Folder;
 use serde_json::Value;
 use std::alloc::Global;
 use std::io;
+use std::rt::Files;
 
 /// The most bytes of the file of a table.
 const MAX_TABLE: usize = 16_777_216;
@@ -38,11 +39,14 @@ fn read_table(alloc: Global, files: &mut impl Folder, table: &str) -> Result<Val
     Ok(Value::from_slice(alloc, text.as_slice())?)
 }
 
-fn failures(alloc: Global, rows: &[Value]) -> Result<Vec<Failure<'_>>, Malformed> {
-    let mut failures = Vec::new(alloc);
+fn failures<'a>(
+    rt: &(impl Files + AllocGlobal),
+    rows: &'a [Value],
+) -> Result<Vec<Failure<'a>>, Malformed> {
+    let mut failures = Vec::new(rt.alloc());
     for row in rows {
         let name = string_in(row, "row")?;
-        if let Err(fault) = run_row(alloc, row) {
+        if let Err(fault) = run_row(rt, row) {
             failures.push(Failure { row: name, fault })?;
         }
     }
@@ -110,11 +114,11 @@ fn is_later(table: &str) -> bool {
 }
 
 fn run_rows(
-    rt: &(impl Print + Eprint + AllocGlobal),
+    rt: &(impl Files + Print + Eprint + AllocGlobal),
     table: &str,
     rows: &[Value],
 ) -> io::Result<bool> {
-    match failures(rt.alloc(), rows) {
+    match failures(rt, rows) {
         Ok(failures) if is_later(table) => report_later(rt, table, rows.len(), failures.as_slice()),
         Ok(failures) => report_rows(rt, table, rows.len(), failures.as_slice()),
         Err(error) => report_malformed(rt, table, &error),
@@ -123,7 +127,7 @@ fn run_rows(
 
 /// Runs the table at this path, to which `.json` is added, and writes its line. It answers whether all of its rows hold that are to hold.
 pub fn run_table(
-    rt: &(impl Print + Eprint + AllocGlobal),
+    rt: &(impl Files + Print + Eprint + AllocGlobal),
     files: &mut impl Folder,
     table: &str,
 ) -> io::Result<bool> {

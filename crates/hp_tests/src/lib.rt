@@ -8,6 +8,8 @@ mod contracts;
 #[cfg(test)]
 mod diagrams;
 #[cfg(test)]
+mod edge;
+#[cfg(test)]
 mod executors;
 #[cfg(test)]
 mod machine_texts;
