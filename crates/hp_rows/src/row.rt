@@ -70,8 +70,10 @@ fn compare_status(alloc: Global, step: &Value, found: u8) -> Result<(), Fault> {
 fn compare_file(alloc: Global, name: &str, text: &Value, files: &MemFolder) -> Result<(), Fault> {
     let mut wanted = Vec::new(alloc);
     add_text(text, &mut wanted)?;
-    let found = files.file(name).unwrap_or(&[]);
-    compare(alloc, name, wanted.as_slice(), found)
+    match files.file(name) {
+        None => Err(differs(alloc, name, wanted.as_slice(), b"no file")),
+        Some(found) => compare(alloc, name, wanted.as_slice(), found),
+    }
 }
 
 fn compare_held(alloc: Global, step: &Value, files: &MemFolder) -> Result<(), Fault> {

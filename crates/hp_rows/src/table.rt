@@ -18,6 +18,9 @@ const SHOWN: usize = 5;
 /// How the file names of the tables begin whose rows the tool need not run yet.
 const LATER: &str = "later";
 
+/// How the file names of the tables begin whose rows must not hold: they show that the comparison can say no.
+const REFUTED: &str = "refuted";
+
 /// A row that does not hold, and why.
 #[derive(Drop)]
 struct Failure<'a> {
@@ -85,6 +88,27 @@ fn report_later(
     Ok(true)
 }
 
+/// The line of a table whose rows must not hold.
+fn report_refuted(
+    rt: &(impl Print + Eprint),
+    table: &str,
+    count: usize,
+    failures: &[Failure<'_>],
+) -> io::Result<bool> {
+    for failure in failures {
+        if failure.is_malformed() {
+            report_failure(rt, table, failure)?;
+            return Ok(false);
+        }
+    }
+    if failures.len() < count {
+        eprintln!(rt; "{table}: a row holds that must not")?;
+        return Ok(false);
+    }
+    println!(rt; "{table}: {count} rows are refuted")?;
+    Ok(true)
+}
+
 /// The line of a table whose rows are to hold, or the first rows that do not.
 fn report_rows(
     rt: &(impl Print + Eprint),
@@ -105,11 +129,11 @@ fn report_malformed(rt: &impl Eprint, table: &str, error: &Malformed) -> io::Res
     Ok(false)
 }
 
-/// Whether the rows of the table at this path need not hold yet.
-fn is_later(table: &str) -> bool {
+/// Whether the name of the file of the table at this path begins so.
+fn is_named(table: &str, front: &str) -> bool {
     match table.rsplit_once('/') {
-        Some((_, name)) => name.starts_with(LATER),
-        None => table.starts_with(LATER),
+        Some((_, name)) => name.starts_with(front),
+        None => table.starts_with(front),
     }
 }
 
@@ -119,7 +143,12 @@ fn run_rows(
     rows: &[Value],
 ) -> io::Result<bool> {
     match failures(rt, rows) {
-        Ok(failures) if is_later(table) => report_later(rt, table, rows.len(), failures.as_slice()),
+        Ok(failures) if is_named(table, LATER) => {
+            report_later(rt, table, rows.len(), failures.as_slice())
+        }
+        Ok(failures) if is_named(table, REFUTED) => {
+            report_refuted(rt, table, rows.len(), failures.as_slice())
+        }
         Ok(failures) => report_rows(rt, table, rows.len(), failures.as_slice()),
         Err(error) => report_malformed(rt, table, &error),
     }
