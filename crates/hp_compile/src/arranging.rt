@@ -32,9 +32,10 @@ pub fn arrange(alloc: Global, program: &Program) -> Result<Ordered, Refusal>
     Ok(ordered)
 }
 
-/// The program of a text, judged and arranged, or the first reason why it has none.
+/// The one program of a text, judged and arranged, or the first reason why it has none.
 pub fn front(alloc: Global, text: &[u8]) -> Result<Ordered, Refusal>
-    ensures arranged { IfOk result (λ o. (program : List Item) × (IsJudged text.now program × IsArranged program o.program (lists o.ranks.items))) }
+    ensures arranged { IfOk result (λ o. (program : List Item) × IsJudged text.now program × ((other : List Item) → IsJudged text.now other → other ≡ program)
+        × IsArranged program o.program (lists o.ranks.items)) }
     ensures refused { IfErr result (IsRefused text.now) }
     ensures accepted { (program : List Item) → IsJudged text.now program → IsArrangeable program → IfErr result (λ e. e ≡ OutOfMemory) }
 {

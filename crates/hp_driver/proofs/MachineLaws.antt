@@ -11,7 +11,6 @@ use Rattle.hp_io.specs.Files.{Files}
 use Rattle.hp_io.specs.Told.{Grows}
 use Rattle.hp_io.specs.declared.console.Event.{Event}
 use Rattle.hp_machines.specs.Machined.{AreMachinesOf}
-use Rattle.hp_machines.specs.NotBuilt.{HasNoMachines}
 use Rattle.hp_exec.specs.Answers.{Executes, IsPassed}
 use Rattle.hp_exec.specs.Bounds.{longest_chain, instance_count}
 use Rattle.hp_exec.specs.Executors.{Executor}
@@ -24,11 +23,11 @@ use Rattle.hp_obctext.proofs.FormMachines.{file_form}
 use Rattle.hp_obctext.specs.declared.error.ObcErr.{ObcErr}
 use Rattle.hp_obctext.specs.declared.error.ObcErr.TheVariants.{Syntax, Form, Limit as Longer}
 use Rattle.hp_tree.specs.declared.program.Item.{Item}
-use Rattle.law_history.specs.Streams.Texts.{TextLaw, BuiltLaw, WithinLaw}
+use Rattle.law_history.specs.Streams.Texts.{TextLaw, WithinLaw}
 use Rattle.law_decided.specs.Promised.{RunLaw}
 use Rattle.law_decided.specs.Outcomes.{AreKeptInGames}
 use Rattle.hp_driver.specs.Controls.{has_controls}
-use Rattle.hp_driver.specs.Command.{IsRunOf, IsExecOf, IsCheckOf, IsProveOf, IsVerifyOf, IsOverSource, IsOverContract, ReadsSource, IsOver, Writes, not_built_line, no_node_line, IsNoFileCommand, IsTellOf, IsSweepOf}
+use Rattle.hp_driver.specs.Command.{IsRunOf, IsExecOf, IsCheckOf, IsProveOf, IsVerifyOf, IsOverSource, IsOverContract, ReadsSource, IsOver, Writes, no_node_line, IsNoFileCommand, IsTellOf, IsSweepOf}
 use Rattle.hp_driver.specs.Commanded.{SpellsTask}
 use Rattle.hp_driver.specs.Diagnostics.{no_text_line, no_form_line, limit_line, executor_line}
 use Rattle.hp_driver.specs.Executing.{executing}
@@ -44,7 +43,7 @@ use Rattle.hp_compile.specs.declared.refusal.Place.TheVariants.{Whole}
 use Rattle.hp_driver.proofs.ExecutionLaws.{machine_says, machine_refuses}
 use Rattle.hp_driver.proofs.OutcomeLaws.{told_or_not, Mirrors, outcome}
 use Rattle.hp_driver.proofs.WordLaws.{run_writes, exec_writes, check_writes, verify_writes, tell_writes, sweep_writes}
-use Rattle.hp_driver.proofs.HistoryLaws.{keeping, runs_node, is_built, stays_within, node_mirrors}
+use Rattle.hp_driver.proofs.HistoryLaws.{keeping, runs_node, stays_within, node_mirrors}
 
 -- the types of a text of machines have form
 pub types_of_text : (text : List ℕ) (o : Obc) → IsTextOf text o → TypesForm o.types
@@ -150,21 +149,9 @@ module _ (ordered : List Item) (o : Obc) (m : AreMachinesOf ordered o) where
   leaves out before after status (WritesMachines.part why printed others this) words file program held e none kept w =
       Leaves.in_part why w (compiled_of before file program held e none kept) printed others this
 
--- nothing is in the way to them
-pub run_not_built : BuiltLaw → (node : List ℕ) (ordered : List Item) → HasNoMachines ordered → OrderedRun node ordered [] not_built_line 1
-run_not_built law node ordered lacking words files file program held e none kept w = absurd (is_built law files file program held none (subst HasNoMachines (sym e) lacking))
-
-pub run_failed : (node : List ℕ) (ordered : List Item) (log : List Event) (line : List ℕ) (b : ℕ) (rest : List ℕ) (status : ℕ) → OrderedRun node ordered log (line ++ b ∷ rest) status → OrderedRun node ordered log line 5
-run_failed node ordered log line b rest status f words files file program held e none kept w = Outcome.line_failed line b rest (f words files file program held e none kept w)
-
+-- there is no memory
 pub run_memory : (node : List ℕ) (ordered : List Item) → OrderedRun node ordered [] [] 6
 run_memory node ordered words files file program held e none kept w = Outcome.no_memory
-
-pub compile_not_built : BuiltLaw → (out : List ℕ) (ordered : List Item) → HasNoMachines ordered → OrderedCompile out ordered not_built_line 1
-compile_not_built law out ordered lacking words files file program held e none kept w = absurd (is_built law files file program held none (subst HasNoMachines (sym e) lacking))
-
-pub compile_failed : (out : List ℕ) (ordered : List Item) (line : List ℕ) (b : ℕ) (rest : List ℕ) (status : ℕ) → OrderedCompile out ordered (line ++ b ∷ rest) status → OrderedCompile out ordered line 5
-compile_failed out ordered line b rest status f words files file program held e none kept w = Outcome.line_failed line b rest (f words files file program held e none kept w)
 
 pub compile_memory : (out : List ℕ) (ordered : List Item) → OrderedCompile out ordered [] 6
 compile_memory out ordered words files file program held e none kept w = Outcome.no_memory

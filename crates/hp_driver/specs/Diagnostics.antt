@@ -35,7 +35,6 @@ use Rattle.hp_typing.specs.declared.error.TypeErr.{TypeErr}
 use Rattle.hp_typing.specs.declared.error.TypeErr.TheVariants as type_error
 use Rattle.hp_verdicts.specs.declared.error.ContractErr.{ContractErr}
 use Rattle.hp_verdicts.specs.declared.error.ContractErr.TheVariants as contract
-use Rattle.hp_driver.specs.Command.{not_built_line}
 
 -- LINE:COL
 abbrev pub place_text : Span → List ℕ
@@ -171,13 +170,13 @@ behind_forced (Some cert) = cert
 abbrev pub forced_line : List ℕ → ℕ → List ℕ → List ℕ
 forced_line node instants cert = codes "E11 " ++ (node ++ (codes " " ++ (decimal instants ++ (codes "\n" ++ cert))))
 
--- The line of a contract that is refused; want of memory has none.
+-- The line of a contract that is refused. Want of memory has none, nor has the cause that is never answered.
 abbrev pub contract_line : ContractErr → List ℕ
 contract_line (contract.Assume node at) = shape_line node at (codes "assume")
 contract_line (contract.Limit node limit) = count_line node limit
 contract_line (contract.Forced node instants cert) = forced_line node instants (behind_forced (option_map (λ text. text.items) cert))
 contract_line contract.TooLong = too_long_line Text
-contract_line contract.NotBuilt = not_built_line
+contract_line contract.NotBuilt = []
 contract_line contract.OutOfMemory = []
 
 -- a node without a contract, at the place of its name

@@ -47,6 +47,18 @@ pub record IsOrdered (text : List ℕ) (ordered : List Item) : Type 0 where
   pub ranks : List (List ℕ)
   pub arranged : IsArranged program ordered ranks
 
+-- A text has this program, and this is it once it is arranged.
+abbrev pub IsArrangedText : List Item → List Item → Type 0
+IsArrangedText program ordered = (text : List ℕ) × (ranks : List (List ℕ)) × IsJudged text program × IsArranged program ordered ranks
+
+-- So it is of a program without controllable variables.
+abbrev pub IsPlainText : List Item → Type 0
+IsPlainText ordered = (program : List Item) × IsArrangedText program ordered × (has_controls program ≡ false)
+
+-- It is the node of this name in the ordered program of a text.
+abbrev pub IsNodeOfText : List Item → Node → Type 0
+IsNodeOfText ordered node = (program : List Item) × (name : List ℕ) × IsArrangedText program ordered × (node_among ordered name ≡ Some node)
+
 -- whatever words of a kind gave the text, among these files
 abbrev pub TextOutcome : Option Files → (List (List ℕ) → List ℕ → Type 0) → List ℕ → List Event → List ℕ → ℕ → Type 0
 TextOutcome files Asked text log line status = (words : List (List ℕ)) (file : List ℕ) → Asked words file → Gives files file text → Outcome words files log line status

@@ -10,7 +10,7 @@ ghost use Rattle.hp_tree.specs.Meaning.{node_among};
 ghost use Rattle.hp_cert.specs.declared.certtext.error.CertErr.TheVariants as certificate;
 ghost use Rattle.hp_driver.specs.Command.{IsProveOf, IsVerifyOf, verdict_text};
 ghost use Rattle.hp_driver.specs.Diagnostics.{no_contract_line, certificate_line, certificate_status};
-ghost use Rattle.hp_driver.specs.Follows.{Accepts, IsOrdered, TextOutcome, NodeOutcome, ContractOutcome, MachineOutcome, CertOutcome};
+ghost use Rattle.hp_driver.specs.Follows.{Accepts, IsArrangedText, IsNodeOfText, IsOrdered, TextOutcome, NodeOutcome, ContractOutcome, MachineOutcome, CertOutcome};
 ghost use Rattle.hp_driver.specs.Leaving.{TextLeaves, NodeLeaves, ContractLeaves};
 ghost use Rattle.hp_driver.specs.Found.{node_in};
 ghost use Rattle.hp_driver.specs.Outcome.{HasNoProgram};
@@ -28,7 +28,7 @@ use hp_base::{Span, What};
 use hp_boolx::BoolMachine;
 use hp_cause::Ordered;
 use hp_cert::certtext::CertErr;
-use hp_compile::{Refusal, arrange, judge};
+use hp_compile::{Refusal, front};
 use hp_io::{Console, Folder, ReadErr, Sink};
 use hp_tree::{Item, Node, Program};
 use hp_verdicts::{Proved, machine_of, prove, verify};
@@ -42,11 +42,7 @@ fn ordered_of(alloc: Global, text: &[u8]) -> Result<Ordered, Refusal>
     ensures refused { IfErr result (IsRefused text.now) }
     ensures none { IfErr result (λ e. e ≢ refusal.OutOfMemory → HasNoProgram text.now) }
 {
-    let program = match judge(alloc, text) {
-        Ok(program) => program,
-        Err(refusal) => return Err(refusal),
-    };
-    match arrange(alloc, &program) {
+    match front(alloc, text) {
         Ok(ordered) => Ok(ordered),
         Err(refusal) => Err(refusal),
     }
@@ -102,7 +98,7 @@ fn prove_contract<F: Folder, E: Sink>(
     files: &mut F,
     diag: &mut E,
 ) -> Status
-    requires { IsTrue (is_some node.now.contract) }
+    requires { IsTrue (is_some node.now.contract) × IsNodeOfText ordered.now node.now }
     ensures outcome { (line : List ℕ) × Grows (E.took diag.old) (E.took diag.new) line
         × ContractOutcome (F.files files.old) (λ words file name. IsProveOf words file name cert.now) ordered.now node.now [] line (code_of result) }
     ensures leaves { ContractLeaves cert.now ordered.now node.now (F.files files.old) (F.files files.new) (code_of result) }
@@ -127,6 +123,7 @@ fn prove_node<F: Folder, E: Sink>(
     files: &mut F,
     diag: &mut E,
 ) -> Status
+    requires { (program : List Item) × IsArrangedText program ordered.now }
     ensures outcome { (line : List ℕ) × Grows (E.took diag.old) (E.took diag.new) line
         × NodeOutcome (F.files files.old) (λ words file. IsProveOf words file name.now cert.now) ordered.now [] line (code_of result) }
     ensures leaves { NodeLeaves name.now cert.now ordered.now (F.files files.old) (F.files files.new) (code_of result) }
@@ -285,7 +282,7 @@ fn verify_contract<F: Folder, C: Console, E: Sink>(
     console: &mut C,
     diag: &mut E,
 ) -> Status
-    requires { IsTrue (is_some node.now.contract) }
+    requires { IsTrue (is_some node.now.contract) × IsNodeOfText ordered.now node.now }
     ensures outcome { Happened (C.events console.old) (C.events console.new) (C.left console.old) (C.left console.new) (E.took diag.old) (E.took diag.new)
         (λ log line. ContractOutcome (F.files files.old) (λ words file name. IsVerifyOf words file name cert.now) ordered.now node.now log line (code_of result)) }
     ensures files { F.files files.new ≡ F.files files.old }
@@ -312,6 +309,7 @@ fn verify_node<F: Folder, C: Console, E: Sink>(
     console: &mut C,
     diag: &mut E,
 ) -> Status
+    requires { (program : List Item) × IsArrangedText program ordered.now }
     ensures outcome { Happened (C.events console.old) (C.events console.new) (C.left console.old) (C.left console.new) (E.took diag.old) (E.took diag.new)
         (λ log line. NodeOutcome (F.files files.old) (λ words file. IsVerifyOf words file name.now cert.now) ordered.now log line (code_of result)) }
     ensures files { F.files files.new ≡ F.files files.old }

@@ -1,6 +1,7 @@
 //! The lines of diagnostics that name why a text is refused.
-ghost use Rattle.std.specs.Prelude.{◌≡◌, ◌++◌, codes, decimal, option_map, IfOk, OnOk};
+ghost use Rattle.std.specs.Prelude.{◌≡◌, ◌≢◌, ◌++◌, codes, decimal, option_map, IfOk, OnOk};
 ghost use Rattle.hp_base.specs.Limits.{most, word};
+ghost use Rattle.hp_verdicts.specs.declared.error.ContractErr.TheVariants as contract;
 ghost use Rattle.hp_driver.specs.Diagnostics.{place_text, where_text, is_text, heading, fault_text, name_line, type_line, counts_text, passed_line, most_executed, executor_line, shape_word, shape_line, count_line, expand_line, unit_line, clock_line, init_line, source_name, point_text, points_text, cause_line, refusal_line, too_long_line, behind_forced, forced_line, contract_line, no_contract_line, misfit_text, condition_text, certificate_line};
 
 use hp_base::{Limit, Span, What};
@@ -341,6 +342,7 @@ fn add_forced_line(
 }
 
 fn add_contract_line(line: &mut Vec<u8>, error: &ContractErr) -> Result<(), AllocError>
+    requires { error.now ≢ contract.NotBuilt }
     ensures { OnOk result (line.new.items ≡ line.old.items ++ contract_line error.now) }
 {
     match error {
@@ -352,16 +354,14 @@ fn add_contract_line(line: &mut Vec<u8>, error: &ContractErr) -> Result<(), Allo
             cert,
         } => add_forced_line(line, node.bytes(), *instants, cert),
         ContractErr::TooLong => add_too_long_line(line, What::Text),
-        ContractErr::NotBuilt => {
-            line.extend_from_slice(NOT_BUILT)?;
-            Ok(())
-        }
+        ContractErr::NotBuilt => unreachable!(),
         ContractErr::OutOfMemory => Ok(()),
     }
 }
 
 /// The line of a contract that is refused. Want of memory has none.
 pub(crate) fn contract_line(alloc: Global, error: &ContractErr) -> Result<Vec<u8>, AllocError>
+    requires { error.now ≢ contract.NotBuilt }
     ensures { IfOk result (λ line. line.items ≡ contract_line error.now) }
 {
     let mut line = Vec::new(alloc);

@@ -1,5 +1,5 @@
 //! Reports of what is refused before a trace begins.
-ghost use Rattle.std.specs.Prelude.{◌≡◌, [], IfOk};
+ghost use Rattle.std.specs.Prelude.{◌≡◌, ◌≢◌, [], IfOk};
 ghost use Rattle.hp_io.specs.Told.{Grows};
 ghost use Rattle.hp_compile.specs.declared.refusal.Place.TheVariants.{Whole};
 ghost use Rattle.hp_compile.specs.declared.refusal.Refusal.TheVariants.{OutOfMemory};
@@ -56,6 +56,7 @@ pub(crate) fn report_refusal<E: Sink>(alloc: Global, diag: &mut E, refusal: &Ref
 
 /// Reports why a contract is refused, or that there is no memory.
 pub(crate) fn report_contract<E: Sink>(alloc: Global, diag: &mut E, error: &ContractErr) -> Status
+    requires { error.now ≢ contract.NotBuilt }
     ensures reports { ReportsOrNot (E.took diag.old) (E.took diag.new) (contract_line error.now) 1 (code_of result) }
     ensures no_memory { error.now ≡ contract.OutOfMemory → (code_of result ≡ 6) × Grows (E.took diag.old) (E.took diag.new) [] }
     ensures faults { PutFaults (code_of result) (E.faults diag.old) (E.faults diag.new) }

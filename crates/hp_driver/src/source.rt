@@ -8,7 +8,7 @@ ghost use Rattle.hp_driver.specs.Command.{accepted_text};
 ghost use Rattle.hp_compile.specs.Judged.{IsJudged};
 ghost use Rattle.hp_driver.specs.Controls.{has_controls, own_controls, some_variable};
 ghost use Rattle.hp_tree.specs.Meaning.{controls_of};
-ghost use Rattle.hp_driver.specs.Follows.{OutcomeOf, DecidedOutcome, ProgramOutcome, OrderedRun, OrderedCompile, Accepts};
+ghost use Rattle.hp_driver.specs.Follows.{OutcomeOf, DecidedOutcome, ProgramOutcome, OrderedRun, OrderedCompile, Accepts, IsArrangedText, IsPlainText};
 ghost use Rattle.hp_driver.specs.Leaving.{WritesText, WritesMachines, OrderedLeaves, DecidedLeaves, ProgramLeaves, LeavesBy, RoseInWrite};
 ghost use Rattle.hp_driver.specs.declared.words.Task.TheVariants as Task;
 ghost use Rattle.hp_driver.specs.Faults.{TakeFaults, PutFaults, BothPutFaults, WriteFaults, WriteOrPutFaults, OutputFaults};
@@ -16,11 +16,9 @@ ghost use Rattle.hp_driver.specs.Happened.{Happened};
 ghost use Rattle.hp_driver.specs.Status.{code_of};
 
 use crate::choosing::{compile_choosing, run_choosing, tell_choosing};
-use crate::diagnostic::NOT_BUILT;
 use crate::follow::say;
 use crate::machines::run_machines;
 use crate::refuse::{report_contract, report_refusal};
-use crate::report::report;
 use crate::status::Status;
 use crate::words::Task;
 use hp_cause::Ordered;
@@ -106,6 +104,7 @@ fn check_ordered<C: Console, E: Sink>(
     console: &mut C,
     diag: &mut E,
 ) -> Status
+    requires { IsArrangedText program.now ordered.now }
     ensures outcome { Happened (C.events console.old) (C.events console.new) (C.left console.old) (C.left console.new) (E.took diag.old) (E.took diag.new)
         (λ log line. DecidedOutcome (Task.Check is_printed) program.now ordered.now log line (code_of result)) }
     ensures status { code_of result ≢ 4 }
@@ -152,6 +151,7 @@ fn run_ordered<C: Console, E: Sink>(
     console: &mut C,
     diag: &mut E,
 ) -> Status
+    requires { IsPlainText ordered.program }
     ensures outcome { Happened (C.events console.old) (C.events console.new) (C.left console.old) (C.left console.new) (E.took diag.old) (E.took diag.new)
         (λ log line. OrderedRun node.now ordered.program log line (code_of result)) }
     ensures takes { TakeFaults (code_of result) (C.take_faults console.old) (C.take_faults console.new) }
@@ -161,7 +161,7 @@ fn run_ordered<C: Console, E: Sink>(
     machines_of_texts_are_built();
     match machines(alloc, ordered.program) {
         Ok(machines) => run_machines(alloc, &machines, node, console, diag),
-        Err(MachineErr::NotBuilt) => report(diag, NOT_BUILT, Status::Refused),
+        Err(MachineErr::NotBuilt) => unreachable!(),
         Err(MachineErr::OutOfMemory) => Status::NoMemory,
     }
 }
@@ -175,6 +175,7 @@ fn run_decided<C: Console, E: Sink>(
     console: &mut C,
     diag: &mut E,
 ) -> Status
+    requires { IsArrangedText program.now ordered.program }
     ensures outcome { Happened (C.events console.old) (C.events console.new) (C.left console.old) (C.left console.new) (E.took diag.old) (E.took diag.new)
         (λ log line. DecidedOutcome (Task.Run node.entry) program.now ordered.program log line (code_of result)) }
     ensures takes { TakeFaults (code_of result) (C.take_faults console.old) (C.take_faults console.new) }
@@ -220,6 +221,7 @@ fn tell_decided<C: Console, E: Sink>(
     console: &mut C,
     diag: &mut E,
 ) -> Status
+    requires { IsArrangedText program.now ordered.now }
     ensures outcome { Happened (C.events console.old) (C.events console.new) (C.left console.old) (C.left console.new) (E.took diag.old) (E.took diag.new)
         (λ log line. DecidedOutcome (Task.Tell node.entry) program.now ordered.now log line (code_of result)) }
     ensures takes { TakeFaults (code_of result) (C.take_faults console.old) (C.take_faults console.new) }
@@ -293,6 +295,7 @@ fn compile_ordered<F: Folder, E: Sink>(
     files: &mut F,
     diag: &mut E,
 ) -> Status
+    requires { IsPlainText ordered.program }
     ensures outcome { (line : List ℕ) × Grows (E.took diag.old) (E.took diag.new) line × OrderedCompile out.now ordered.program line (code_of result) }
     ensures leaves { OrderedLeaves out.now ordered.program (F.files files.old) (F.files files.new) (code_of result) }
     ensures status { code_of result ≢ 4 }
@@ -303,7 +306,7 @@ fn compile_ordered<F: Folder, E: Sink>(
     machines_of_texts_are_built();
     match machines(alloc, ordered.program) {
         Ok(machines) => write_machines(alloc, &machines, out, files),
-        Err(MachineErr::NotBuilt) => report(diag, NOT_BUILT, Status::Refused),
+        Err(MachineErr::NotBuilt) => unreachable!(),
         Err(MachineErr::OutOfMemory) => Status::NoMemory,
     }
 }
@@ -317,6 +320,7 @@ fn compile_decided<F: Folder, E: Sink>(
     files: &mut F,
     diag: &mut E,
 ) -> Status
+    requires { IsArrangedText program.now ordered.program }
     ensures outcome { (line : List ℕ) × Grows (E.took diag.old) (E.took diag.new) line × DecidedOutcome (Task.Compile out.entry) program.now ordered.program [] line (code_of result) }
     ensures leaves { DecidedLeaves out.now program.now ordered.program (F.files files.old) (F.files files.new) (code_of result) }
     ensures status { code_of result ≢ 4 }

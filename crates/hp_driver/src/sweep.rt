@@ -12,7 +12,7 @@ use crate::report::report;
 use crate::source::say_all;
 use crate::status::Status;
 use hp_base::Value;
-use hp_compile::{Refusal, arrange, judge};
+use hp_compile::{Refusal, front};
 use hp_controlled::{ControlledErr, controlled_machines};
 use hp_exec::{Exec, ExecErr};
 use hp_io::{Console, Sink};
@@ -206,11 +206,7 @@ fn machines_of(alloc: Global, program: &Program) -> Result<Obc, Stop> {
 /// The machines of the program of so many tasks, made as `compile` makes them.
 fn machines_of_tasks(alloc: Global, tasks: u64) -> Result<Obc, Stop> {
     let text = program_of(alloc, tasks)?;
-    let program = match judge(alloc, &text) {
-        Ok(program) => program,
-        Err(refusal) => return Err(of_refusal(&refusal)),
-    };
-    match arrange(alloc, &program) {
+    match front(alloc, &text) {
         Ok(ordered) => machines_of(alloc, &ordered.program),
         Err(refusal) => Err(of_refusal(&refusal)),
     }

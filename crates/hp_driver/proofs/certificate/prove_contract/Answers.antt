@@ -2,6 +2,7 @@ use Rattle.std.proofs.Common.{◌≡◌, [], rules, sym, subst}
 use Rattle.hp_io.proofs.ToldLaws.{Grows-nil}
 use Rattle.hp_verdicts.specs.Decided.{IsProof}
 use Rattle.hp_driver.specs.Diagnostics.{contract_line}
+use Rattle.hp_driver.proofs.GameLaws.{proof_is_built}
 use Rattle.hp_driver.proofs.CertLaws.{refused_told, wrote, wrote_leaves}
 use Rattle.hp_driver.proofs.MachineLaws.{not_done_or_not, nothing_written}
 use Rattle.hp_driver.specs.Status.{code_of}
@@ -32,3 +33,6 @@ pub returns-in-Err-clause-leaves : goal.returns-in-Err-clause-leaves
 returns-in-Err-clause-leaves g c = λ words file name k same is w.
     nothing_written words (g.F.Folder.files c.args.files.now) (code_of c.report_contract.result)
     (not_done_or_not (g.E.Sink.took c.args.diag.now) (g.E.Sink.took c.report_contract.new.diag) (contract_line c.in-Err.error) (code_of c.report_contract.result) c.report_contract.ensures.reports)
+
+pub report_contract-requires : goal.report_contract-requires
+report_contract-requires g c = proof_is_built c.outcomes_are_so.ensures c.args.ordered.now c.args.node.now c.requires.1 c.in-Err.error c.in-Err.ensures.refused

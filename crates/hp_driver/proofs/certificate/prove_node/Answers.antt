@@ -58,3 +58,8 @@ returns-clause-leaves g c =
     let some : IsTrue (is_some node.contract) = search rules in
     node_leaves c.args.name.now c.args.cert.now c.args.ordered.now node (g.F.Folder.files c.args.files.now) (g.F.Folder.files c.prove_contract.new.files) (code_of c.prove_contract.result)
     (MatchOption-at_some _ _ c.in-Some.node c.in-Some.is c.node_named.ensures) some c.prove_contract.ensures.leaves
+
+pub prove_contract-requires : goal.prove_contract-requires
+prove_contract-requires g c =
+    let some : IsTrue (is_some c.in-Some.node.now.contract) = search rules in
+    (some, c.requires.0, c.args.name.now, c.requires.1, MatchOption-at_some _ _ c.in-Some.node c.in-Some.is c.node_named.ensures)

@@ -31,3 +31,6 @@ pub returns-in-Ok-clause-leaves : goal.returns-in-Ok-clause-leaves
 returns-in-Ok-clause-leaves g c =
     text_leaves c.args.name.now c.args.cert.now c.args.text.now c.in-Ok.ordered.program (g.F.Folder.files c.args.files.now) (g.F.Folder.files c.prove_node.new.files) (code_of c.prove_node.result) c.in-Ok.ensures.ordered
     c.prove_node.ensures.leaves
+
+pub prove_node-requires : goal.prove_node-requires
+prove_node-requires g c = let o = c.in-Ok.ensures.ordered in (o.program, c.args.text.now, o.ranks, o.judged, o.arranged)

@@ -25,3 +25,6 @@ returns-in-Ok-clause-outcome g c =
       of_text (g.F.Folder.files c.args.files.now) (λ words file. IsVerifyOf words file name c.args.cert.now) name (λ words file w. IsOverContract.to_verify w) c.args.text.now c.in-Ok.ordered.program
           ran.0 ran.1 (code_of c.verify_node.result) c.in-Ok.ensures.ordered ran.5,
     )
+
+pub verify_node-requires : goal.verify_node-requires
+verify_node-requires g c = let o = c.in-Ok.ensures.ordered in (o.program, c.args.text.now, o.ranks, o.judged, o.arranged)

@@ -39,3 +39,8 @@ returns-clause-outcome g c =
       of_node (g.F.Folder.files c.args.files.now) (λ words file name. IsVerifyOf words file name c.args.cert.now) c.args.ordered.now node c.args.name.now ran.0 ran.1 (code_of c.verify_contract.result)
           (MatchOption-at_some _ _ c.in-Some.node c.in-Some.is c.node_named.ensures) some ran.5,
     )
+
+pub verify_contract-requires : goal.verify_contract-requires
+verify_contract-requires g c =
+    let some : IsTrue (is_some c.in-Some.node.now.contract) = search rules in
+    (some, c.requires.0, c.args.name.now, c.requires.1, MatchOption-at_some _ _ c.in-Some.node c.in-Some.is c.node_named.ensures)

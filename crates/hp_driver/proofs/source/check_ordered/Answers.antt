@@ -6,6 +6,7 @@ use Rattle.hp_driver.specs.Follows.{Accepts}
 use Rattle.hp_driver.specs.declared.words.Task.TheVariants.{Check}
 use Rattle.hp_driver.proofs.ContractLaws.{contract_told, accepted_of, decided_memory}
 use Rattle.hp_driver.proofs.OutcomeLaws.{nothing-heard}
+use Rattle.hp_driver.proofs.GameLaws.{contracts_are_built}
 use Rattle.hp_driver.proofs.RanLaws.{heard_nothing}
 use Rattle.hp_driver.specs.Status.{code_of}
 use Rattle.hp_driver.proofs.source.check_ordered.Goals as goal
@@ -38,3 +39,6 @@ returns-in-Err-acceptance-clause-outcome g c = (
   Grows-nil (g.E.Sink.took c.args.diag.now),
   decided_memory (Check c.args.is_printed) c.args.program.now c.args.ordered.now,
 )
+
+pub report_contract-requires : goal.report_contract-requires
+report_contract-requires g c = contracts_are_built c.outcomes_are_so.ensures c.args.program.now c.args.ordered.now c.requires c.in-Err.error c.in-Err.ensures.refused

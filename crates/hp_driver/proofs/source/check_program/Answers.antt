@@ -24,3 +24,6 @@ returns-in-Err-clause-outcome g c =
     let told = refusal_of_program (Check c.args.is_printed) c.args.program.now c.in-Err.refusal (g.E.Sink.took c.args.diag.now) (g.E.Sink.took c.report_refusal.new.diag) (code_of c.report_refusal.result)
     c.in-Err.ensures.refused c.in-Err.ensures.accepted c.report_refusal.ensures.reports c.report_refusal.ensures.no_memory in
     ([], told.0, Grows-nil (g.C.Console.events c.args.console.now), heard_nothing (g.C.Console.left c.args.console.now), told.1, told.2)
+
+pub check_ordered-requires : goal.check_ordered-requires
+check_ordered-requires g c = (c.requires.0, lists c.in-Ok.ordered.ranks.items, c.requires.1, c.in-Ok.ensures.arranged)

@@ -3,6 +3,7 @@ use Rattle.hp_driver.specs.Controls.{has_controls}
 use Rattle.hp_driver.specs.Diagnostics.{contract_line}
 use Rattle.hp_driver.specs.declared.words.Task.TheVariants.{Compile}
 use Rattle.hp_driver.proofs.ContractLaws.{contract_told, choosing_compile, choosing_leaves, ordered_compile, ordered_leaves}
+use Rattle.hp_driver.proofs.GameLaws.{contracts_are_built}
 use Rattle.hp_driver.proofs.MachineLaws.{not_done_or_not, nothing_written}
 use Rattle.hp_driver.specs.Status.{code_of}
 use Rattle.hp_driver.proofs.source.compile_decided.Goals as goal
@@ -43,3 +44,11 @@ returns-clause-leaves g c =
     let program = c.args.program.now in
     let none : has_controls program ≡ false = search rules in
     ordered_leaves c.outcomes_are_so.ensures program c.args.ordered.program c.in_default.ensures.kept none c.args.out.now (g.F.Folder.files c.args.files.now) (g.F.Folder.files c.compile_ordered.new.files) (code_of c.compile_ordered.result) c.compile_ordered.ensures.leaves
+
+pub report_contract-requires : goal.report_contract-requires
+report_contract-requires g c = contracts_are_built c.outcomes_are_so.ensures c.args.program.now c.args.ordered.program c.requires c.in-Err.error c.in-Err.ensures.refused
+
+pub compile_ordered-requires : goal.compile_ordered-requires
+compile_ordered-requires g c =
+    let none : has_controls c.args.program.now ≡ false = search rules in
+    (c.args.program.now, c.requires, none)

@@ -1,9 +1,7 @@
 use Rattle.std.proofs.Common.{[], arith}
 use Rattle.hp_io.proofs.ToldLaws.{Grows-nil}
-use Rattle.hp_driver.specs.Command.{not_built_line}
-use Rattle.hp_driver.specs.Follows.{OrderedCompile}
-use Rattle.hp_driver.proofs.MachineLaws.{written, leaves, compile_not_built, compile_failed, compile_memory, not_done, nothing_written}
-use Rattle.hp_driver.proofs.OutcomeLaws.{told_of}
+use Rattle.hp_driver.proofs.MachineLaws.{written, leaves, compile_memory, nothing_written}
+use Rattle.hp_driver.proofs.HistoryLaws.{is_built}
 use Rattle.hp_driver.specs.Status.{code_of}
 use Rattle.hp_driver.proofs.source.compile_ordered.Goals as goal
 
@@ -15,18 +13,8 @@ pub returns-in-Ok-clause-leaves : goal.returns-in-Ok-clause-leaves
 returns-in-Ok-clause-leaves g c =
     leaves c.args.ordered.program c.in-Ok.machines c.in-Ok.ensures.machines c.args.out.now (g.F.Folder.files c.args.files.now) (g.F.Folder.files c.write_machines.new.files) (code_of c.write_machines.result) c.write_machines.ensures.leaves
 
-pub returns-in-Err-NotBuilt-clause-outcome : goal.returns-in-Err-NotBuilt-clause-outcome
-returns-in-Err-NotBuilt-clause-outcome g c =
-    let out = c.args.out.now in
-    let ordered = c.args.ordered.program in
-    let told = told_of (OrderedCompile out ordered) (compile_failed out ordered) (g.E.Sink.took c.args.diag.now) (g.E.Sink.took c.report.new.diag)
-    not_built_line 1 (code_of c.report.result) c.report.ensures.reports (compile_not_built c.machines_of_texts_are_built.ensures out ordered (c.in-Err-NotBuilt.ensures.not_built c.in-Err-NotBuilt.field-0-is)) in
-    (told.0, told.1, told.2)
-
-pub returns-in-Err-NotBuilt-clause-leaves : goal.returns-in-Err-NotBuilt-clause-leaves
-returns-in-Err-NotBuilt-clause-leaves g c = λ words file program held e none kept w.
-    nothing_written words (g.F.Folder.files c.args.files.now) (code_of c.report.result)
-    (not_done (g.E.Sink.took c.args.diag.now) (g.E.Sink.took c.report.new.diag) not_built_line (code_of c.report.result) c.report.ensures.reports)
+pub unreachable-requires : goal.unreachable-requires
+unreachable-requires g c = is_built c.machines_of_texts_are_built.ensures c.args.ordered.program c.requires (c.in-Err-NotBuilt.ensures.not_built c.in-Err-NotBuilt.field-0-is)
 
 pub returns-clause-outcome : goal.returns-clause-outcome
 returns-clause-outcome g c = ([], Grows-nil (g.E.Sink.took c.args.diag.now), compile_memory c.args.out.now c.args.ordered.program)

@@ -32,3 +32,6 @@ pub returns-in-Err-clause-leaves : goal.returns-in-Err-clause-leaves
 returns-in-Err-clause-leaves g c = λ words file text judged only held w.
     nothing_written words (g.F.Folder.files c.args.files.now) (code_of c.report_refusal.result)
     (not_done_or_not (g.E.Sink.took c.args.diag.now) (g.E.Sink.took c.report_refusal.new.diag) (refusal_line c.in-Err.refusal) (code_of c.report_refusal.result) c.report_refusal.ensures.reports)
+
+pub compile_decided-requires : goal.compile_decided-requires
+compile_decided-requires g c = (c.requires.0, lists c.in-Ok.ordered.ranks.items, c.requires.1, c.in-Ok.ensures.arranged)

@@ -3,6 +3,7 @@ use Rattle.hp_io.proofs.ToldLaws.{Grows-nil}
 use Rattle.hp_driver.specs.Controls.{has_controls}
 use Rattle.hp_driver.specs.declared.words.Task.TheVariants.{Run}
 use Rattle.hp_driver.proofs.ContractLaws.{contract_told, choosing_run, ordered_run}
+use Rattle.hp_driver.proofs.GameLaws.{contracts_are_built}
 use Rattle.hp_driver.proofs.RanLaws.{heard_nothing}
 use Rattle.hp_driver.specs.Status.{code_of}
 use Rattle.hp_driver.proofs.source.run_decided.Goals as goal
@@ -26,3 +27,11 @@ returns-clause-outcome g c =
     let ran = c.run_ordered.ensures.outcome in
     let none : has_controls program ≡ false = search rules in
     (ran.0, ran.1, ran.2, ran.3, ran.4, ordered_run c.outcomes_are_so.ensures program c.args.ordered.program c.in_default.ensures.kept none c.args.node ran.0 ran.1 (code_of c.run_ordered.result) ran.5)
+
+pub report_contract-requires : goal.report_contract-requires
+report_contract-requires g c = contracts_are_built c.outcomes_are_so.ensures c.args.program.now c.args.ordered.program c.requires c.in-Err.error c.in-Err.ensures.refused
+
+pub run_ordered-requires : goal.run_ordered-requires
+run_ordered-requires g c =
+    let none : has_controls c.args.program.now ≡ false = search rules in
+    (c.args.program.now, c.requires, none)

@@ -1,9 +1,7 @@
 use Rattle.std.proofs.Common.{[]}
 use Rattle.hp_io.proofs.ToldLaws.{Grows-nil}
-use Rattle.hp_driver.specs.Command.{not_built_line}
-use Rattle.hp_driver.specs.Follows.{OrderedRun}
-use Rattle.hp_driver.proofs.MachineLaws.{of_program, run_not_built, run_failed, run_memory}
-use Rattle.hp_driver.proofs.OutcomeLaws.{told_of}
+use Rattle.hp_driver.proofs.MachineLaws.{of_program, run_memory}
+use Rattle.hp_driver.proofs.HistoryLaws.{is_built}
 use Rattle.hp_driver.proofs.RanLaws.{heard_nothing}
 use Rattle.hp_driver.specs.Status.{code_of}
 use Rattle.hp_driver.proofs.source.run_ordered.Goals as goal
@@ -19,13 +17,8 @@ returns-in-Ok-clause-outcome g c =
       of_program c.args.ordered.program c.in-Ok.machines c.in-Ok.ensures.machines c.args.node.now ran.0 ran.1 (code_of c.run_machines.result) ran.5,
     )
 
-pub returns-in-Err-NotBuilt-clause-outcome : goal.returns-in-Err-NotBuilt-clause-outcome
-returns-in-Err-NotBuilt-clause-outcome g c =
-    let node = c.args.node.now in
-    let ordered = c.args.ordered.program in
-    let told = told_of (OrderedRun node ordered []) (run_failed node ordered []) (g.E.Sink.took c.args.diag.now) (g.E.Sink.took c.report.new.diag)
-    not_built_line 1 (code_of c.report.result) c.report.ensures.reports (run_not_built c.machines_of_texts_are_built.ensures node ordered (c.in-Err-NotBuilt.ensures.not_built c.in-Err-NotBuilt.field-0-is)) in
-    ([], told.0, Grows-nil (g.C.Console.events c.args.console.now), heard_nothing (g.C.Console.left c.args.console.now), told.1, told.2)
+pub unreachable-requires : goal.unreachable-requires
+unreachable-requires g c = is_built c.machines_of_texts_are_built.ensures c.args.ordered.program c.requires (c.in-Err-NotBuilt.ensures.not_built c.in-Err-NotBuilt.field-0-is)
 
 pub returns-clause-outcome : goal.returns-clause-outcome
 returns-clause-outcome g c = (
