@@ -9,6 +9,7 @@ pub mod filled;
 pub mod flat;
 pub mod independent;
 pub mod on_clocks;
+pub mod once;
 pub mod one_for_one;
 pub mod ordered;
 pub mod runs;

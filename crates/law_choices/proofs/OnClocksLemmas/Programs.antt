@@ -125,12 +125,14 @@ from_all [] h = tt
 from_all (TypeItem t ∷ items) h = from_all items h
 from_all (NodeItem n ∷ items) h = (h.0, from_all items h.1)
 
--- a ready program without its automata has right clocks
-ready_right : (program after : List Item) → IsReady program after → IsRemovable after → EachNode ClocksRight (lowered_program after)
-ready_right program after r ok =
+-- a ready program has right clocks, and so has what it is without its automata
+pub ready_clocks : (program after : List Item) → IsReady program after → EachNode ClocksRight after
+ready_clocks program after r =
     let a = accepted program after r in
-    let right : EachNode ClocksRight after = subst (EachNode ClocksRight) (twice after) (each_reverse ClocksRight (reverse after) (accepted_right (types_of after) a.0 (reverse after) a.1)) in
-    from_all (lowered_program after) (all_right_law after ok (to_all after right))
+    subst (EachNode ClocksRight) (twice after) (each_reverse ClocksRight (reverse after) (accepted_right (types_of after) a.0 (reverse after) a.1))
+
+ready_right : (program after : List Item) → IsReady program after → IsRemovable after → EachNode ClocksRight (lowered_program after)
+ready_right program after r ok = from_all (lowered_program after) (all_right_law after ok (to_all after (ready_clocks program after r)))
 
 -- ---- what types that have form give
 
