@@ -88,7 +88,7 @@ number_no_name : (w : List ℕ) (n : ℤ) → number_of w ≡ Some n → is_name
 number_no_name [] n h = refl
 number_no_name (b ∷ w) n h = let low = first_byte b w n h in no_name b w (omega (arith, low))
 
-number_no_constructor : (w : List ℕ) (n : ℤ) → number_of w ≡ Some n → is_constructor w ≡ false
+pub number_no_constructor : (w : List ℕ) (n : ℤ) → number_of w ≡ Some n → is_constructor w ≡ false
 number_no_constructor [] n h = refl
 number_no_constructor (b ∷ w) n h = let low = first_byte b w n h in no_constructor b w (omega (arith, low))
 

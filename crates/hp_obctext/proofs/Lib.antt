@@ -39,3 +39,13 @@ pub mod CourseOfSteps
 pub mod CourseOfFiles
 pub mod Refusing
 pub mod OneRefusal
+pub mod MemoryWords
+pub mod MemoryWrong
+pub mod MemoryLines
+pub mod MemorySpelling
+pub mod MemoryCounting
+pub mod MemoryRefusing
+pub mod MemoryTypes
+pub mod MemoryValues
+pub mod MemorySizes
+pub mod MemoryFitting

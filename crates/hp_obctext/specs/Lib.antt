@@ -21,3 +21,7 @@ pub mod Shapes
 pub mod Refusals
 pub mod Answers
 pub mod Spells
+pub mod MemoryTexts
+pub mod MemoryKinds
+pub mod MemoryReading
+pub mod MemoryRefusals

@@ -1,4 +1,4 @@
-//! The text of machines, both ways. Invariant: what is printed reads back as the same machines; a refusal names the first token that is wrong. Used by `hp_driver`.
+//! The text of machines, and of checkpoints of what they keep, both ways. Invariant: what is printed reads back as the same; a refusal names the first token that is wrong. Used by `hp_driver`.
 #![tactic(auto)]
 
 mod check;
@@ -8,6 +8,7 @@ mod error;
 mod found;
 mod labels;
 mod lexing;
+mod memory;
 mod names;
 mod page;
 mod parse;
@@ -21,5 +22,6 @@ mod steps;
 mod text;
 
 pub use error::ObcErr;
+pub use memory::{MemErr, memory_room, read_memory, write_memory};
 pub use print::print_obc;
 pub use read::read_obc;

@@ -8,7 +8,8 @@ use crate::lexing::{first_word, skip_blanks};
 use hp_base::Span;
 use hp_lines::{last_line, newlines};
 
-fn span_behind(front: &[u8], size: usize) -> Span
+/// The place of a word of some bytes behind others.
+pub(crate) fn span_behind(front: &[u8], size: usize) -> Span
     requires { length front.now + size ≤ 67108864 }
     ensures { result ≡ span_behind front.now size }
 {
