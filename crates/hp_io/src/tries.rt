@@ -51,11 +51,7 @@ pub fn write_once<W: Write>(to: &mut W, piece: &[u8]) -> Result<usize, Failed>
 }
 
 /// Reads all that is left, of at most `limit` bytes.
-pub fn read_whole<R: Read>(
-    from: &mut R,
-    limit: usize,
-    into: &mut Vec<u8>,
-) -> Result<(), ReadErr>
+pub fn read_whole<R: Read>(from: &mut R, limit: usize, into: &mut Vec<u8>) -> Result<(), ReadErr>
     requires empty { into.old.items ≡ [] }
     ensures whole { OnOk result (IfSome (R.remaining from.old) (λ bytes. into.new.items ≡ bytes)) }
     ensures within { OnOk result (length into.new.items ≤ limit) }
