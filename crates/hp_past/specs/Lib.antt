@@ -1,0 +1,4 @@
+pub mod Formulas
+pub mod Names
+pub mod Unfolding
+pub mod Made
