@@ -3,24 +3,27 @@ use Rattle.std.proofs.lemmas.List.{map_more}
 use Rattle.hp_tree.proofs.Lists.{nodes-at, nodes-at_part}
 use Rattle.hp_tree.proofs.BlockLists.{lines-at_eqn, lines-at_arm, lines-at_state}
 use Rattle.hp_tree.proofs.KindSizes.{nodes-expr_at}
-use Rattle.hp_past.proofs.ListLaws.{noted-append}
+use Rattle.hp_past.proofs.ListLaws.{drop-end, noted-append, exprs-noted, exprs-noted_end, parts-noted, parts-noted_end, path-noted, path-noted_end, left-noted, left-noted_end, decls-noted, decls-noted_end, transitions-noted, transitions-noted_end, eqns-noted, eqns-noted_end, arms-noted, arms-noted_end, states-noted, states-noted_end, items-noted, items-noted_end, free-passed, free-found, free-end, args-next, args-end, parts-next, parts-end, eqns-next, eqns-end, items-next, items-end}
 
-pub ruleset noted_exprs = (noted-append, nodes-at, nodes-at_part)
+-- the names that occur in expressions, in declarations and in blocks
+pub ruleset noted_exprs = (noted-append, exprs-noted, exprs-noted_end, parts-noted, parts-noted_end, nodes-at, nodes-at_part)
 
-pub ruleset noted_decls = (noted-append)
+pub ruleset noted_decls = (noted-append, path-noted, path-noted_end, left-noted, left-noted_end, decls-noted, decls-noted_end, transitions-noted, transitions-noted_end, items-noted, items-noted_end)
 
-pub ruleset noted_blocks = (noted-append, lines-at_eqn, lines-at_arm, lines-at_state)
+pub ruleset noted_blocks = (noted-append, eqns-noted, eqns-noted_end, arms-noted, arms-noted_end, states-noted, states-noted_end, lines-at_eqn, lines-at_arm, lines-at_state)
 
-pub ruleset spelled = (noted-append)
+pub ruleset node_names = (drop-end)
 
-pub ruleset free_numbers = (noted-append)
+-- names that do not occur
+pub ruleset free_numbers = (free-passed, free-found, free-end)
 
 pub ruleset added = map_more
 
+-- expressions and their lists
 pub ruleset kinds = (nodes-expr_at, nodes-at)
 
-pub ruleset lists = (nodes-at, nodes-at_part)
+pub ruleset lists = (args-next, args-end, parts-next, parts-end, nodes-at, nodes-at_part)
 
-pub ruleset eqns = map_more
+pub ruleset eqns = (eqns-next, eqns-end, map_more)
 
-pub ruleset items = (noted-append)
+pub ruleset items = (items-next, items-end)

@@ -2,3 +2,5 @@ pub mod Formulas
 pub mod Names
 pub mod Unfolding
 pub mod Made
+pub mod Past
+pub mod Remembering

@@ -22,7 +22,6 @@ pub struct Additions {
 }
 
 /// The name with this number.
-#[tactic(auto, using(crate::proofs::Rules::spelled))]
 fn past_name(alloc: Global, number: u64) -> Result<Name, AllocError>
     ensures { IfOk result (λ name. name ≡ past_name number) }
 {

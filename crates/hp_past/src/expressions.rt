@@ -1,5 +1,5 @@
 //! Expressions of a contract.
-ghost use Rattle.std.specs.Prelude.{◌≡◌, IfOk, OnOk};
+ghost use Rattle.std.specs.Prelude.{◌≡◌, false, IfOk, OnOk};
 ghost use Rattle.hp_base.specs.declared.span.Span.{Span};
 ghost use Rattle.hp_tree.specs.Expressions.{call, exprs_of, parts_of};
 ghost use Rattle.hp_tree.specs.ExpressionView.{expr_at};

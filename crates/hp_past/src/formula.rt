@@ -38,6 +38,7 @@ fn names_node(item: &Item, formula: Formula) -> bool
 }
 
 /// Whether a node has the name of the formula.
+#[tactic(auto, using(crate::proofs::Rules::node_names))]
 fn declares_node(items: &[Item], formula: Formula) -> bool
     ensures { result ≡ declares_node items.now (word formula) }
 {
