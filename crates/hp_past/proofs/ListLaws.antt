@@ -1,6 +1,6 @@
 -- Names and parts, one after the other.
-use Rattle.std.proofs.Common.{◌≡◌, ℕ, zero, suc, ◌+◌, ◌-◌, ◌<◌, ◌≤◌, get_or, length, drop, map, true, false, if◌then◌else◌, List, [], ◌∷◌, ◌++◌, refl, sym, ap, ◌∙◌, arith}
-use Rattle.std.proofs.lemmas.List.{append_assoc, append-nil, drop-cons, drop_all}
+use Rattle.std.proofs.Common.{◌≡◌, ℕ, zero, suc, ◌+◌, ◌-◌, ◌<◌, ◌≤◌, get_or, length, drop, drop-cons, map, true, false, if◌then◌else◌, List, [], ◌∷◌, ◌++◌, refl, sym, ap, ◌∙◌, arith}
+use Rattle.std.proofs.lemmas.List.{append_assoc, append-nil, drop_all}
 use Rattle.std.proofs.Math.Numerals.{add-one}
 use Rattle.hp_base.specs.Known.Known.{with_entry}
 use Rattle.hp_base.specs.declared.span.Span.{Span}
@@ -11,12 +11,11 @@ use Rattle.hp_tree.specs.declared.block.Eqn as code_eqn
 use Rattle.hp_tree.specs.declared.block.Arm as code_arm
 use Rattle.hp_tree.specs.declared.block.State as code_state
 use Rattle.hp_tree.specs.BlockView.{eqn_seen, arm_seen, state_seen}
-use Rattle.hp_tree.specs.Expressions.{Expr, Exprs, no_expr, more_exprs, Parts, no_part, more_parts, exprs_of, parts_of}
+use Rattle.hp_tree.specs.Expressions.{Expr, variable, call, Exprs, no_expr, more_exprs, Parts, no_part, more_parts, exprs_of, parts_of}
 use Rattle.hp_tree.specs.Blocks.{Decl, Eqn, eqns_of, arms_of, states_of}
 use Rattle.hp_past.specs.declared.formula.Formulas.{Formulas}
-use Rattle.hp_past.specs.Formulas.{names_node, declares_node}
 use Rattle.hp_past.specs.Names.{Names, noted, names_in, names_in_all, names_in_parts, names_in_path, names_in_decl, names_in_decls, names_in_transitions, names_in_eqn, names_in_eqns, names_in_block, names_in_arms, names_in_state, names_in_states, names_in_item, names_in_program, past_name, is_taken, free_within}
-use Rattle.hp_past.specs.Unfolding.{Added, in_expr, in_exprs, in_parts, in_eqn, in_eqns, in_item, in_items}
+use Rattle.hp_past.specs.Unfolding.{Added, with_one, with_two, in_expr, in_exprs, in_parts, in_eqn, in_eqns, in_item, in_items}
 use Rattle.hp_past.specs.Made.{exprs_onto, parts_onto, eqns_onto}
 
 pub drop-next : {A : Type 0} (xs : List A) (i : ℕ) (x : A) → i < length xs → x ≡ get_or xs i x → drop i xs ≡ x ∷ drop (i + 1) xs
@@ -108,20 +107,44 @@ module _ (names : Names) where
 
 -- ---- numbers that are passed over
 
-module _ (names : Names) (len i k : ℕ) where
-  left-over : i < len → len - i ≡ suc (len - (i + 1))
-  left-over h = omega (arith, h)
+module _ (names : Names) (left k : ℕ) where
+  one-less : 0 < left → left ≡ suc (left - 1)
+  one-less h = omega (arith, h)
 
-  pub free-passed : i < len → is_taken names (past_name k) ≡ true → free_within (len - i) names k ≡ free_within (len - (i + 1)) names (suc k)
-  free-passed h t =
-      ap (λ n. free_within n names k) (left-over h) ∙ ap (λ taken. if taken then free_within (len - (i + 1)) names (suc k) else k) t
+  pub free-passed : 0 < left → is_taken names (past_name k) ≡ true → free_within left names k ≡ free_within (left - 1) names (suc k)
+  free-passed h t = ap (λ n. free_within n names k) (one-less h) ∙ ap (λ taken. if taken then free_within (left - 1) names (suc k) else k) t
 
-  pub free-found : i < len → is_taken names (past_name k) ≡ false → free_within (len - i) names k ≡ k
-  free-found h t =
-      ap (λ n. free_within n names k) (left-over h) ∙ ap (λ taken. if taken then free_within (len - (i + 1)) names (suc k) else k) t
+  pub free-found : 0 < left → is_taken names (past_name k) ≡ false → free_within left names k ≡ k
+  free-found h t = ap (λ n. free_within n names k) (one-less h) ∙ ap (λ taken. if taken then free_within (left - 1) names (suc k) else k) t
 
-  pub free-end : len ≤ i → free_within (len - i) names k ≡ k
-  free-end h = let none : len - i ≡ zero = omega (arith, h) in ap (λ n. free_within n names k) none
+  pub free-end : left ≤ 0 → free_within left names k ≡ k
+  free-end h = let none : left ≡ zero = omega (arith, h) in ap (λ n. free_within n names k) none
+
+-- ---- calls with a number of arguments
+
+module _ (at : Span) (f : List ℕ) (s : Added) where
+  pub one-argument : (remembered : Expr → Added → List ℕ × Added) (args : List Expr) (e : Expr) → length args ≡ 1 → e ≡ get_or args 0 e → with_one remembered at f (exprs_of args) s ≡ (variable at (remembered e s).0, (remembered e s).1)
+  one-argument remembered [] e h p = absurd (omega (arith, h))
+  one-argument remembered (a ∷ []) e h p = ap (λ z. with_one remembered at f (exprs_of (z ∷ [])) s) (sym p)
+  one-argument remembered (a ∷ b ∷ args) e h p = absurd (omega (arith, h))
+
+  pub other-than-one : (remembered : Expr → Added → List ℕ × Added) (args : List Expr) → (length args ≡ 1 → ⊥) → with_one remembered at f (exprs_of args) s ≡ (call at f false (exprs_of args), s)
+  other-than-one remembered [] h = refl
+  other-than-one remembered (a ∷ []) h = absurd (h refl)
+  other-than-one remembered (a ∷ b ∷ args) h = refl
+
+  pub two-arguments : (remembered : Expr → Expr → Added → List ℕ × Added) (args : List Expr) (e1 e2 : Expr) → length args ≡ 2 → e1 ≡ get_or args 0 e1 → e2 ≡ get_or args 1 e2
+      → with_two remembered at f (exprs_of args) s ≡ (variable at (remembered e1 e2 s).0, (remembered e1 e2 s).1)
+  two-arguments remembered [] e1 e2 h p q = absurd (omega (arith, h))
+  two-arguments remembered (a ∷ []) e1 e2 h p q = absurd (omega (arith, h))
+  two-arguments remembered (a ∷ b ∷ []) e1 e2 h p q = (λ j. with_two remembered at f (exprs_of (sym p j ∷ sym q j ∷ [])) s)
+  two-arguments remembered (a ∷ b ∷ c ∷ args) e1 e2 h p q = absurd (omega (arith, h))
+
+  pub other-than-two : (remembered : Expr → Expr → Added → List ℕ × Added) (args : List Expr) → (length args ≡ 2 → ⊥) → with_two remembered at f (exprs_of args) s ≡ (call at f false (exprs_of args), s)
+  other-than-two remembered [] h = refl
+  other-than-two remembered (a ∷ []) h = refl
+  other-than-two remembered (a ∷ b ∷ []) h = absurd (h refl)
+  other-than-two remembered (a ∷ b ∷ c ∷ args) h = refl
 
 -- ---- parts that are unfolded
 

@@ -18,6 +18,7 @@ use Rattle.hp_past.specs.declared.formula.Formula.{Formula}
 use Rattle.hp_past.specs.declared.formula.Formula.TheVariants.{Once, Historically, Since}
 use Rattle.hp_past.specs.declared.formula.Formulas.{Formulas}
 use Rattle.hp_past.specs.Formulas.{formulas_of, formula_of}
+use Rattle.hp_past.specs.Own.{locals_of, equations_of}
 use Rattle.hp_past.specs.Names.{Names, names_of, past_name, free}
 
 -- What a contract gets behind its own declarations and equations, in order, and the number from which the next name is looked for.
@@ -82,20 +83,26 @@ since_of names at e1 e2 s =
 abbrev pub under : {A B C : Type 0} → (A → B) → A × C → B × C
 under f a = (f a.0, a.1)
 
--- a call of a node, or of a formula with its number of arguments
-abbrev pub formula_or_call : Names → Option Formula → Span → List ℕ → Bool → Exprs → Added → Expr × Added
-formula_or_call names (Some Once) at f false (more_exprs e no_expr) s = under (variable at) (once_of names at e s)
-formula_or_call names (Some Historically) at f false (more_exprs e no_expr) s = under (variable at) (historically_of names at e s)
-formula_or_call names (Some Since) at f false (more_exprs e1 (more_exprs e2 no_expr)) s = under (variable at) (since_of names at e1 e2 s)
-formula_or_call names formula at f inlined es s = (call at f inlined es, s)
+-- a call of a node
+abbrev pub called : Span → List ℕ → Exprs → Added → Expr × Added
+called at f es s = (call at f false es, s)
+
+-- a formula of one argument, and one of two, where the call has as many
+abbrev pub with_one : (Expr → Added → List ℕ × Added) → Span → List ℕ → Exprs → Added → Expr × Added
+with_one remembered at f (more_exprs e no_expr) s = under (variable at) (remembered e s)
+with_one remembered at f es s = called at f es s
+
+abbrev pub with_two : (Expr → Expr → Added → List ℕ × Added) → Span → List ℕ → Exprs → Added → Expr × Added
+with_two remembered at f (more_exprs e1 (more_exprs e2 no_expr)) s = under (variable at) (remembered e1 e2 s)
+with_two remembered at f es s = called at f es s
+
+abbrev pub formula_or_call : Names → Option Formula → Span → List ℕ → Exprs → Added → Expr × Added
+formula_or_call names None at f es s = called at f es s
+formula_or_call names (Some Once) at f es s = with_one (once_of names at) at f es s
+formula_or_call names (Some Historically) at f es s = with_one (historically_of names at) at f es s
+formula_or_call names (Some Since) at f es s = with_two (since_of names at) at f es s
 
 -- ---- the block of a contract
-
-abbrev pub locals_of : Block → List Decl
-locals_of (block ds es) = ds
-
-abbrev pub equations_of : Block → Eqns
-equations_of (block ds es) = es
 
 -- its equations and conditions
 pub record Clauses : Type 0 where
@@ -132,9 +139,10 @@ module _ (there : Formulas) (names : Names) where
         under (arrow at x.0) (in_expr b x.1)
     in_expr (when_is at a c x) s = under (λ e. when_is at e c x) (in_expr a s)
     in_expr (merge at x ps) s = under (merge at x) (in_parts ps s)
-    in_expr (call at f inlined es) s =
+    in_expr (call at f true es) s = under (call at f true) (in_exprs es s)
+    in_expr (call at f false es) s =
         let args = in_exprs es s in
-        formula_or_call names (formula_of there f) at f inlined args.0 args.1
+        formula_or_call names (formula_of there f) at f args.0 args.1
 
     pub in_exprs : Exprs → Added → Exprs × Added
     in_exprs no_expr s = (no_expr, s)
@@ -196,3 +204,11 @@ module _ (there : Formulas) (names : Names) where
 -- the program without the formulas of its contracts; names are counted over the whole text, from 1
 abbrev pub unfolded : List Item → List Item
 unfolded program = in_items (formulas_of program) (names_of program) program 1
+
+-- the number from which the next name would be looked for behind all of it
+abbrev pub number_behind : Formulas → Names → List Item → ℕ → ℕ
+number_behind there names [] k = k
+number_behind there names (item ∷ items) k = number_behind there names items (in_item there names item k).1
+
+abbrev pub next_number : List Item → ℕ
+next_number program = number_behind (formulas_of program) (names_of program) program 1

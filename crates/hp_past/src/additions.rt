@@ -39,16 +39,18 @@ fn is_taken(alloc: Global, names: &Names<'_>, number: u64) -> Result<bool, Alloc
 }
 
 /// The first number from this one on whose name does not occur.
-#[tactic(auto, using(crate::proofs::Rules::free_numbers))]
+#[tactic(auto, using(crate::proofs::Rules::free_numbers), unfolding(crate::specs::Names::free))]
 fn free(alloc: Global, names: &Names<'_>, first: u64) -> Result<u64, AllocError>
     ensures { IfOk result (λ number. number ≡ free names.now first) }
 {
     let mut number = first;
-    for _ in 0..names.len() {
+    let mut left = names.len();
+    while left > 0 {
         if !is_taken(alloc, names, number)? {
             return Ok(number);
         }
         number = following(number)?;
+        left -= 1;
     }
     Ok(number)
 }
@@ -124,6 +126,7 @@ fn joined(alloc: Global, at: Span, op: Op2, arg: &Name, name: &Name) -> Result<E
 }
 
 impl Additions {
+    #[tactic(auto, unfolding(crate::specs::Made::added_of))]
     pub fn new(alloc: Global, next: u64) -> Additions
         ensures { added_of result ≡ nothing_added next }
     {
@@ -134,7 +137,16 @@ impl Additions {
         }
     }
 
+    /// The number from which the next name is looked for.
+    #[tactic(auto, unfolding(crate::specs::Made::added_of))]
+    pub fn next(&self) -> u64
+        ensures { result ≡ (added_of self.now).next }
+    {
+        self.next
+    }
+
     /// A name that does not occur, and is not given again.
+    #[tactic(auto, unfolding(crate::specs::Made::added_of, crate::specs::Unfolding::fresh))]
     fn fresh(&mut self, text: &Text<'_>) -> Result<Name, AllocError>
         ensures name { IfOk result (λ name. name ≡ (fresh text.now.names (added_of self.old)).0) }
         ensures added { OnOk result (added_of self.new ≡ (fresh text.now.names (added_of self.old)).1) }
@@ -145,7 +157,7 @@ impl Additions {
     }
 
     /// Adds a variable with its equation.
-    #[tactic(auto, using(crate::proofs::Rules::added))]
+    #[tactic(auto, using(crate::proofs::Rules::added), unfolding(crate::specs::Made::added_of, crate::specs::Unfolding::with_variable))]
     fn define(&mut self, alloc: Global, decl: Decl, right: Expr) -> Result<(), AllocError>
         ensures { OnOk result (added_of self.new ≡ with_variable decl right (added_of self.old)) }
     {
@@ -156,6 +168,7 @@ impl Additions {
     }
 
     /// Adds an argument as a variable.
+    #[tactic(auto, unfolding(crate::specs::Unfolding::with_argument))]
     fn add_argument(&mut self, text: &Text<'_>, at: Span, arg: &Expr) -> Result<Name, AllocError>
         ensures name { IfOk result (λ name. name ≡ (with_argument text.now.names at arg.now (added_of self.old)).0) }
         ensures added { OnOk result (added_of self.new ≡ (with_argument text.now.names at arg.now (added_of self.old)).1) }
@@ -168,6 +181,7 @@ impl Additions {
     }
 
     /// Adds the variables of `once`.
+    #[tactic(auto, unfolding(crate::specs::Unfolding::once_of))]
     pub fn add_once(&mut self, text: &Text<'_>, at: Span, arg: &Expr) -> Result<Name, AllocError>
         ensures name { IfOk result (λ name. name ≡ (once_of text.now.names at arg.now (added_of self.old)).0) }
         ensures added { OnOk result (added_of self.new ≡ (once_of text.now.names at arg.now (added_of self.old)).1) }
@@ -181,6 +195,7 @@ impl Additions {
     }
 
     /// Adds the variables of `historically`.
+    #[tactic(auto, unfolding(crate::specs::Unfolding::historically_of))]
     pub fn add_historically(
         &mut self,
         text: &Text<'_>,
@@ -199,6 +214,7 @@ impl Additions {
     }
 
     /// Adds the variables of `since`.
+    #[tactic(auto, unfolding(crate::specs::Unfolding::since_of))]
     pub fn add_since(
         &mut self,
         text: &Text<'_>,

@@ -2,7 +2,8 @@
 ghost use Rattle.std.specs.Prelude.{◌≡◌, Some, map, IfOk, OnOk};
 ghost use Rattle.hp_tree.specs.BlockView.{eqn_seen, arm_seen};
 ghost use Rattle.hp_tree.specs.Blocks.{eqns_of};
-ghost use Rattle.hp_past.specs.Unfolding.{in_eqn, in_eqns, in_condition, in_parts_of, in_contract, in_optional, equations_of, joined_block};
+ghost use Rattle.hp_past.specs.Unfolding.{in_eqn, in_eqns, in_condition, in_parts_of, in_contract, in_optional, joined_block};
+ghost use Rattle.hp_past.specs.Own.{equations_of};
 ghost use Rattle.hp_past.specs.Made.{added_of};
 
 use crate::additions::Additions;
@@ -116,18 +117,19 @@ fn unfold_parts(
 }
 
 /// The block of a contract, with what is added behind its own.
+#[tactic(auto, using(crate::proofs::Rules::joined), unfolding(crate::specs::Made::added_of, crate::specs::Unfolding::joined_block))]
 fn joined_block(locals: Vec<Decl>, eqns: Vec<Eqn>, added: Additions) -> Result<Block, AllocError>
     ensures { IfOk result (λ block. block ≡ joined_block locals.items (map eqn_seen eqns.items) (added_of added)) }
 {
-    let mut locals = locals;
-    let mut eqns = eqns;
     let Additions {
-        locals: new_locals,
-        eqns: new_eqns,
+        locals: mut more_locals,
+        eqns: mut more_eqns,
         ..
     } = added;
-    locals.extend(new_locals)?;
-    eqns.extend(new_eqns)?;
+    let mut locals = locals;
+    let mut eqns = eqns;
+    locals.append(&mut more_locals)?;
+    eqns.append(&mut more_eqns)?;
     Ok(Block { locals, eqns })
 }
 
@@ -141,7 +143,7 @@ fn unfold_contract(
 {
     let mut added = Additions::new(text.alloc, *next);
     let parts = unfold_parts(text, contract, &mut added)?;
-    *next = added.next;
+    *next = added.next();
     let locals = copy_decls(text.alloc, &contract.body.locals)?;
     let controls = copy_decls(text.alloc, &contract.controls)?;
     let Parts {

@@ -4,7 +4,7 @@ ghost use Rattle.hp_base.specs.declared.span.Span.{Span};
 ghost use Rattle.hp_tree.specs.Expressions.{call, exprs_of, parts_of};
 ghost use Rattle.hp_tree.specs.ExpressionView.{expr_at};
 ghost use Rattle.hp_past.specs.Formulas.{formula_of};
-ghost use Rattle.hp_past.specs.Unfolding.{in_expr, in_exprs, in_parts, formula_or_call};
+ghost use Rattle.hp_past.specs.Unfolding.{in_expr, in_exprs, in_parts, once_of, historically_of, since_of, with_one, with_two, formula_or_call};
 ghost use Rattle.hp_past.specs.Made.{added_of};
 
 use crate::additions::Additions;
@@ -14,7 +14,75 @@ use hp_base::{Name, Span};
 use hp_tree::{Cons, Expr, ExprKind};
 use std::alloc::AllocError;
 
-/// A call whose arguments are unfolded: of a node, or of a formula with its number of arguments.
+/// A call of a node.
+fn call(text: &Text<'_>, node: &Name, args: Vec<Expr>) -> Result<ExprKind, AllocError>
+    ensures { IfOk result (λ other. (span : Span) → expr_at span other ≡ call span node.now false (exprs_of args.items)) }
+{
+    Ok(ExprKind::Call {
+        node: node.copy(text.alloc)?,
+        inlined: false,
+        args,
+    })
+}
+
+/// The formula `once`, where it has one argument.
+#[tactic(auto, using(crate::proofs::Rules::one_argument))]
+fn once_or_call(
+    text: &Text<'_>,
+    span: Span,
+    node: &Name,
+    args: Vec<Expr>,
+    added: &mut Additions,
+) -> Result<ExprKind, AllocError>
+    ensures kind { IfOk result (λ other. expr_at span other ≡ (with_one (once_of text.now.names span) span node.now (exprs_of args.items) (added_of added.old)).0) }
+    ensures added { OnOk result (added_of added.new ≡ (with_one (once_of text.now.names span) span node.now (exprs_of args.items) (added_of added.old)).1) }
+{
+    if args.len() == 1 {
+        let name = added.add_once(text, span, &args[0])?;
+        return Ok(ExprKind::Name(name));
+    }
+    call(text, node, args)
+}
+
+/// The formula `historically`, where it has one argument.
+#[tactic(auto, using(crate::proofs::Rules::one_argument))]
+fn historically_or_call(
+    text: &Text<'_>,
+    span: Span,
+    node: &Name,
+    args: Vec<Expr>,
+    added: &mut Additions,
+) -> Result<ExprKind, AllocError>
+    ensures kind { IfOk result (λ other. expr_at span other ≡ (with_one (historically_of text.now.names span) span node.now (exprs_of args.items) (added_of added.old)).0) }
+    ensures added { OnOk result (added_of added.new ≡ (with_one (historically_of text.now.names span) span node.now (exprs_of args.items) (added_of added.old)).1) }
+{
+    if args.len() == 1 {
+        let name = added.add_historically(text, span, &args[0])?;
+        return Ok(ExprKind::Name(name));
+    }
+    call(text, node, args)
+}
+
+/// The formula `since`, where it has two arguments.
+#[tactic(auto, using(crate::proofs::Rules::two_arguments))]
+fn since_or_call(
+    text: &Text<'_>,
+    span: Span,
+    node: &Name,
+    args: Vec<Expr>,
+    added: &mut Additions,
+) -> Result<ExprKind, AllocError>
+    ensures kind { IfOk result (λ other. expr_at span other ≡ (with_two (since_of text.now.names span) span node.now (exprs_of args.items) (added_of added.old)).0) }
+    ensures added { OnOk result (added_of added.new ≡ (with_two (since_of text.now.names span) span node.now (exprs_of args.items) (added_of added.old)).1) }
+{
+    if args.len() == 2 {
+        let name = added.add_since(text, span, &args[0], &args[1])?;
+        return Ok(ExprKind::Name(name));
+    }
+    call(text, node, args)
+}
+
+/// A call that is not inlined, whose arguments are unfolded: of a formula with its number of arguments, or of a node.
 fn formula_or_call(
     text: &Text<'_>,
     span: Span,
@@ -22,18 +90,14 @@ fn formula_or_call(
     args: Vec<Expr>,
     added: &mut Additions,
 ) -> Result<ExprKind, AllocError>
-    ensures kind { IfOk result (λ other. expr_at span other ≡ (formula_or_call text.now.names (formula_of text.now.formulas node.now) span node.now false (exprs_of args.items) (added_of added.old)).0) }
-    ensures added { OnOk result (added_of added.new ≡ (formula_or_call text.now.names (formula_of text.now.formulas node.now) span node.now false (exprs_of args.items) (added_of added.old)).1) }
+    ensures kind { IfOk result (λ other. expr_at span other ≡ (formula_or_call text.now.names (formula_of text.now.formulas node.now) span node.now (exprs_of args.items) (added_of added.old)).0) }
+    ensures added { OnOk result (added_of added.new ≡ (formula_or_call text.now.names (formula_of text.now.formulas node.now) span node.now (exprs_of args.items) (added_of added.old)).1) }
 {
-    match (text.formulas.called(node), args.as_slice()) {
-        (Some(Formula::Once), [e]) => Ok(ExprKind::Name(added.add_once(text, span, e)?)),
-        (Some(Formula::Historically), [e]) => Ok(ExprKind::Name(added.add_historically(text, span, e)?)),
-        (Some(Formula::Since), [e1, e2]) => Ok(ExprKind::Name(added.add_since(text, span, e1, e2)?)),
-        _ => Ok(ExprKind::Call {
-            node: node.copy(text.alloc)?,
-            inlined: false,
-            args,
-        }),
+    match text.formulas.called(node) {
+        None => call(text, node, args),
+        Some(Formula::Once) => once_or_call(text, span, node, args, added),
+        Some(Formula::Historically) => historically_or_call(text, span, node, args, added),
+        Some(Formula::Since) => since_or_call(text, span, node, args, added),
     }
 }
 

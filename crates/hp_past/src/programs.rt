@@ -1,6 +1,6 @@
 //! Programs without past-time formulas.
-ghost use Rattle.std.specs.Prelude.{◌≡◌, ◌++◌, IfOk, OnOk};
-ghost use Rattle.hp_past.specs.Unfolding.{in_node, in_item, in_items, unfolded};
+ghost use Rattle.std.specs.Prelude.{◌≡◌, ◌<◌, ◌^◌, IfOk, OnOk};
+ghost use Rattle.hp_past.specs.Unfolding.{in_node, in_item, in_items, unfolded, number_behind, next_number};
 
 use crate::contracts::unfold_optional;
 use crate::error::PastErr;
@@ -37,13 +37,17 @@ fn unfold_item(text: &Text<'_>, item: &Item, next: &mut u64) -> Result<Item, All
 }
 
 #[tactic(auto, using(crate::proofs::Rules::items))]
-fn unfold_items(text: &Text<'_>, items: &[Item]) -> Result<Vec<Item>, AllocError>
-    ensures { IfOk result (λ others. others.items ≡ in_items text.now.formulas text.now.names items.now 1) }
+fn unfold_items(
+    text: &Text<'_>,
+    items: &[Item],
+    next: &mut u64,
+) -> Result<Vec<Item>, AllocError>
+    ensures items { IfOk result (λ others. others.items ≡ in_items text.now.formulas text.now.names items.now next.old) }
+    ensures next { OnOk result (next.new ≡ number_behind text.now.formulas text.now.names items.now next.old) }
 {
     let mut others = Vec::new(text.alloc);
-    let mut next = 1;
     for item in items {
-        others.push(unfold_item(text, item, &mut next)?)?;
+        others.push(unfold_item(text, item, next)?)?;
     }
     Ok(others)
 }
@@ -52,13 +56,16 @@ fn unfold_items(text: &Text<'_>, items: &[Item]) -> Result<Vec<Item>, AllocError
 /// formulas where they stand in the assumption, the guarantee, or an equation or condition of the contract's own block, and no node
 /// of the program has that name. What does not fit, as another number of arguments, is left as it is.
 pub fn unfold(alloc: Global, program: &Program) -> Result<Program, PastErr>
-    ensures { IfOk result (λ other. other ≡ unfolded program.now) }
+    ensures unfolded { IfOk result (λ other. other ≡ unfolded program.now) }
+    // The numbers of the new names stay small, as the laws ask.
+    ensures small { OnOk result (next_number program.now < 2 ^ 64) }
 {
     let text = Text {
         alloc,
         formulas: Formulas::of(&program.items),
         names: names_of(alloc, &program.items)?,
     };
-    let items = unfold_items(&text, &program.items)?;
+    let mut next = 1;
+    let items = unfold_items(&text, &program.items, &mut next)?;
     Ok(Program { items })
 }
