@@ -130,7 +130,7 @@ _hept_words() {{
         else
             COMPREPLY=($(_hept_files "$cur" ept))
         fi
-    elif [[ $at == 2 && $command != compile ]]; then
+    elif [[ $at == 2 && $command != compile && $command != past ]]; then
         COMPREPLY=($(compgen -W "$(_hept_nodes "$file")" -- "$cur"))
     else
         COMPREPLY=($(compgen -f -- "$cur"))
@@ -215,7 +215,7 @@ _hept_command() {{
         return
     elif (( $#given == 0 )); then
         if [[ $command == exec ]]; then _files -g '*.obc'; else _files -g '*.ept'; fi
-    elif (( $#given == 1 )) && [[ $command != compile ]]; then
+    elif (( $#given == 1 )) && [[ $command != compile && $command != past ]]; then
         _hept_nodes $file
     else
         _files

@@ -89,7 +89,7 @@ class Quick(unittest.TestCase):
                 self.assertEqual([it.split(':')[0] for it in done.stderr.decode().split('\n')], ['hept', 'hept', ''])
 
     def test_commands_that_write_want_the_program(self):
-        for words in (('compile', 'p1.ept', 'out'), ('prove', 'p1.ept', 'f', 'out')):
+        for words in (('compile', 'p1.ept', 'out'), ('prove', 'p1.ept', 'f', 'out'), ('past', 'p1.ept', 'out')):
             done = self.call(*words)
             self.assertEqual((done.returncode, done.stdout, done.stderr.count(b'\n')), (70, b'', 1))
             self.assertIn(b'./build', done.stderr)

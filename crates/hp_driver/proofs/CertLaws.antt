@@ -77,7 +77,7 @@ module _ (items : List Item) (i : ℕ) (f : List ℕ) (so_far : node_among (drop
 -- ---- the text is refused
 
 -- why it is, or that there is no memory
-refusal_or : (text : List ℕ) (cause : Refusal) → IsRefused text cause → (cause ≡ refusal.OutOfMemory) ⊎ ((cause ≢ refusal.OutOfMemory) × Causes text cause)
+pub refusal_or : (text : List ℕ) (cause : Refusal) → IsRefused text cause → (cause ≡ refusal.OutOfMemory) ⊎ ((cause ≢ refusal.OutOfMemory) × Causes text cause)
 refusal_or text refusal.OutOfMemory h = inl refl
 refusal_or text (refusal.Limit place limit) h = inr (λ e. absurd cc, h)
 refusal_or text (refusal.Lex span) h = inr (λ e. absurd cc, h)

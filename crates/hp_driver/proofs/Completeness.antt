@@ -27,7 +27,7 @@ use Rattle.hp_driver.specs.Systems.{System, of_machine, inputs_of}
 use Rattle.hp_driver.specs.Values.{first_bad}
 use Rattle.hp_driver.specs.declared.trace_limits.BadLine.{BadLine}
 use Rattle.hp_driver.proofs.GoodLines.{good_so_far}
-use Rattle.hp_driver.proofs.WordLaws.{run_exec, same_words, exec_source, exec_contract, tell_exec, choosing_source, running_choosing, sweep_exec}
+use Rattle.hp_driver.proofs.WordLaws.{past_exec, run_exec, same_words, exec_source, exec_contract, tell_exec, choosing_source, running_choosing, sweep_exec}
 
 -- ---- texts
 
@@ -135,6 +135,7 @@ module _ (words : List (List ℕ)) (held : Files) (file node : List ℕ) (o : Ob
   completes log line status more (Outcome.not_written c compiled) ended good f g = absurd (g refl)
   completes log line status more (Outcome.chosen_compiled c chosen some) ended good f g = inl refl
   completes log line status more (Outcome.chosen_not_written c chosen some) ended good f g = absurd (g refl)
+  completes log line status more (Outcome.past {file = x} {out = y} p r) ended good f g = absurd (past_exec words x y p file node w)
   completes log line status more (Outcome.swept {tasks = t} {instants = i} text s is) ended good f g = inl refl
   completes log line status more (Outcome.swept_in_part {tasks = t} {instants = i} text out rest s is e) ended good f g = absurd (g refl)
   completes log line status more (Outcome.not_swept {tasks = t} {instants = i} s) ended good f g = absurd (sweep_exec words t i s file node w)

@@ -29,7 +29,7 @@ use Rattle.hp_driver.specs.Systems.{System}
 use Rattle.hp_driver.proofs.Completeness.{same_text}
 use Rattle.hp_driver.proofs.GoodContracts.{has_verdict}
 use Rattle.hp_driver.proofs.SourceCalls.{same_arranged, not_long, has_program}
-use Rattle.hp_driver.proofs.WordLaws.{exec_contract, source_contract, prove_contract, verify_contract, prove_verify, same_four, choosing_source, running_choosing, sweep_contract}
+use Rattle.hp_driver.proofs.WordLaws.{past_contract, exec_contract, source_contract, prove_contract, verify_contract, prove_verify, same_four, choosing_source, running_choosing, sweep_contract}
 
 same_some : (n m : Node) → Some n ≡ Some m → n ≡ m
 same_some n m e = cc
@@ -124,6 +124,7 @@ module _ (words : List (List ℕ)) (held : Files) (file name text : List ℕ) (p
     decides log line status short within shown (Outcome.not_written c compiled) f g = absurd (g refl)
     decides log line status short within shown (Outcome.chosen_compiled c chosen some) f g = inl refl
     decides log line status short within shown (Outcome.chosen_not_written c chosen some) f g = absurd (g refl)
+    decides log line status short within shown (Outcome.past {file = x} {out = y} p r) f g = absurd (past_contract words x y p file name over)
     decides log line status short within shown (Outcome.swept {tasks = t} {instants = i} other s is) f g = inl refl
     decides log line status short within shown (Outcome.swept_in_part {tasks = t} {instants = i} other out rest s is e) f g = absurd (g refl)
     decides log line status short within shown (Outcome.not_swept {tasks = t} {instants = i} s) f g = absurd (sweep_contract words t i s file name over)

@@ -15,6 +15,7 @@ pub mod HistoryLaws
 pub mod GameLaws
 pub mod WrittenLaws
 pub mod MachineLaws
+pub mod PastLaws
 pub mod ReadingLaws
 pub mod ContractLaws
 pub mod CertLaws

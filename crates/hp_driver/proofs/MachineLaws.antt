@@ -27,7 +27,7 @@ use Rattle.law_history.specs.Streams.Texts.{TextLaw, WithinLaw}
 use Rattle.law_decided.specs.Promised.{RunLaw}
 use Rattle.law_decided.specs.Outcomes.{AreKeptInGames}
 use Rattle.hp_driver.specs.Controls.{has_controls}
-use Rattle.hp_driver.specs.Command.{IsRunOf, IsExecOf, IsCheckOf, IsProveOf, IsVerifyOf, IsOverSource, IsOverContract, ReadsSource, IsOver, Writes, no_node_line, IsNoFileCommand, IsTellOf, IsSweepOf}
+use Rattle.hp_driver.specs.Command.{IsRunOf, IsPastOf, IsExecOf, IsCheckOf, IsProveOf, IsVerifyOf, IsOverSource, IsOverContract, ReadsSource, IsOver, Writes, no_node_line, IsNoFileCommand, IsTellOf, IsSweepOf}
 use Rattle.hp_driver.specs.Commanded.{SpellsTask}
 use Rattle.hp_driver.specs.Diagnostics.{no_text_line, no_form_line, limit_line, executor_line}
 use Rattle.hp_driver.specs.Executing.{executing}
@@ -194,6 +194,7 @@ no_command_leaves words files status h = Leaves.as_they_were refl by
   where
     by : (out : List ℕ) → Writes words out → status ≢ 0
     by out (Writes.machines {file = x} w) = absurd (h x (IsOver.a_source (ReadsSource.of_program (IsOverSource.to_compile w))))
+    by out (Writes.a_source {file = x} w) = absurd (h x (IsOver.a_tree w))
     by out (Writes.a_certificate {file = x} w) = absurd (h x (IsOver.a_source (ReadsSource.of_contract (IsOverContract.to_prove w))))
 
 -- where a write failed, of the task
@@ -202,6 +203,10 @@ write_rose words file (Run node) before after w h = absurd h
 write_rose words file (Tell node) before after w h = absurd h
 write_rose words file (Check print) before after w h = absurd h
 write_rose words file (Compile out) before after w h = record { out = out.now; asked = Writes.machines w; rose = h }
+
+-- where the write of a source text failed
+pub past_rose : (words : List (List ℕ)) (file out : List ℕ) (before after : List ℕ → Faults) → IsPastOf words file out → Rose (before out) (after out) → WriteRose words before after
+past_rose words file out before after w h = record { out = out; asked = Writes.a_source w; rose = h }
 
 -- where the write of a certificate failed, or the read of one
 pub prove_rose : (words : List (List ℕ)) (file node cert : List ℕ) (before after : List ℕ → Faults) → IsProveOf words file node cert → Rose (before cert) (after cert) → WriteRose words before after

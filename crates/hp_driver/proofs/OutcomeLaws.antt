@@ -14,7 +14,7 @@ use Rattle.hp_compile.specs.declared.refusal.Refusal.{Refusal}
 use Rattle.hp_base.specs.Limits.{most}
 use Rattle.hp_driver.specs.Answers.{IsAnswer}
 use Rattle.hp_driver.specs.Systems.{System, inputs_of}
-use Rattle.hp_driver.specs.Command.{IsExecOf, IsOverSource, IsOverContract, ReadsSource, ReadsFirst, IsOver, IsNoSourceCommand, IsNoCertCommand, IsNoFileCommand}
+use Rattle.hp_driver.specs.Command.{IsPastOf, IsExecOf, IsOverSource, IsOverContract, ReadsSource, ReadsFirst, IsOver, IsNoSourceCommand, IsNoCertCommand, IsNoFileCommand}
 use Rattle.hp_driver.specs.Commanded.{SpellsTask, Spells, file_of, limit_of}
 use Rattle.hp_driver.specs.Course.{InStep}
 use Rattle.hp_driver.specs.Diagnostics.{refusal_line, too_long_line}
@@ -22,12 +22,13 @@ use Rattle.hp_driver.specs.Follows.{OutcomeOf, DecidedOutcome, ProgramOutcome}
 use Rattle.hp_driver.specs.Leaving.{DecidedLeaves, ProgramLeaves}
 use Rattle.hp_driver.specs.Lines.{whole_lines, lines_of}
 use Rattle.hp_driver.specs.Log.{heard, said, has_ended, HeardFrom}
+use Rattle.hp_driver.specs.PastOutcome.{PastOutcome}
 use Rattle.hp_driver.specs.Outcome.{Outcome, Gives, GivesMoreThan, IsHeld, IsOnly, HasNoProgram, IsAskedFor, InLockstep}
 use Rattle.hp_driver.specs.Ran.{Ran, Reports, ReportsOrNot}
 use Rattle.hp_driver.specs.Trace.{Machine, said_to, refused_in}
 use Rattle.hp_driver.specs.Values.{first_bad}
 use Rattle.hp_driver.specs.declared.words.Command.{Command}
-use Rattle.hp_driver.specs.declared.words.Command.TheVariants.{Source, Exec, Prove, Verify}
+use Rattle.hp_driver.specs.declared.words.Command.TheVariants.{Past, Source, Exec, Prove, Verify}
 use Rattle.hp_driver.specs.declared.words.Task.{Task}
 use Rattle.hp_driver.specs.declared.words.Task.TheVariants.{Run, Tell, Check, Compile}
 use Rattle.hp_driver.specs.declared.trace_limits.BadLine.{BadLine}
@@ -86,12 +87,13 @@ module _ {S : Type 0} (machine : Machine S) (start : S) (s : System) (m : Mirror
 
 -- ---- the words
 
--- they are of no form where they are of no command over a program or a certificate, and not those of `exec`
-pub no_command : (words : List (List ℕ)) → ((file node : List ℕ) → IsExecOf words file node → ⊥) → IsNoCertCommand words → IsNoSourceCommand words → IsNoFileCommand words
-no_command words f k g file (IsOver.a_source (ReadsSource.of_program s)) = g file s
-no_command words f k g file (IsOver.a_source (ReadsSource.of_contract {node = y} w)) = k file y w
-no_command words f k g file (IsOver.machines {node} w) = f file node w
-no_command words f k g file (IsOver.a_certificate {source = x} {node = y} w) = k x y (IsOverContract.to_verify w)
+-- they are of no form where they are of no command over a program or a certificate, and not those of `exec` or `past`
+pub no_command : (words : List (List ℕ)) → ((file node : List ℕ) → IsExecOf words file node → ⊥) → ((file out : List ℕ) → IsPastOf words file out → ⊥) → IsNoCertCommand words → IsNoSourceCommand words → IsNoFileCommand words
+no_command words f p k g file (IsOver.a_source (ReadsSource.of_program s)) = g file s
+no_command words f p k g file (IsOver.a_source (ReadsSource.of_contract {node = y} w)) = k file y w
+no_command words f p k g file (IsOver.a_tree {out} w) = p file out w
+no_command words f p k g file (IsOver.machines {node} w) = f file node w
+no_command words f p k g file (IsOver.a_certificate {source = x} {node = y} w) = k x y (IsOverContract.to_verify w)
 
 -- ---- a text that was read
 
@@ -104,6 +106,7 @@ over_source words file (Compile out) w = IsOverSource.to_compile w
 -- the file that it reads before all others
 first : (words : List (List ℕ)) (command : Command) → Spells words command → ReadsFirst words (file_of command)
 first words (Source file task) w = ReadsFirst.a_source (ReadsSource.of_program (over_source words file.now task w))
+first words (Past file out) w = ReadsFirst.a_tree w
 first words (Exec file node) w = ReadsFirst.machines w
 first words (Prove file node cert) w = ReadsFirst.a_source (ReadsSource.of_contract (IsOverContract.to_prove w))
 first words (Verify file node cert) w = ReadsFirst.a_source (ReadsSource.of_contract (IsOverContract.to_verify w))
@@ -113,6 +116,7 @@ first_of words command w = first words command w
 
 over : (words : List (List ℕ)) (file : List ℕ) → ReadsFirst words file → IsOver words file
 over words file (ReadsFirst.a_source reads) = IsOver.a_source reads
+over words file (ReadsFirst.a_tree {out} w) = IsOver.a_tree w
 over words file (ReadsFirst.machines {node} w) = IsOver.machines w
 
 pub over_of : (words : List (List ℕ)) (command : Command) → Spells words command → IsOver words (file_of command)
@@ -222,6 +226,7 @@ pub too_long_of : (words : List (List ℕ)) (files : Option Files) (command : Co
 too_long_of words files (Source file task) w long = Outcome.too_long (ReadsSource.of_program (over_source words file.now task w)) long
 too_long_of words files (Prove file node cert) w long = Outcome.too_long (ReadsSource.of_contract (IsOverContract.to_prove w)) long
 too_long_of words files (Verify file node cert) w long = Outcome.too_long (ReadsSource.of_contract (IsOverContract.to_verify w)) long
+too_long_of words files (Past file out) w long = Outcome.past w (PastOutcome.too_long long)
 too_long_of words files (Exec file node) w long = Outcome.long_text w long
 
 -- ---- puts alone

@@ -12,7 +12,7 @@ use Rattle.hp_driver.specs.Calls.{Moment, IsCall}
 use Rattle.hp_driver.specs.GoodCalls.{AreCalm}
 use Rattle.hp_driver.specs.Readings.{AreReadings, ReadsOn}
 use Rattle.hp_driver.specs.declared.words.Command.{Command}
-use Rattle.hp_driver.specs.declared.words.Command.TheVariants.{Source, Exec, Prove, Verify}
+use Rattle.hp_driver.specs.declared.words.Command.TheVariants.{Past, Source, Exec, Prove, Verify}
 use Rattle.hp_driver.proofs.OutcomeLaws.{over_source}
 
 -- what a call read
@@ -33,6 +33,7 @@ module _ (words : List (List ℕ)) (first before after : Option (List Reading)) 
   -- the file was read, and what stands behind it
   pub read_on_by : (command : Command) → Spells words command → Grows first before ((file_of command, most (limit_of command)) ∷ []) → ReadsOn command before after → HasRead words first after
   read_on_by (Source file task) w grew on = alone _ (AreReadings.a_source (ReadsSource.of_program (over_source words file.now task w))) grew on
+  read_on_by (Past file out) w grew on = alone _ (AreReadings.a_tree w) grew on
   read_on_by (Exec file node) w grew on = alone _ (AreReadings.machines w) grew on
   read_on_by (Prove file node cert) w grew on = alone _ (AreReadings.a_source (ReadsSource.of_contract (IsOverContract.to_prove w))) grew on
   read_on_by (Verify file node cert) w grew (inl same) = alone _ (AreReadings.a_source (ReadsSource.of_contract (IsOverContract.to_verify w))) grew same

@@ -39,7 +39,7 @@ use Rattle.hp_driver.specs.Values.{first_bad}
 use Rattle.hp_driver.specs.declared.trace_limits.BadLine.{BadLine}
 use Rattle.hp_driver.proofs.Completeness.{same_text, no_bad_line}
 use Rattle.hp_driver.proofs.GoodContracts.{none_refused}
-use Rattle.hp_driver.proofs.WordLaws.{run_exec, run_compile, exec_compile, check_run, check_exec, same_words, check_source, run_source, compile_source, source_contract, tell_run, tell_check, tell_compile, check_chooses, running_choosing, sweep_source}
+use Rattle.hp_driver.proofs.WordLaws.{past_source, run_exec, run_compile, exec_compile, check_run, check_exec, same_words, check_source, run_source, compile_source, source_contract, tell_run, tell_check, tell_compile, check_chooses, running_choosing, sweep_source}
 
 -- ---- a file that holds such a program
 
@@ -113,6 +113,7 @@ module _ (words : List (List ℕ)) (held : Files) (file text : List ℕ) (progra
     succeeds log line status good (Outcome.not_written c compiled) f g = absurd (g refl)
     succeeds log line status good (Outcome.chosen_compiled c chosen some) f g = inl refl
     succeeds log line status good (Outcome.chosen_not_written c chosen some) f g = absurd (g refl)
+    succeeds log line status good (Outcome.past {file = x} {out = y} p r) f g = absurd (past_source words x y p file over)
     succeeds log line status good (Outcome.swept {tasks = t} {instants = i} other s is) f g = inl refl
     succeeds log line status good (Outcome.swept_in_part {tasks = t} {instants = i} other out rest s is e) f g = absurd (g refl)
     succeeds log line status good (Outcome.not_swept {tasks = t} {instants = i} s) f g = absurd (sweep_source words t i s file over)

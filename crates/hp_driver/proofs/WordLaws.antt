@@ -2,7 +2,7 @@
 use Rattle.std.proofs.Common.{◌≡◌, ◌<◌, ℕ, suc, ◌⊎◌, inl, inr, Bool, true, false, List, [], ◌∷◌, get_or, length, sym, subst, refl, ap, ◌∙◌, arith}
 use Rattle.std.specs.Prelude.{codes}
 use Rattle.hp_arguments.specs.Words.{IsArgument}
-use Rattle.hp_driver.specs.Command.{IsOnTraceBy, IsOnCertBy, IsRunOf, IsTellOf, IsExecOf, IsCheckOf, IsCompileOf, IsProveOf, IsVerifyOf, IsSweepOf, IsOverSource, IsOverContract, ReadsSource, IsOver, Writes}
+use Rattle.hp_driver.specs.Command.{IsOnTraceBy, IsOnCertBy, IsRunOf, IsTellOf, IsExecOf, IsCheckOf, IsCompileOf, IsPastOf, IsProveOf, IsVerifyOf, IsSweepOf, IsOverSource, IsOverContract, ReadsSource, IsOver, Writes}
 use Rattle.hp_driver.specs.Outcome.{AsksToChoose, AsksToRun}
 use Rattle.hp_tree.specs.declared.program.Item.{Item}
 
@@ -174,27 +174,59 @@ module _ (words : List (List ℕ)) (file node cert x y : List ℕ) where
   verify_contract w (IsOverContract.to_prove {cert = z} p) = absurd (prove_verify words x y z file node cert p w)
   verify_contract w (IsOverContract.to_verify {cert = z} v) = let same = same_four (codes "verify") words file node cert x y z w v in (same.0, same.1)
 
+-- ---- the words of `past`
+
+past_check : codes "past" ≡ codes "check" → ⊥
+past_check e = let first : 112 ≡ 99 = ap (λ (w : List ℕ). get_or w 0 0) e in omega (arith, first)
+
+past_exec_names : codes "past" ≡ codes "exec" → ⊥
+past_exec_names e = let first : 112 ≡ 101 = ap (λ (w : List ℕ). get_or w 0 0) e in omega (arith, first)
+
+module _ (words : List (List ℕ)) (a b : List ℕ) (w : IsPastOf words a b) where
+  past_named : (x : List ℕ) (xs : List (List ℕ)) → words ≡ x ∷ xs → codes "past" ≡ x
+  past_named x xs e = one_name words (codes "past") x (a ∷ b ∷ []) xs w.spelled e
+
+  pub past_source : (file : List ℕ) → IsOverSource words file → ⊥
+  past_source file (IsOverSource.to_run {node = y} r) = let e : codes "past" ≡ codes "run" = past_named (codes "run") (file ∷ y ∷ []) r.spelled in cc
+  past_source file (IsOverSource.to_tell {node = y} r) =
+      let four = tell_four words file y r in
+      let three = trace_three (codes "past") words a b w in
+      omega (arith, four, three)
+  past_source file (IsOverSource.to_check print c) = let k = checking words file print c in past_check (past_named (codes "check") k.behind k.spelled)
+  past_source file (IsOverSource.to_compile {out = y} c) = let e : codes "past" ≡ codes "compile" = past_named (codes "compile") (file ∷ y ∷ []) c.spelled in cc
+
+  pub past_contract : (file node : List ℕ) → IsOverContract words file node → ⊥
+  past_contract file node k = few_contract words file node (let three = trace_three (codes "past") words a b w in omega (arith, three)) k
+
+  pub past_exec : (file node : List ℕ) → IsExecOf words file node → ⊥
+  past_exec file node v = past_exec_names (past_named (codes "exec") (file ∷ node ∷ []) v.spelled)
+
 -- ---- what writes no file
 
 module _ (words : List (List ℕ)) (file out : List ℕ) where
   pub run_writes : (node : List ℕ) → IsRunOf words file node → Writes words out → ⊥
   run_writes node w (Writes.machines {file = x} c) = run_compile words file node x out w c
+  run_writes node w (Writes.a_source {file = x} p) = past_source words x out p file (IsOverSource.to_run w)
   run_writes node w (Writes.a_certificate {file = x} {node = y} p) = source_contract words file x y (IsOverSource.to_run w) (IsOverContract.to_prove p)
 
   pub tell_writes : (node : List ℕ) → IsTellOf words file node → Writes words out → ⊥
   tell_writes node w (Writes.machines {file = x} c) = tell_compile words file node x out w c
+  tell_writes node w (Writes.a_source {file = x} p) = past_source words x out p file (IsOverSource.to_tell w)
   tell_writes node w (Writes.a_certificate {file = x} {node = y} p) = source_contract words file x y (IsOverSource.to_tell w) (IsOverContract.to_prove p)
 
   pub exec_writes : (node : List ℕ) → IsExecOf words file node → Writes words out → ⊥
   exec_writes node w (Writes.machines {file = x} c) = exec_compile words file node x out w c
+  exec_writes node w (Writes.a_source {file = x} p) = past_exec words x out p file node w
   exec_writes node w (Writes.a_certificate {file = x} {node = y} p) = exec_contract words file node x y w (IsOverContract.to_prove p)
 
   pub check_writes : (print : Bool) → IsCheckOf words file print → Writes words out → ⊥
   check_writes print w (Writes.machines {file = x} c) = check_compile words file x out print w c
+  check_writes print w (Writes.a_source {file = x} p) = past_source words x out p file (IsOverSource.to_check print w)
   check_writes print w (Writes.a_certificate {file = x} {node = y} p) = source_contract words file x y (IsOverSource.to_check print w) (IsOverContract.to_prove p)
 
   pub verify_writes : (node cert : List ℕ) → IsVerifyOf words file node cert → Writes words out → ⊥
   verify_writes node cert w (Writes.machines {file = x} c) = source_contract words x file node (IsOverSource.to_compile c) (IsOverContract.to_verify w)
+  verify_writes node cert w (Writes.a_source {file = x} p) = past_contract words x out p file node (IsOverContract.to_verify w)
   verify_writes node cert w (Writes.a_certificate {file = x} {node = y} p) = prove_verify words x y out file node cert p w
 
 -- ---- machines that choose
@@ -240,14 +272,22 @@ module _ (words : List (List ℕ)) (tasks instants : ℕ) (w : IsSweepOf words t
   pub sweep_exec : (file node : List ℕ) → IsExecOf words file node → ⊥
   sweep_exec file node v = let e : codes "sweep" ≡ codes "exec" = sweep_named (codes "exec") (file ∷ node ∷ []) v.spelled in cc
 
+  pub sweep_past : (file out : List ℕ) → IsPastOf words file out → ⊥
+  sweep_past file out v =
+      let e = sweep_named (codes "past") (file ∷ out ∷ []) v.spelled in
+      let first : 115 ≡ 112 = ap (λ (w : List ℕ). get_or w 0 0) e in
+      omega (arith, first)
+
   pub sweep_over : (file : List ℕ) → IsOver words file → ⊥
   sweep_over file (IsOver.a_source (ReadsSource.of_program s)) = sweep_source file s
   sweep_over file (IsOver.a_source (ReadsSource.of_contract {node = y} k)) = sweep_contract file y k
+  sweep_over file (IsOver.a_tree {out = y} v) = sweep_past file y v
   sweep_over file (IsOver.machines {node = y} v) = sweep_exec file y v
   sweep_over file (IsOver.a_certificate {source = x} {node = y} v) = sweep_contract x y (IsOverContract.to_verify v)
 
   pub sweep_writes : (out : List ℕ) → Writes words out → ⊥
   sweep_writes out (Writes.machines {file = x} c) = sweep_source x (IsOverSource.to_compile c)
+  sweep_writes out (Writes.a_source {file = x} v) = sweep_past x out v
   sweep_writes out (Writes.a_certificate {file = x} {node = y} p) = sweep_contract x y (IsOverContract.to_prove p)
 
 -- ---- the words of checks

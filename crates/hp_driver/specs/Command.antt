@@ -13,12 +13,15 @@ pub record IsOnTraceBy (name : List ℕ) (words : List (List ℕ)) (file node : 
   pub file_is_argument : IsArgument file
   pub node_is_argument : IsArgument node
 
--- the words `run FILE NODE`, `compile FILE OUT`, and `exec FILE NODE`
+-- the words `run FILE NODE`, `compile FILE OUT`, `past FILE OUT`, and `exec FILE NODE`
 abbrev pub IsRunOf : List (List ℕ) → List ℕ → List ℕ → Type 0
 IsRunOf = IsOnTraceBy (codes "run")
 
 abbrev pub IsCompileOf : List (List ℕ) → List ℕ → List ℕ → Type 0
 IsCompileOf = IsOnTraceBy (codes "compile")
+
+abbrev pub IsPastOf : List (List ℕ) → List ℕ → List ℕ → Type 0
+IsPastOf = IsOnTraceBy (codes "past")
 
 abbrev pub IsExecOf : List (List ℕ) → List ℕ → List ℕ → Type 0
 IsExecOf = IsOnTraceBy (codes "exec")
@@ -120,17 +123,20 @@ pub data ReadsSource (words : List (List ℕ)) (file : List ℕ) : Type 0 where
 -- The words are of a command that reads this file before all others: source text, or a text of machines.
 pub data ReadsFirst (words : List (List ℕ)) (file : List ℕ) : Type 0 where
   a_source : ReadsSource words file → ReadsFirst words file
+  a_tree : {out : List ℕ} → IsPastOf words file out → ReadsFirst words file
   machines : {node : List ℕ} → IsExecOf words file node → ReadsFirst words file
 
 -- The words are of a command that reads this file: source text, a text of machines, or a certificate.
 pub data IsOver (words : List (List ℕ)) (file : List ℕ) : Type 0 where
   a_source : ReadsSource words file → IsOver words file
+  a_tree : {out : List ℕ} → IsPastOf words file out → IsOver words file
   machines : {node : List ℕ} → IsExecOf words file node → IsOver words file
   a_certificate : {source node : List ℕ} → IsVerifyOf words source node file → IsOver words file
 
--- The words are of a command that writes this file: machines, or a certificate.
+-- The words are of a command that writes this file: machines, source text, or a certificate.
 pub data Writes (words : List (List ℕ)) (out : List ℕ) : Type 0 where
   machines : {file : List ℕ} → IsCompileOf words file out → Writes words out
+  a_source : {file : List ℕ} → IsPastOf words file out → Writes words out
   a_certificate : {file node : List ℕ} → IsProveOf words file node out → Writes words out
 
 -- the summary of so many tasks
@@ -158,7 +164,7 @@ abbrev pub IsNoCommand : List (List ℕ) → Type 0
 IsNoCommand words = IsNoFileCommand words × ((tasks instants : ℕ) → IsSweepOf words tasks instants → ⊥)
 
 abbrev pub usage_line : List ℕ
-usage_line = codes "usage: hept check run compile exec prove verify sweep\n"
+usage_line = codes "usage: hept check run compile exec prove verify sweep past\n"
 
 abbrev pub not_built_line : List ℕ
 not_built_line = codes "E2 not built\n"

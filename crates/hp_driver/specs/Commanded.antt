@@ -4,9 +4,9 @@ use Rattle.std.specs.Borrow.{Bor}
 use Rattle.hp_arguments.specs.Words.{IsArgument}
 use Rattle.hp_base.specs.declared.limit.What.{What}
 use Rattle.hp_base.specs.declared.limit.What.TheVariants.{Size, Text}
-use Rattle.hp_driver.specs.Command.{IsRunOf, IsTellOf, IsCheckOf, IsCompileOf, IsExecOf, IsProveOf, IsVerifyOf}
+use Rattle.hp_driver.specs.Command.{IsRunOf, IsTellOf, IsCheckOf, IsCompileOf, IsPastOf, IsExecOf, IsProveOf, IsVerifyOf}
 use Rattle.hp_driver.specs.declared.words.Command.{Command}
-use Rattle.hp_driver.specs.declared.words.Command.TheVariants.{Source, Exec, Prove, Verify}
+use Rattle.hp_driver.specs.declared.words.Command.TheVariants.{Source, Past, Exec, Prove, Verify}
 use Rattle.hp_driver.specs.declared.words.Task.{Task}
 use Rattle.hp_driver.specs.declared.words.Task.TheVariants.{Run, Tell, Check, Compile}
 
@@ -24,6 +24,7 @@ SpellsTask words file (Compile out) = IsCompileOf words file out.now
 -- the words ask for this
 abbrev pub Spells : List (List ℕ) → Command → Type 0
 Spells words (Source file task) = SpellsTask words file.now task
+Spells words (Past file out) = IsPastOf words file.now out.now
 Spells words (Exec file node) = IsExecOf words file.now node.now
 Spells words (Prove file node cert) = IsProveOf words file.now node.now cert.now
 Spells words (Verify file node cert) = IsVerifyOf words file.now node.now cert.now
@@ -31,6 +32,7 @@ Spells words (Verify file node cert) = IsVerifyOf words file.now node.now cert.n
 -- the file that is read
 abbrev pub file_of : Command → List ℕ
 file_of (Source file task) = file.now
+file_of (Past file out) = file.now
 file_of (Exec file node) = file.now
 file_of (Prove file node cert) = file.now
 file_of (Verify file node cert) = file.now
@@ -38,6 +40,7 @@ file_of (Verify file node cert) = file.now
 -- the limit on its bytes: that of a source text, or of a text of machines
 abbrev pub limit_of : Command → What
 limit_of (Source file task) = Size
+limit_of (Past file out) = Size
 limit_of (Exec file node) = Text
 limit_of (Prove file node cert) = Size
 limit_of (Verify file node cert) = Size

@@ -2,19 +2,21 @@
 use Rattle.std.specs.Prelude.{◌≡◌, ◌≢◌, ◌≤◌, ◌⊎◌, ℕ, true, List, length, Option, option_map}
 use Rattle.std.specs.FinMap as map
 use Rattle.hp_base.specs.Limits.{most}
-use Rattle.hp_base.specs.declared.limit.What.TheVariants.{Text}
+use Rattle.hp_base.specs.declared.limit.What.TheVariants.{Size, Text}
 use Rattle.hp_io.specs.Faults.{Faults, Rose}
 use Rattle.hp_io.specs.Files.{Files, SameElsewhere, SameOrPrefix}
 use Rattle.hp_io.specs.Told.{BothTold}
 use Rattle.hp_obc.specs.Machines.{Obc}
+use Rattle.hp_tree.specs.declared.program.Item.{Item}
 use Rattle.hp_obctext.specs.Answers.{IsTextOf}
 use Rattle.hp_obctext.specs.Labels.{file_of}
 use Rattle.hp_obctext.specs.Files.{file_words}
 use Rattle.hp_obctext.specs.Words.{printed}
 use Rattle.law_decided.specs.Outcomes.{IsProofInGame}
-use Rattle.hp_driver.specs.Command.{IsCompileOf, IsProveOf, IsOver, Writes}
+use Rattle.hp_driver.specs.Command.{IsCompileOf, IsPastOf, IsProveOf, IsOver, Writes}
 use Rattle.hp_driver.specs.Controls.{has_controls}
 use Rattle.hp_driver.specs.Outcome.{AreCompiled, AreChosen, HasContract}
+use Rattle.hp_driver.specs.PastOutcome.{HoldsProgram, unfolded_text}
 
 -- the canonical text of machines; where it is no longer than a text of machines may be, it is read as these machines
 pub record IsPrinted (o : Obc) (text : List ℕ) : Type 0 where
@@ -24,7 +26,7 @@ pub record IsPrinted (o : Obc) (text : List ℕ) : Type 0 where
 -- The files before and behind a call, and its status.
 module _ (words : List (List ℕ)) (before after : Option Files) where
   pub data Leaves : ℕ → Type 0 where
-    -- no file is changed, and the call is not one that did what `compile` or `prove` is for
+    -- no file is changed, and the call is not one that did what `compile`, `past` or `prove` is for
     as_they_were : {status : ℕ} → after ≡ before → ((out : List ℕ) → Writes words out → status ≢ 0) → Leaves status
     -- the file that is named holds the machines of the program
     written : {file out text : List ℕ} {o : Obc} → IsCompileOf words file out → AreCompiled before file o → IsPrinted o text →
@@ -37,6 +39,11 @@ module _ (words : List (List ℕ)) (before after : Option Files) where
         after ≡ option_map (λ held. map.insert held out text) before → Leaves 0
     chosen_in_part : {file out text : List ℕ} {o : Obc} {status : ℕ} → (status ≡ 5) ⊎ (status ≡ 6) → IsCompileOf words file out → (chosen : AreChosen before file o) → has_controls chosen.program ≡ true →
         IsPrinted o text → BothTold before after (λ b a. SameElsewhere b a out) → BothTold before after (λ b a. SameOrPrefix b a out text) → Leaves status
+    -- the file that is named holds the program without the formulas of its contracts
+    unfolded : {file out : List ℕ} {program : List Item} → IsPastOf words file out → HoldsProgram before file program → length (unfolded_text program) ≤ most Size →
+        after ≡ option_map (λ held. map.insert held out (unfolded_text program)) before → Leaves 0
+    unfolded_in_part : {file out : List ℕ} {program : List Item} {status : ℕ} → (status ≡ 5) ⊎ (status ≡ 6) → IsPastOf words file out → HoldsProgram before file program →
+        BothTold before after (λ b a. SameElsewhere b a out) → BothTold before after (λ b a. SameOrPrefix b a out (unfolded_text program)) → Leaves status
     -- the file that is named holds the certificate of the machine of the node's contract
     proved : {file name cert text : List ℕ} → IsProveOf words file name cert → (c : HasContract before file name) → IsProofInGame c.held.clocked c.node text →
         after ≡ option_map (λ held. map.insert held cert text) before → Leaves 0

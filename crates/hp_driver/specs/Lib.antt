@@ -14,6 +14,8 @@ pub mod Command
 pub mod Commanded
 pub mod Diagnostics
 pub mod Controls
+pub mod Given
+pub mod PastOutcome
 pub mod Outcome
 pub mod GoodCalls
 pub mod Ran
@@ -25,6 +27,7 @@ pub mod Leaves
 pub mod Readings
 pub mod Calls
 pub mod Leaving
+pub mod Past
 pub mod Found
 pub mod Written
 pub mod Executing

@@ -4,8 +4,7 @@ use Rattle.hp_base.specs.Limits.{most}
 use Rattle.hp_base.specs.declared.limit.Limit.{Limit}
 use Rattle.hp_base.specs.declared.limit.What.TheVariants.{Size, Text}
 use Rattle.hp_base.specs.declared.span.Span.{Span}
-use Rattle.hp_io.specs.Files.{Files, Holds, HoldsMoreThan}
-use Rattle.hp_io.specs.Told.{Told}
+use Rattle.hp_io.specs.Files.{Files}
 use Rattle.hp_io.specs.declared.console.Event.{Event}
 use Rattle.hp_io.specs.declared.console.Event.TheVariants.{Asked}
 use Rattle.hp_tree.specs.declared.program.Item.{Item}
@@ -41,16 +40,10 @@ use Rattle.hp_verdicts.specs.declared.error.ContractErr.TheVariants.{OutOfMemory
 use Rattle.hp_driver.specs.Diagnostics.{refusal_line, too_long_line, no_text_line, no_form_line, executor_line, contract_line, no_contract_line, certificate_line, certificate_status}
 use Rattle.hp_driver.specs.BadLines.{bad_line_line}
 use Rattle.hp_driver.specs.Controls.{has_controls}
-use Rattle.hp_driver.specs.Command.{IsRunOf, IsTellOf, IsCheckOf, IsCompileOf, IsExecOf, IsProveOf, IsVerifyOf, IsSweepOf, IsSummary, IsOverSource, IsOverContract, ReadsSource, ReadsFirst, IsNoCommand, usage_line, not_built_line, no_node_line, accepted_text, verdict_text}
+use Rattle.hp_driver.specs.Command.{IsRunOf, IsTellOf, IsCheckOf, IsCompileOf, IsPastOf, IsExecOf, IsProveOf, IsVerifyOf, IsSweepOf, IsSummary, IsOverSource, IsOverContract, ReadsSource, ReadsFirst, IsNoCommand, usage_line, not_built_line, no_node_line, accepted_text, verdict_text}
+pub use Rattle.hp_driver.specs.Given.{Gives, GivesMoreThan}
+use Rattle.hp_driver.specs.PastOutcome.{PastOutcome}
 use Rattle.hp_driver.specs.declared.trace_limits.BadLine.{BadLine}
-
--- The file holds this text, where the folder tells it.
-abbrev pub Gives : Option Files → List ℕ → List ℕ → Type 0
-Gives files name text = Told files (λ held. Holds held name text)
-
--- it holds more bytes than this
-abbrev pub GivesMoreThan : Option Files → List ℕ → ℕ → Type 0
-GivesMoreThan files name limit = Told files (λ held. HoldsMoreThan held name limit)
 
 -- the text has no other program
 abbrev pub IsOnly : List ℕ → List Item → Type 0
@@ -222,6 +215,8 @@ module _ (words : List (List ℕ)) (files : Option Files) where
     chosen_compiled : {file out : List ℕ} {o : Obc} → IsCompileOf words file out → (chosen : AreChosen files file o) → has_controls chosen.program ≡ true → Outcome [] [] 0
     -- they could not be written
     chosen_not_written : {file out : List ℕ} {o : Obc} → IsCompileOf words file out → (chosen : AreChosen files file o) → has_controls chosen.program ≡ true → Outcome [] [] 5
+    -- the program of a source text was written without the formulas of its contracts, or was not
+    past : {file out line : List ℕ} {status : ℕ} → IsPastOf words file out → PastOutcome files file line status → Outcome [] line status
     -- the summary of a sweep, a number for each task in each line, or the first bytes of it, where a put failed
     swept : {tasks instants : ℕ} (text : List ℕ) → IsSweepOf words tasks instants → IsSummary tasks text → Outcome (put_events text) [] 0
     swept_in_part : {tasks instants : ℕ} (text out rest : List ℕ) → IsSweepOf words tasks instants → IsSummary tasks text → out ++ rest ≡ text → Outcome (put_events out) [] 5

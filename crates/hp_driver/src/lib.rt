@@ -8,6 +8,7 @@ mod execution;
 mod follow;
 mod laws;
 mod machines;
+mod past;
 mod refuse;
 mod report;
 mod run;

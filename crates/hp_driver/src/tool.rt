@@ -19,6 +19,7 @@ ghost use Rattle.hp_driver.specs.Calls.{IsCall, moment};
 
 use crate::certificate::{run_prove, run_verify};
 use crate::machines::run_machine;
+use crate::past::run_past;
 use crate::refuse::report_too_long;
 use crate::report::report;
 use crate::source::run_source;
@@ -28,7 +29,7 @@ use crate::words::{Command, command_of, sweep_of};
 use hp_io::{Console, Folder, ReadErr, Sink};
 use std::alloc::Global;
 
-const USAGE: &[u8] = b"usage: hept check run compile exec prove verify sweep\n";
+const USAGE: &[u8] = b"usage: hept check run compile exec prove verify sweep past\n";
 
 /// Does what is asked for with the text that was read.
 fn run_text<F: Folder, C: Console, E: Sink>(
@@ -52,6 +53,7 @@ fn run_text<F: Folder, C: Console, E: Sink>(
 {
     match command {
         Command::Source { task, .. } => run_source(alloc, task, text, files, console, diag),
+        Command::Past { out, .. } => run_past(alloc, text, out, files, diag),
         Command::Exec { node, .. } => run_machine(alloc, text, node, console, diag),
         Command::Prove { node, cert, .. } => run_prove(alloc, text, node, cert, files, diag),
         Command::Verify { node, cert, .. } => {

@@ -45,6 +45,11 @@ pub(crate) enum Command<'a> {
         file: &'a str,
         task: Task<'a>,
     },
+    /// `past FILE OUT`
+    Past {
+        file: &'a str,
+        out: &'a str,
+    },
     /// `exec FILE NODE`
     Exec {
         file: &'a str,
@@ -71,6 +76,7 @@ impl<'a> Command<'a> {
     {
         match self {
             Command::Source { file, .. } => file,
+            Command::Past { file, .. } => file,
             Command::Exec { file, .. } => file,
             Command::Prove { file, .. } => file,
             Command::Verify { file, .. } => file,
@@ -241,6 +247,9 @@ pub(crate) fn command_of<'a>(
 {
     if let Some((file, node)) = command_with_two(alloc, "exec", words)? {
         return Ok(Some(Command::Exec { file, node }));
+    }
+    if let Some((file, out)) = command_with_two(alloc, "past", words)? {
+        return Ok(Some(Command::Past { file, out }));
     }
     if let Some(command) = cert_command(alloc, words)? {
         return Ok(Some(command));

@@ -6,7 +6,7 @@ use Rattle.hp_driver.specs.Leaves.{Leaves, ReadRose, WriteRose}
 use Rattle.hp_driver.specs.Outcome.{Gives, Outcome}
 use Rattle.hp_driver.specs.Readings.{ReadsOn}
 use Rattle.hp_driver.specs.declared.words.Command.{Command}
-use Rattle.hp_driver.proofs.MachineLaws.{exec_leaves, verify_leaves, write_rose, prove_rose, verify_rose}
+use Rattle.hp_driver.proofs.MachineLaws.{exec_leaves, verify_leaves, write_rose, past_rose, prove_rose, verify_rose}
 use Rattle.hp_driver.proofs.RanLaws.{heard_nothing}
 use Rattle.hp_driver.specs.Status.{code_of}
 use Rattle.hp_driver.proofs.tool.run_text.Goals as goal
@@ -27,6 +27,42 @@ returns-in-Source-clause-writes g c =
       ],
       c.run_source.ensures.writes.1,
     )
+
+pub returns-in-Past-clause-outcome : goal.returns-in-Past-clause-outcome
+returns-in-Past-clause-outcome g c =
+    let files = g.F.Folder.files c.args.files.now in
+    let done = c.run_past.ensures.outcome in (
+      [],
+      done.0,
+      Grows-nil (g.C.Console.events c.args.console.now),
+      heard_nothing (g.C.Console.left c.args.console.now),
+      done.1,
+      subst (λ (command : Command). (words : List (List ℕ)) → Spells words command → Gives files (file_of command) c.args.text.now → Outcome words files [] done.0 (code_of c.run_past.result)) (sym c.in-Past.is)
+          (λ words w held. done.2 words files _ w held),
+    )
+
+pub returns-in-Past-clause-leaves : goal.returns-in-Past-clause-leaves
+returns-in-Past-clause-leaves g c =
+    let before = g.F.Folder.files c.args.files.now in
+    let after = g.F.Folder.files c.run_past.new.files in
+    subst (λ (command : Command). (words : List (List ℕ)) → Spells words command → Gives before (file_of command) c.args.text.now → Leaves words before after (code_of c.run_past.result)) (sym c.in-Past.is)
+    (λ words w held. c.run_past.ensures.leaves words _ w held)
+
+pub returns-in-Past-clause-writes : goal.returns-in-Past-clause-writes
+returns-in-Past-clause-writes g c =
+    let before = g.F.Folder.write_faults c.args.files.now in
+    let after = g.F.Folder.write_faults c.run_past.new.files in
+    let same_puts = Same-refl (g.C.Console.put_faults c.args.console.now) in (
+      λ h. elim (c.run_past.ensures.writes.0 h) [
+        | inl p ↦ inl (subst (λ (command : Command). (words : List (List ℕ)) → Spells words command → WriteRose words before after) (sym c.in-Past.is) (λ words w. past_rose words _ c.in-Past.out.now before after w p.0), same_puts, p.1)
+        | inr p ↦ inr (p.0, inr (same_puts, p.1))
+      ],
+      λ h. let quiet = c.run_past.ensures.writes.1 h in (quiet.0, same_puts, quiet.1),
+    )
+
+pub returns-in-Past-clause-readings : goal.returns-in-Past-clause-readings
+returns-in-Past-clause-readings g c =
+    subst (λ (command : Command). ReadsOn command (g.F.Folder.reads c.args.files.now).gave (g.F.Folder.reads c.run_past.new.files).gave) (sym c.in-Past.is) c.run_past.ensures.reads.0
 
 pub returns-in-Prove-clause-outcome : goal.returns-in-Prove-clause-outcome
 returns-in-Prove-clause-outcome g c =
