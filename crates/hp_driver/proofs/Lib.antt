@@ -24,5 +24,6 @@ pub mod Completeness
 pub mod GoodContracts
 pub mod SourceCalls
 pub mod ContractCalls
+pub mod PastCalls
 pub mod WrittenCertificates
 pub mod StatusLaws

@@ -1,10 +1,12 @@
 -- Calls of which nothing is wrong: those that are to run a machine or a node to the end of the input, those that are to check a program or to write its machines, and those that are to write a certificate or to verify one.
-use Rattle.std.specs.Prelude.{◌≡◌, ℕ, Bool, true, false, IsTrue, List, reverse, Option, None, Some, IsSome, is_some}
+use Rattle.std.specs.Prelude.{◌≡◌, ◌≤◌, length, ℕ, Bool, true, false, IsTrue, List, reverse, Option, None, Some, IsSome, is_some}
 use Rattle.hp_abstract.specs.Machines.{IsMachineOf}
+use Rattle.hp_base.specs.Limits.{most}
+use Rattle.hp_base.specs.declared.limit.What.TheVariants.{Size}
 use Rattle.hp_boolx.specs.Machine.{Machine}
 use Rattle.hp_cert.specs.declared.checking.Proved.{Proved}
 use Rattle.hp_compile.specs.Arranged.{IsArrangeable, IsArranged}
-use Rattle.hp_compile.specs.Judged.{IsJudged}
+use Rattle.hp_compile.specs.Judged.{IsProgramOf, IsJudged}
 use Rattle.law_decided.specs.Acceptable.{IsDecidable, AreAcceptable}
 use Rattle.hp_io.specs.Faults.{Faults, IsCalm}
 use Rattle.hp_io.specs.Files.{Files}
@@ -15,9 +17,10 @@ use Rattle.hp_tree.specs.declared.program.Item.{Item}
 use Rattle.hp_verdicts.specs.Decided.{IsLong, IsProof, has_contract, is_wide_contract}
 use Rattle.hp_verdicts.specs.Verified.{Shows}
 use Rattle.hp_driver.specs.Controls.{has_controls}
-use Rattle.hp_driver.specs.Command.{IsRunOf, IsCheckOf, IsCompileOf, IsExecOf, IsProveOf, IsVerifyOf, IsOver, Writes}
+use Rattle.hp_driver.specs.Command.{IsRunOf, IsCheckOf, IsCompileOf, IsPastOf, IsExecOf, IsProveOf, IsVerifyOf, IsOver, Writes}
 use Rattle.hp_driver.specs.Lines.{lines_of}
 use Rattle.hp_driver.specs.NodeKinds.{input_kinds}
+use Rattle.hp_driver.specs.PastOutcome.{unfolded_text}
 use Rattle.hp_driver.specs.Outcome.{Gives, IsHeld, AreMachines, IsMachine}
 use Rattle.hp_driver.specs.Systems.{of_machine, inputs_of}
 use Rattle.hp_driver.specs.Values.{first_bad}
@@ -90,6 +93,19 @@ pub record IsGoodRun (words : List (List ℕ)) (files : Option Files) (left : Op
   pub input : List ℕ
   pub console : left ≡ Some input
   pub lines : first_bad (input_kinds program node) 1 (lines_of true input) ≡ None
+
+-- The words ask to write the program of a text without the formulas of its contracts, whatever its names and types are. The text is a program, and what would be written is no longer than a text may be.
+pub record IsGoodPast (words : List (List ℕ)) (files : Option Files) : Type 0 where
+  pub file : List ℕ
+  pub out : List ℕ
+  pub asked : IsPastOf words file out
+  pub held : Files
+  pub folder : files ≡ Some held
+  pub text : List ℕ
+  pub gives : Gives files file text
+  pub program : List Item
+  pub program_of : IsProgramOf text program
+  pub short : (other : List Item) → IsProgramOf text other → length (unfolded_text other) ≤ most Size
 
 -- The node of this name has a contract, which can be decided.
 pub record HasDecidable (program : List Item) (name : List ℕ) : Type 0 where

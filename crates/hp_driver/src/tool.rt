@@ -7,7 +7,7 @@ ghost use Rattle.hp_io.specs.Told.{Grows};
 ghost use Rattle.hp_io.specs.declared.console.Event.{Event};
 ghost use Rattle.hp_driver.specs.Command.{IsSweepOf};
 ghost use Rattle.hp_driver.specs.Commanded.{Spells, file_of};
-ghost use Rattle.hp_driver.specs.GoodCalls.{AreCalm, IsGood, IsGoodCheck, IsGoodCompile, IsGoodProve, IsGoodRun, IsGoodVerify};
+ghost use Rattle.hp_driver.specs.GoodCalls.{AreCalm, IsGood, IsGoodCheck, IsGoodCompile, IsGoodPast, IsGoodProve, IsGoodRun, IsGoodVerify};
 ghost use Rattle.hp_driver.specs.Leaves.{Leaves, ReadRose, WriteRose};
 ghost use Rattle.hp_driver.specs.Log.{HeardFrom};
 ghost use Rattle.hp_driver.specs.Outcome.{Outcome, Gives};
@@ -131,7 +131,7 @@ pub fn run_tool<F: Folder, C: Console, E: Sink>(
         × Grows (E.took diag.old) (E.took diag.new) line
         × Outcome (map string_bytes words.now) (F.files files.old) log line result }
 
-    // No file is changed but the one that is to be written, which then holds the machines of the program, or a certificate.
+    // No file is changed but the one that is to be written, which then holds the machines of the program, its text without the formulas of its contracts, or a certificate.
     ensures leaves { Leaves (map string_bytes words.now) (F.files files.old) (F.files files.new) result }
 
     // What is read are the file, with the limit of its kind of text, and of `verify` behind it the certificate, with its limit.
@@ -163,6 +163,9 @@ pub fn run_tool<F: Folder, C: Console, E: Sink>(
 
     // and each of its nodes is run over an input of good lines to its end.
     ensures complete_run { IsGoodRun (map string_bytes words.now) (F.files files.old) (C.left console.old) → result ≢ 4 → result ≢ 5 → (result ≡ 0) ⊎ (result ≡ 6) }
+
+    // The text of a program without the formulas of its contracts is written, where it is no longer than a text may be, nothing fails and there is memory.
+    ensures complete_past { IsGoodPast (map string_bytes words.now) (F.files files.old) → result ≢ 4 → result ≢ 5 → (result ≡ 0) ⊎ (result ≡ 6) }
 
     // The certificate of a contract that can be decided is written, where its text is no longer than it may be, nothing fails and there is memory,
     ensures complete_prove { IsGoodProve (map string_bytes words.now) (F.files files.old) → result ≢ 4 → result ≢ 5 → (result ≡ 0) ⊎ (result ≡ 6) }

@@ -231,7 +231,7 @@ unfolding with_argument fresh with_variable
 argument-is names at e s = refl
 
 memory-is : (names : Names) (at : Span) (b : Bool) (right : List ℕ → Expr) (s : Added) → with_memory names at b right s ≡ (past_name (free names s.next), behind names s at (Some b) (right (past_name (free names s.next))))
-unfolding with_memory fresh with_variable
+unfolding fresh with_variable
 memory-is names at b right s = refl
 
 argument-steps : (names : Names) (at : Span) (e : Expr) (s : Added) → Steps names s (behind names s at None e)

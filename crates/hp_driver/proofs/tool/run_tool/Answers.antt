@@ -2,6 +2,7 @@ use Rattle.std.proofs.Common.{map}
 use Rattle.std.specs.String.{string_bytes}
 use Rattle.hp_driver.proofs.Completeness.{good_call}
 use Rattle.hp_driver.proofs.ContractCalls.{good_prove, good_verify}
+use Rattle.hp_driver.proofs.PastCalls.{good_past}
 use Rattle.hp_driver.proofs.ReadingLaws.{calm_call}
 use Rattle.hp_driver.proofs.SourceCalls.{good_check, good_compile, good_run}
 use Rattle.hp_driver.proofs.StatusLaws.{numbered}
@@ -52,6 +53,11 @@ returns-clause-complete_run g c =
     let ran = (numbered c.code.ensures c.perform.ensures).outcome in
     λ good f h. good_run (map string_bytes c.args.words.now) (g.F.Folder.files c.args.files.now) (g.C.Console.left c.args.console.now) (g.C.Console.left c.perform.new.console)
     ran.0 ran.1 c.code.result good ran.3 ran.5 f h
+
+pub returns-clause-complete_past : goal.returns-clause-complete_past
+returns-clause-complete_past g c =
+    let ran = (numbered c.code.ensures c.perform.ensures).outcome in
+    λ good f h. good_past (map string_bytes c.args.words.now) (g.F.Folder.files c.args.files.now) ran.0 ran.1 c.code.result good ran.5 f h
 
 pub returns-clause-complete_prove : goal.returns-clause-complete_prove
 returns-clause-complete_prove g c =
