@@ -48,6 +48,11 @@ fn unfold_items(text: &Text<'_>, items: &[Item], next: &mut u64) -> Result<Vec<I
     Ok(others)
 }
 
+/// A number of the code is one of 64 bits. It does nothing.
+fn is_of_64_bits(number: u64)
+    ensures { number < 2 ^ 64 }
+{}
+
 /// The program in which each past-time formula of a contract is a variable. `once(e)`, `historically(e)` and `since(e1, e2)` are
 /// formulas where they stand in the assumption, the guarantee, or an equation or condition of the contract's own block, and no node
 /// of the program has that name. What does not fit, as another number of arguments, is left as it is.
@@ -63,5 +68,6 @@ pub fn unfold(alloc: Global, program: &Program) -> Result<Program, PastErr>
     };
     let mut next = 1;
     let items = unfold_items(&text, &program.items, &mut next)?;
+    is_of_64_bits(next);
     Ok(Program { items })
 }
