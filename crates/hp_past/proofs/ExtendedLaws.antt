@@ -63,7 +63,7 @@ module _ (there : Formulas) (names : Names) where
   block-extends : (b : Block) (k : ℕ) (assume enforce : Option Expr) (controls : List Decl) (c : Contract) → c.body ≡ b → AreTaken names (names_in_block b) → (t : Added) → t ≡ (in_parts_of there names c (nothing_added k)).1
       → t.next < 2 ^ 64 → WellAdded names t
       → (new : List Decl) × ((locals_of (joined_block (locals_of b) (in_eqns there names (equations_of b) (nothing_added k)).0 t) ≡ locals_of b ++ new)
-          × Each (λ (v : Decl). (v.last ≡ None) ⊎ ((f : Remembered) × (variable_of f ≡ v.name) × Keeps (joined_block (locals_of b) (in_eqns there names (equations_of b) (nothing_added k)).0 t) f)) new)
+      × Each (λ (v : Decl). (v.last ≡ None) ⊎ ((f : Remembered) × (variable_of f ≡ v.name) × Keeps (joined_block (locals_of b) (in_eqns there names (equations_of b) (nothing_added k)).0 t) f)) new)
   unfolding joined_block
   block-extends (block ds es) k assume enforce controls c same taken t is small w = (t.locals, (refl, kept-behind ds es taken (nothing_added k) t t.locals w.locals w.kept))
 

@@ -64,8 +64,7 @@ module _ {A : Type 0} where
         by : (newer : List A) (x : A) (older : List A) → i ∷ past ≡ newer ++ x ∷ older → Q x → Each P newer → Q i ⊎ (P i × Since P Q past)
         by [] x older e q h = inl (subst Q (sym (head-is i past x older e)) q)
         by (y ∷ ys) x older e q h =
-            inr
-            (
+            inr (
               subst P (sym (head-is i past y (ys ++ x ∷ older) e)) h.0,
               record { newer = ys; instant = x; older = older; among = tail-is i past y (ys ++ x ∷ older) e; begins = q; holds = h.1 },
             )

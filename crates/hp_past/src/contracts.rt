@@ -48,11 +48,7 @@ fn unfold_eqn(text: &Text<'_>, eqn: &Eqn, added: &mut Additions) -> Result<Eqn, 
 }
 
 #[tactic(auto, using(crate::proofs::Rules::eqns))]
-fn unfold_eqns(
-    text: &Text<'_>,
-    eqns: &[Eqn],
-    added: &mut Additions,
-) -> Result<Vec<Eqn>, AllocError>
+fn unfold_eqns(text: &Text<'_>, eqns: &[Eqn], added: &mut Additions) -> Result<Vec<Eqn>, AllocError>
     ensures eqns { IfOk result (λ others. map eqn_seen others.items ≡ (in_eqns text.now.formulas text.now.names (eqns_of (map eqn_seen eqns.now)) (added_of added.old)).0) }
     ensures added { OnOk result (added_of added.new ≡ (in_eqns text.now.formulas text.now.names (eqns_of (map eqn_seen eqns.now)) (added_of added.old)).1) }
 {

@@ -104,11 +104,7 @@ fn formula_or_call(
 /// An expression. The variables of its formulas are added.
 #[cycle(unfold)]
 #[tactic(auto, using(crate::proofs::Rules::kinds))]
-pub fn unfold_expr(
-    text: &Text<'_>,
-    expr: &Expr,
-    added: &mut Additions,
-) -> Result<Expr, AllocError>
+pub fn unfold_expr(text: &Text<'_>, expr: &Expr, added: &mut Additions) -> Result<Expr, AllocError>
     ensures expr { IfOk result (λ other. other ≡ (in_expr text.now.formulas text.now.names expr.now (added_of added.old)).0) }
     ensures added { OnOk result (added_of added.new ≡ (in_expr text.now.formulas text.now.names expr.now (added_of added.old)).1) }
 {

@@ -136,10 +136,7 @@ fn note_decls<'a>(decls: &'a [Decl], names: &mut Names<'a>) -> Result<(), AllocE
 }
 
 #[tactic(auto, using(crate::proofs::Rules::noted_decls))]
-fn note_transitions<'a>(
-    transitions: &'a [Trans],
-    names: &mut Names<'a>,
-) -> Result<(), AllocError>
+fn note_transitions<'a>(transitions: &'a [Trans], names: &mut Names<'a>) -> Result<(), AllocError>
     ensures { OnOk result (names.new ≡ noted names.old (names_in_transitions transitions.now)) }
 {
     for transition in transitions {
@@ -236,10 +233,7 @@ fn note_state<'a>(state: &'a State, names: &mut Names<'a>) -> Result<(), AllocEr
     note_transitions(&state.unless, names)
 }
 
-fn note_condition<'a>(
-    condition: &'a Option<Expr>,
-    names: &mut Names<'a>,
-) -> Result<(), AllocError>
+fn note_condition<'a>(condition: &'a Option<Expr>, names: &mut Names<'a>) -> Result<(), AllocError>
     ensures { OnOk result (names.new ≡ noted names.old (names_in_condition condition.now)) }
 {
     match condition {

@@ -37,11 +37,7 @@ fn unfold_item(text: &Text<'_>, item: &Item, next: &mut u64) -> Result<Item, All
 }
 
 #[tactic(auto, using(crate::proofs::Rules::items))]
-fn unfold_items(
-    text: &Text<'_>,
-    items: &[Item],
-    next: &mut u64,
-) -> Result<Vec<Item>, AllocError>
+fn unfold_items(text: &Text<'_>, items: &[Item], next: &mut u64) -> Result<Vec<Item>, AllocError>
     ensures items { IfOk result (λ others. others.items ≡ in_items text.now.formulas text.now.names items.now next.old) }
     ensures next { OnOk result (next.new ≡ number_behind text.now.formulas text.now.names items.now next.old) }
 {
