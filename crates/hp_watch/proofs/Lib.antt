@@ -1,1 +1,2 @@
+pub mod LiftLaws
 pub mod Rules
