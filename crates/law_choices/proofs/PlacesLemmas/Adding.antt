@@ -1,6 +1,6 @@
 -- What equations are added to a sketch, and which of them are events.
-use Rattle.std.proofs.Common.{◌≡◌, ℕ, List, [], ◌∷◌, ◌++◌, map, length, refl, sym, ap, ap₂, subst, ◌∙◌, None, Some}
-use Rattle.std.specs.Prelude.{◌+◌, codes, Bool, true, false, if◌then◌else◌, filter, nat_eq, Option, IsFalse, IsTrue, ⊤}
+use Rattle.std.proofs.Common.{◌≡◌, ℕ, List, [], ◌∷◌, ◌++◌, length, refl, sym, ap, subst, ◌∙◌, None, Some}
+use Rattle.std.specs.Prelude.{◌+◌, codes, Bool, true, false, if◌then◌else◌, nat_eq, Option}
 use Rattle.std.proofs.lemmas.List.{append_assoc, append-nil}
 use Rattle.hp_base.specs.declared.ty.Const.{Const}
 use Rattle.hp_base.specs.declared.value.Value.TheVariants.{B}
@@ -12,14 +12,13 @@ use Rattle.hp_tree.specs.declared.expr.Op2.{Op2}
 use Rattle.hp_tree.specs.declared.expr.Op2.TheVariants as op
 use Rattle.hp_tree.specs.Blocks.{Decl}
 use Rattle.hp_tree.specs.Meaning.{declares}
-use Rattle.hp_flat.specs.declared.equation.Atom.{Atom}
 use Rattle.hp_flat.specs.declared.equation.Atom.TheVariants.{Value as Fixed}
 use Rattle.hp_flat.specs.declared.node.FlatTy.{FlatTy}
 use Rattle.hp_flat.specs.declared.node.FlatTy.TheVariants as flat
 use Rattle.hp_flat.specs.Equations.{Right, register, FlatEqn}
 use Rattle.law_automata.specs.Lowered.Standing.{Along}
 use Rattle.law_equations.specs.Flattened.Flatten.{obc_one, obc_two}
-use Rattle.law_equations.specs.Made.Making.{with_variable, flat_type, constant_value, Known, Sketch, Site, Sight, Layer, Seen, Made, Standing, Body, Inner, next, with_eqn, with_new, with_outputs, named_value, value_of, new_variable, flag_at, block_flag, new_flag, register_at, mux_at, tested, merged_variable, copy_of, atom_of, bind, bind_all, bind_outputs, link_all, output_left, others, given_by, own_name, own_names, with_own, own_variable, keeps_name, over, remember, remember_all, enter_path, on_site, cons_number, signed}
+use Rattle.law_equations.specs.Made.Making.{with_variable, flat_type, constant_value, Known, Sketch, Site, Sight, Layer, Seen, Standing, Body, Inner, next, with_eqn, with_new, with_outputs, named_value, value_of, new_variable, flag_at, block_flag, new_flag, tested, merged_variable, copy_of, atom_of, bind, bind_all, bind_outputs, link_all, output_left, others, given_by, own_name, own_names, with_own, keeps_name, over, remember, remember_all, enter_path, on_site, cons_number, signed}
 use Rattle.hp_watch.specs.Walk.{compares, is_comparison, is_event}
 use Rattle.law_choices.specs.Places.Spots.{Spot}
 use Rattle.law_choices.specs.Places.Laws.{events, IsEventOf}

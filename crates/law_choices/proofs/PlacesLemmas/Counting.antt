@@ -1,10 +1,10 @@
 -- A walk leaves what stands behind as many events as the tree tells.
-use Rattle.std.proofs.Common.{◌≡◌, ℕ, zero, suc, List, [], ◌∷◌, ◌++◌, length, refl, sym, ap, ap₂, ◌∙◌, arith}
-use Rattle.std.specs.Prelude.{◌+◌, Bool, true, false, if◌then◌else◌, take, drop}
+use Rattle.std.proofs.Common.{◌≡◌, ℕ, zero, suc, List, [], ◌∷◌, ◌++◌, refl, sym, ap, ◌∙◌, arith}
+use Rattle.std.specs.Prelude.{◌+◌, Bool, true, false, if◌then◌else◌, drop}
 use Rattle.hp_tree.specs.declared.block.Trans.{Trans}
 use Rattle.hp_tree.specs.Expressions.{Expr, constant, variable, last_of, one, two, choose, pre, fby, arrow, when_is, merge, call, Exprs, no_expr, more_exprs, Parts, no_part, more_parts}
 use Rattle.hp_tree.specs.Blocks.{Block, block, Eqns, no_eqn, more_eqns, Eqn, define, switch, reset, automaton, Arms, no_arm, more_arms, States, no_state, more_states}
-use Rattle.hp_watch.specs.Walk.{compares, Walked, in_front, in_expr, in_exprs, in_parts, in_conditions, in_block, in_eqns, in_eqn, in_arms, in_states, for_a_state, walk, walk_all, walk_parts, walk_conditions, walk_block, walk_eqns, walk_eqn, walk_arms, walk_states}
+use Rattle.hp_watch.specs.Walk.{compares, Walked, in_front, in_expr, in_exprs, in_parts, in_conditions, in_block, in_eqns, in_eqn, in_arms, in_states, walk, walk_all, walk_parts, walk_conditions, walk_block, walk_eqns, walk_eqn, walk_arms, walk_states}
 
 module _ {X : Type 0} where
   abbrev none : List X

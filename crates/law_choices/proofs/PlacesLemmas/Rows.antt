@@ -7,14 +7,14 @@ use Rattle.hp_tree.specs.declared.block.Trans.{Trans}
 use Rattle.hp_tree.specs.declared.expr.Op2.TheVariants.{Eq}
 use Rattle.hp_tree.specs.Expressions.{Expr, constant, variable}
 use Rattle.hp_automata.specs.NewNames.{state_word, transition_word, value_name}
-use Rattle.hp_tree.specs.Blocks.{Decl, Block, block, Eqns, Eqn, eqns_of}
+use Rattle.hp_tree.specs.Blocks.{Block, Eqn, eqns_of}
 use Rattle.hp_tree.specs.Instant.{Body, Equations, Head, Tail, Right, Test, Arms as ArmsOf, First, Second, Third}
 use Rattle.hp_automata.specs.declared.new_names.Word.{Word}
-use Rattle.hp_automata.specs.declared.new_names.Word.TheVariants.{Jump, Next, From, On, Strong, Weak}
+use Rattle.hp_automata.specs.declared.new_names.Word.TheVariants.{Next, From, Strong, Weak}
 use Rattle.hp_tables.specs.Defining.Names.{outer_names}
 use Rattle.hp_automata.specs.Names.{is_name, missing}
 use Rattle.hp_automata.specs.Renaming.{renamed}
-use Rattle.hp_automata.specs.Lowering.{Types, Enumerations, Frame, some_constant, type_of, link, number, pending_of, handed, value_handed, chosen, choices, joined, idle_value, idle, from_eqn, on_word, state_switch, state_eqns, choosing_eqns, strong_eqns, own_next, stays, frame_eqns, kept, all_kept}
+use Rattle.hp_automata.specs.Lowering.{Types, Enumerations, Frame, some_constant, type_of, link, number, pending_of, handed, value_handed, chosen, choices, joined, idle_value, idle, from_eqn, on_word, state_switch, state_eqns, own_next, stays, frame_eqns, kept, all_kept}
 use Rattle.law_equations.specs.Flattened.Flatten.{Prefix, below}
 use Rattle.hp_watch.specs.Walk.{walk, walk_conditions}
 use Rattle.law_choices.specs.Places.Spots.{Spot, compared, spots, spots_of_block, spots_of_eqns, spots_of_eqn}

@@ -1,24 +1,23 @@
 -- A walk over the tree takes the events of what is made of it without automata.
-use Rattle.std.proofs.Common.{◌≡◌, ℕ, List, [], ◌∷◌, ◌++◌, map, length, refl, sym, ap, ap₂, ◌∙◌}
-use Rattle.std.specs.Prelude.{Bool, true, false, drop, ◌+◌}
+use Rattle.std.proofs.Common.{◌≡◌, ℕ, List, [], ◌∷◌, ◌++◌, length, refl, sym, ap, ap₂, ◌∙◌}
+use Rattle.std.specs.Prelude.{drop, ◌+◌}
 use Rattle.std.proofs.lemmas.List.{append_assoc, append-nil}
 use Rattle.hp_base.specs.declared.span.Span.{Span}
 use Rattle.hp_tree.specs.declared.block.Trans.{Trans}
-use Rattle.hp_tree.specs.Expressions.{Expr}
-use Rattle.hp_tree.specs.Blocks.{Block, block, Eqns, no_eqn, more_eqns, Eqn, define, switch, reset, automaton, Arms, no_arm, more_arms, States, no_state, more_states, eqns_of}
+use Rattle.hp_tree.specs.Blocks.{Block, block, Eqns, no_eqn, more_eqns, Eqn, define, switch, reset, automaton, Arms, no_arm, more_arms, States, no_state, more_states}
 use Rattle.hp_tree.specs.Programs.{Node}
 use Rattle.hp_tree.specs.Instant.{Body, Equations, Head, Tail, Right, Test, Arms as ArmsOf, States as StatesOf, Until, Unless}
 use Rattle.hp_tables.specs.Defining.Names.{names_of_arms}
 use Rattle.hp_automata.specs.declared.new_names.Word.TheVariants.{Strong, Weak}
 use Rattle.hp_automata.specs.Names.{once}
 use Rattle.hp_automata.specs.Renaming.{renamed}
-use Rattle.hp_automata.specs.Lowering.{Types, Enumerations, Frame, declaring, inner, frame, pending_of, stays, choices, own_next, idle, state_eqns, frame_eqns, joined, all_kept, same_name, types_of, lowered_block, lowered_eqns, lowered_eqn, lowered_arms, lowered_states, lowered_body, lowered_node}
+use Rattle.hp_automata.specs.Lowering.{Types, Enumerations, Frame, declaring, inner, frame, pending_of, stays, choices, idle, frame_eqns, joined, all_kept, same_name, types_of, lowered_block, lowered_eqns, lowered_eqn, lowered_arms, lowered_states, lowered_body, lowered_node}
 use Rattle.law_equations.specs.Flattened.Flatten.{Prefix, below}
 use Rattle.hp_watch.specs.Walk.{Walked, behind as later, before, walk, walk_conditions, walk_block, walk_eqns, walk_eqn, walk_arms, walk_states}
-use Rattle.law_choices.specs.Places.Spots.{Spot, spots, spots_of_block, spots_of_eqns, spots_of_eqn, spots_of_arms, spots_of_node}
+use Rattle.law_choices.specs.Places.Spots.{Spot, spots, spots_of_block, spots_of_eqn, spots_of_arms, spots_of_node}
 use Rattle.law_choices.specs.Places.Found.{Both, behind, behind_state, at_states, at_body, found, found_in_conditions, found_in_block, found_in_eqns, found_in_eqn, found_in_arms, found_in_states, found_in_body, found_in_node}
 use Rattle.law_choices.specs.Places.Laws.{WalkLaw}
-use Rattle.law_choices.proofs.PlacesLemmas.Expressions.{made, made-append, Takes, takes-two, found-as, expr-takes}
+use Rattle.law_choices.proofs.PlacesLemmas.Expressions.{made, made-append, Takes, takes-two, expr-takes}
 use Rattle.law_choices.proofs.PlacesLemmas.Rows.{behind-map, R, rows-append, kept-none, frame-none, idle-none, conditions-take, state-rows, body-rows}
 
 -- what is found before stands behind

@@ -1,6 +1,6 @@
 -- The comparisons and calls of a part in the order of slots, each with the place where it stands in the program without automata.
 -- Source: own. The order is that of a node's free places (`hp_meaning/specs/Contract/Slots.antt`): each operator before its operands; the body of a `reset` before its condition; of a state its body, then `until`, then `unless`.
-use Rattle.std.specs.Prelude.{ℕ, Bool, if◌then◌else◌, List, [], ◌∷◌, ◌++◌}
+use Rattle.std.specs.Prelude.{ℕ, if◌then◌else◌, List, [], ◌∷◌, ◌++◌}
 use Rattle.hp_tree.specs.declared.block.Trans.{Trans}
 use Rattle.hp_tree.specs.declared.expr.Op2.{Op2}
 use Rattle.hp_tree.specs.Expressions.{Expr, constant, variable, last_of, one, two, choose, pre, fby, arrow, when_is, merge, call, Exprs, no_expr, more_exprs, Parts, no_part, more_parts}

@@ -4,7 +4,7 @@ use Rattle.std.specs.Prelude.{ℕ, ◌≡◌, List, [], ◌∷◌, length, map, 
 use Rattle.hp_tree.specs.Blocks.{Decl}
 use Rattle.hp_tree.specs.Programs.{Node}
 use Rattle.hp_flat.specs.declared.equation.Atom.{Atom}
-use Rattle.hp_flat.specs.Equations.{Right, operator, called as call_of, FlatEqn}
+use Rattle.hp_flat.specs.Equations.{operator, called as call_of, FlatEqn}
 use Rattle.hp_automata.specs.Lowering.{Enumerations, lowered_node}
 use Rattle.law_automata.specs.Lowered.Standing.{Along}
 use Rattle.law_equations.specs.Flattened.Flatten.{obc_two}
