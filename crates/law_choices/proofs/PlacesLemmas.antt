@@ -6,3 +6,4 @@ pub mod Events
 pub mod Relating
 pub mod Counting
 pub mod Numbers
+pub mod Slots

@@ -3,7 +3,7 @@
 //! The functions here do nothing: each is a law, which its contract states. What variable stands for which place is not said here.
 #![tactic(auto)]
 
-ghost use Rattle.law_choices.specs.Places.Laws.{CountLaw, EventsLaw, FoundLaw, WalkLaw};
+ghost use Rattle.law_choices.specs.Places.Laws.{CountLaw, EventsLaw, FoundLaw, SlotsLaw, WalkLaw};
 
 /// The equations of comparisons and calls that are made of a node without automata are those of its comparisons and calls, in turn: with that operator and one target, or with that callee and a target for each output.
 pub fn events_are_places()
@@ -15,4 +15,9 @@ pub fn walks_find_places()
     ensures places { WalkLaw }
     ensures numbers { FoundLaw }
     ensures count { CountLaw }
+{}
+
+/// The free places of a block are some of the places that the walk finds, in their order, where the contracts of callees compare no integers.
+pub fn free_places_are_found()
+    ensures { SlotsLaw }
 {}

@@ -1,17 +1,20 @@
 -- The comparisons and calls that are made of a node are those of its places, in the order of making; and a walk over the tree finds each of them.
 -- Source: own.
-use Rattle.std.specs.Prelude.{ℕ, ◌≡◌, List, [], ◌∷◌, length, map, filter, slice_get, Some}
-use Rattle.hp_tree.specs.Blocks.{Decl}
-use Rattle.hp_tree.specs.Programs.{Node}
+use Rattle.std.specs.Prelude.{ℕ, ◌≡◌, ◌⊎◌, ◌++◌, List, [], ◌∷◌, length, map, filter, slice_get, Some}
+use Rattle.hp_tree.specs.Blocks.{Decl, Block}
+use Rattle.hp_tree.specs.Programs.{TypeDecl, Node}
+use Rattle.hp_tree.specs.ExpressionTypes.{Scope}
+use Rattle.hp_tree.specs.Instant.{Place}
 use Rattle.hp_flat.specs.declared.equation.Atom.{Atom}
 use Rattle.hp_flat.specs.Equations.{operator, called as call_of, FlatEqn}
+use Rattle.hp_meaning.specs.Contract.Slots.{Slot, FreePlace, free_among, slots_of_block}
 use Rattle.hp_automata.specs.Lowering.{Enumerations, lowered_node}
 use Rattle.law_automata.specs.Lowered.Standing.{Along}
-use Rattle.law_equations.specs.Flattened.Flatten.{obc_two}
+use Rattle.law_equations.specs.Flattened.Flatten.{Prefix, obc_two}
 use Rattle.law_equations.specs.Made.Making.{Known, outputs_of, sketch_node}
 use Rattle.hp_watch.specs.Walk.{is_event, events_from, in_block, walk_block}
 use Rattle.law_choices.specs.Places.Spots.{Spot, compared, called, spots_of_node}
-use Rattle.law_choices.specs.Places.Found.{found_in_node}
+use Rattle.law_choices.specs.Places.Found.{Both, found_in_block, found_in_node}
 
 -- ---- events
 
@@ -53,3 +56,26 @@ FoundLaw =
 -- There are as many events as the tree tells.
 abbrev pub CountLaw : Type 0
 CountLaw = (outputs : List ℕ → List (List ℕ)) (k : Known) (enums : Enumerations) (n : Node) → KnowsOutputs outputs k → length (events_from 0 (sketch_node k (lowered_node enums n)).eqns) ≡ in_block n.body
+
+-- ---- slots
+
+-- the places of a comparison or call
+abbrev pub places_of : Spot → List Place
+places_of (compared o p) = p ∷ []
+places_of (called f ps) = ps
+
+abbrev pub own_places : Both → List Place
+own_places [] = []
+own_places (s ∷ ss) = places_of s.0 ++ own_places ss
+
+-- some of a list, in its order
+abbrev pub IsPartOf : List Place → List Place → Type 0
+IsPartOf xs [] = xs ≡ []
+IsPartOf xs (y ∷ ys) = IsPartOf xs ys ⊎ ((rest : List Place) × (xs ≡ y ∷ rest) × IsPartOf rest ys)
+
+-- Where the contracts of callees compare no integers, the free places of a block are some of the places of its comparisons and calls, in the order in which a walk finds these.
+abbrev pub SlotsLaw : Type 0
+SlotsLaw =
+    (types : List TypeDecl) (outs : List ℕ → List Decl) (callee : List ℕ → Prefix → List Slot) (b : Block) (names : Scope) (w here : Prefix)
+    → ((f : List ℕ) (v : Prefix) → free_among (callee f v) ≡ [])
+    → IsPartOf (map (λ (q : FreePlace). q.0) (free_among (slots_of_block types outs callee b names w))) (own_places (found_in_block (λ f. map (λ (d : Decl). d.name) (outs f)) b w here))
