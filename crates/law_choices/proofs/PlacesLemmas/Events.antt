@@ -12,12 +12,13 @@ use Rattle.hp_tree.specs.Instant.{Body as BodyOf, Named, Equations, Head, Tail, 
 use Rattle.hp_tree.specs.Meaning.{controls_of}
 use Rattle.hp_flat.specs.declared.equation.Atom.{Atom}
 use Rattle.hp_flat.specs.declared.equation.Atom.TheVariants.{Variable}
-use Rattle.hp_flat.specs.Equations.{operator, register, called as call_of}
+use Rattle.hp_flat.specs.Equations.{operator, register, called as call_of, FlatEqn}
 use Rattle.law_automata.specs.Lowered.Standing.{Along}
 use Rattle.law_equations.specs.Flattened.Flatten.{Prefix, below, constant_in, is_false, obc_one, obc_two}
 use Rattle.law_equations.specs.Made.Making.{Known, Sketch, Site, Sight, Made, Standing, Body, Inner, next, with_outputs, value_of, type_of_value, constant_value, type_one, type_two, type_at, first_value, mux_at, register_at, flag_at, fby_at, arrow_at, by_constant, tested, or_new, part_at, merged_variable, on_site, off_site, cons_number, outputs_of, numbers_from, called_at, first_output, copy_of, atom_of, bind_all, bind_outputs, link_all, hidden, over, names_of_arms, names_of_block, names_of_eqns, each_once, in_block, with_flag, restart_site, base_site, unknown, no_entry, nothing_made, own_names, declared, remember_all, block_layer, enter_path, path_for, signed, sketch_expr, sketch_parts, sketch_exprs, sketch_right, sketch_block, sketch_eqns, sketch_eqn, sketch_arms, sketch_node}
+use Rattle.law_equations.specs.Made.Laws.{unplaced}
 use Rattle.hp_watch.specs.Walk.{compares, is_event}
-use Rattle.law_choices.specs.Places.Spots.{Spot, compared, call_spot, compared_spots, spots, spots_of_all, spots_of_parts, spots_of_block, spots_of_eqns, spots_of_eqn, spots_of_arms, spots_of_node}
+use Rattle.law_choices.specs.Places.Spots.{Spot, compared, called, call_spot, compared_spots, spots, spots_of_all, spots_of_parts, spots_of_block, spots_of_eqns, spots_of_eqn, spots_of_arms, spots_of_node}
 use Rattle.law_choices.specs.Places.Laws.{events, IsEventOf, KnowsOutputs, EventsLaw}
 use Rattle.law_choices.proofs.PlacesLemmas.Adding.{Adds, adds-two, adds-more, adds-none, adds-quiet, adds-event, quiet-one, compares-same, adds-value, adds-flag, adds-tested, adds-merged, adds-bind-all, adds-bind-outputs, adds-links, adds-names, adds-outputs, adds-lasts, adds-path, adds-signed}
 
@@ -307,5 +308,31 @@ module _ (outputs : List ℕ → List (List ℕ)) (k : Known) (knows : KnowsOutp
       (adds-lasts k base_site unknown n.outputs c))
       (block-adds n.body Body (over s.0 unknown) base_site (λ p. BodyOf ∷ p) s.1)
 
+-- Where equations stand does not matter.
+event_alike : (e x : FlatEqn) (s : Spot) → unplaced e ≡ unplaced x → IsEventOf x s → IsEventOf e s
+event_alike e x (compared o p) h is = (is.0, is.1, is.2, ap (λ (d : FlatEqn). d.right) h ∙ is.3, ap (λ (d : FlatEqn). d.targets) h ∙ is.4)
+event_alike e x (called f ps) h is = (is.0, ap (λ (d : FlatEqn). d.right) h ∙ is.1, ap (λ (d : FlatEqn). length d.targets) h ∙ is.2)
+
+heads_alike : (e x : FlatEqn) (es xs : List FlatEqn) → map unplaced (e ∷ es) ≡ map unplaced (x ∷ xs) → (unplaced e ≡ unplaced x) × (map unplaced es ≡ map unplaced xs)
+heads_alike e x es xs h = (cc, cc)
+
+events_alike : (es xs : List FlatEqn) (ss : List Spot) → map unplaced es ≡ map unplaced xs → Along IsEventOf (events xs) ss → Along IsEventOf (events es) ss
+events_alike [] [] ss h k = k
+events_alike [] (x ∷ xs) ss h k = absurd cc
+events_alike (e ∷ es) [] ss h k = absurd cc
+events_alike (e ∷ es) (x ∷ xs) ss h k =
+    let both = heads_alike e x es xs h in
+    by (is_event e.right) (is_event x.right) ss (ap (λ (d : FlatEqn). is_event d.right) both.0) k (λ ts g. events_alike es xs ts both.1 g) both.0
+  where
+    by : (b c : Bool) (ss : List Spot) → b ≡ c → Along IsEventOf (if c then x ∷ events xs else events xs) ss → ((ts : List Spot) → Along IsEventOf (events xs) ts → Along IsEventOf (events es) ts) → unplaced e ≡ unplaced x
+        → Along IsEventOf (if b then e ∷ events es else events es) ss
+    by true true [] q k rest h = absurd k
+    by true true (s ∷ ss) q k rest h = (event_alike e x s h k.0, rest ss k.1)
+    by true false ss q k rest h = absurd cc
+    by false true ss q k rest h = absurd cc
+    by false false ss q k rest h = rest ss k
+
 pub events-are : EventsLaw
-events-are outputs k n knows = let h = node-adds outputs k knows n in subst (λ es. Along IsEventOf (events es) (spots_of_node outputs n)) (sym h.1) h.2
+events-are outputs k n es knows are =
+    let h = node-adds outputs k knows n in
+    events_alike es (sketch_node k n).eqns (spots_of_node outputs n) are (subst (λ xs. Along IsEventOf (events xs) (spots_of_node outputs n)) (sym h.1) h.2)

@@ -7,11 +7,11 @@ use Rattle.hp_tree.specs.declared.expr.Op2.TheVariants.{Eq}
 use Rattle.hp_flat.specs.Equations.{FlatEqn}
 use Rattle.hp_automata.specs.Lowering.{Enumerations, lowered_node}
 use Rattle.law_automata.specs.Lowered.Standing.{Along}
-use Rattle.law_equations.specs.Made.Making.{Known, sketch_node}
+use Rattle.law_equations.specs.Made.Making.{Known}
 use Rattle.hp_watch.specs.Walk.{is_event, events_from, in_block, walk_block}
 use Rattle.law_choices.specs.Places.Spots.{Spot, compared, spots_of_node}
 use Rattle.law_choices.specs.Places.Found.{found_in_node}
-use Rattle.law_choices.specs.Places.Laws.{events, IsEventOf, IsNumberOf, KnowsOutputs, FoundLaw, CountLaw}
+use Rattle.law_choices.specs.Places.Laws.{events, IsEventOf, IsNumberOf, KnowsOutputs, AreMadeOf, FoundLaw, CountLaw}
 use Rattle.law_choices.proofs.PlacesLemmas.Expressions.{made}
 use Rattle.law_choices.proofs.PlacesLemmas.Walks.{node-takes, walk-finds}
 use Rattle.law_choices.proofs.PlacesLemmas.Events.{events-are}
@@ -43,15 +43,12 @@ numbered front (e ∷ es) ss h = by (is_event e.right) ss h (λ ss h. later ss (
     by true (s ∷ ss) h rest = ((e, get-behind front e es, h.0), rest ss h.1)
     by false ss h rest = rest ss h
 
-module _ (outputs : List ℕ → List (List ℕ)) (k : Known) (enums : Enumerations) (n : Node) (knows : KnowsOutputs outputs k) where
-  abbrev es : List FlatEqn
-  es = (sketch_node k (lowered_node enums n)).eqns
-
+module _ (outputs : List ℕ → List (List ℕ)) (k : Known) (enums : Enumerations) (n : Node) (es : List FlatEqn) (knows : KnowsOutputs outputs k) (are : AreMadeOf k (lowered_node enums n) es) where
   abbrev ss : List Spot
   ss = spots_of_node outputs (lowered_node enums n)
 
   numbers : Along (IsNumberOf es) (events_from 0 es) ss
-  numbers = numbered [] es ss (events-are outputs k (lowered_node enums n) knows)
+  numbers = numbered [] es ss (events-are outputs k (lowered_node enums n) es knows are)
 
   nothing_left : (xs : List ℕ) (ys : List Spot) → ys ≡ [] → Along (IsNumberOf es) xs ys → xs ≡ []
   nothing_left [] ys e h = refl
@@ -75,7 +72,7 @@ module _ (outputs : List ℕ → List (List ℕ)) (k : Known) (enums : Enumerati
       along-length (IsNumberOf es) (events_from 0 es) ss numbers ∙ (omega (arith, long))
 
 pub found-law : FoundLaw
-found-law outputs k enums n knows = found outputs k enums n knows
+found-law outputs k enums n es knows are = found outputs k enums n es knows are
 
 pub count-law : CountLaw
-count-law outputs k enums n knows = counted outputs k enums n knows
+count-law outputs k enums n es knows are = counted outputs k enums n es knows are

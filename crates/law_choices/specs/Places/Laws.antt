@@ -12,6 +12,7 @@ use Rattle.hp_automata.specs.Lowering.{Enumerations, lowered_node}
 use Rattle.law_automata.specs.Lowered.Standing.{Along}
 use Rattle.law_equations.specs.Flattened.Flatten.{Prefix, obc_two}
 use Rattle.law_equations.specs.Made.Making.{Known, outputs_of, sketch_node}
+use Rattle.law_equations.specs.Made.Laws.{unplaced}
 use Rattle.hp_watch.specs.Walk.{is_event, events_from, in_block, walk_block}
 use Rattle.law_choices.specs.Places.Spots.{Spot, compared, called, spots_of_node}
 use Rattle.law_choices.specs.Places.Found.{Both, found_in_block, found_in_node}
@@ -31,9 +32,13 @@ IsEventOf e (called f ps) = (args : List Atom) × (e.right ≡ call_of f args) �
 abbrev pub KnowsOutputs : (List ℕ → List (List ℕ)) → Known → Type 0
 KnowsOutputs outputs k = (f : List ℕ) → outputs f ≡ map (λ (d : Decl). d.name) (outputs_of (k.nodes f))
 
+-- equations that are made of a node, whatever their places are
+abbrev pub AreMadeOf : Known → Node → List FlatEqn → Type 0
+AreMadeOf k n es = map unplaced es ≡ map unplaced (sketch_node k n).eqns
+
 -- The events that are made of a node without automata are those of its comparisons and calls, in turn.
 abbrev pub EventsLaw : Type 0
-EventsLaw = (outputs : List ℕ → List (List ℕ)) (k : Known) (n : Node) → KnowsOutputs outputs k → Along IsEventOf (events (sketch_node k n).eqns) (spots_of_node outputs n)
+EventsLaw = (outputs : List ℕ → List (List ℕ)) (k : Known) (n : Node) (es : List FlatEqn) → KnowsOutputs outputs k → AreMadeOf k n es → Along IsEventOf (events es) (spots_of_node outputs n)
 
 -- ---- the walk
 
@@ -48,14 +53,13 @@ IsNumberOf es i s = (e : FlatEqn) × (slice_get es i ≡ Some e) × IsEventOf e 
 -- So a walk over a node, beside the numbers of the events that are made of it without automata, finds those of its comparisons and calls in the order of slots, and leaves none.
 abbrev pub FoundLaw : Type 0
 FoundLaw =
-    (outputs : List ℕ → List (List ℕ)) (k : Known) (enums : Enumerations) (n : Node) → KnowsOutputs outputs k
-    → (let es = (sketch_node k (lowered_node enums n)).eqns in
-    let w = walk_block n.body (events_from 0 es) in
-    Along (IsNumberOf es) w.0 (map (λ (s : Spot × Spot). s.1) (found_in_node outputs n)) × (w.1 ≡ []))
+    (outputs : List ℕ → List (List ℕ)) (k : Known) (enums : Enumerations) (n : Node) (es : List FlatEqn) → KnowsOutputs outputs k → AreMadeOf k (lowered_node enums n) es
+    → Along (IsNumberOf es) (walk_block n.body (events_from 0 es)).0 (map (λ (s : Spot × Spot). s.1) (found_in_node outputs n)) × ((walk_block n.body (events_from 0 es)).1 ≡ [])
 
 -- There are as many events as the tree tells.
 abbrev pub CountLaw : Type 0
-CountLaw = (outputs : List ℕ → List (List ℕ)) (k : Known) (enums : Enumerations) (n : Node) → KnowsOutputs outputs k → length (events_from 0 (sketch_node k (lowered_node enums n)).eqns) ≡ in_block n.body
+CountLaw =
+    (outputs : List ℕ → List (List ℕ)) (k : Known) (enums : Enumerations) (n : Node) (es : List FlatEqn) → KnowsOutputs outputs k → AreMadeOf k (lowered_node enums n) es → length (events_from 0 es) ≡ in_block n.body
 
 -- ---- slots
 
