@@ -7,3 +7,5 @@ pub mod Relating
 pub mod Counting
 pub mod Numbers
 pub mod Slots
+pub mod Absent
+pub mod Values

@@ -4,6 +4,7 @@
 #![tactic(auto)]
 
 ghost use Rattle.law_choices.specs.Places.Laws.{CountLaw, EventsLaw, FoundLaw, SlotsLaw, WalkLaw};
+ghost use Rattle.law_choices.specs.Places.Values.{ValuesLaw};
 
 /// The equations of comparisons and calls that are made of a node without automata are those of its comparisons and calls, in turn: with that operator and one target, or with that callee and a target for each output.
 pub fn events_are_places()
@@ -20,4 +21,9 @@ pub fn walks_find_places()
 /// The free places of a block are some of the places that the walk finds, in their order, where the contracts of callees compare no integers.
 pub fn free_places_are_found()
     ensures { SlotsLaw }
+{}
+
+/// Where an instant without automata stands for one of the program, what the walk finds outside of transitions has the same values in both, wherever it is there.
+pub fn found_places_keep_values()
+    ensures { ValuesLaw }
 {}
