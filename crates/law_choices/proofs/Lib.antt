@@ -12,3 +12,4 @@ pub mod FlatLemmas
 mod StreamsLemmas
 pub mod ChosenLemmas
 pub mod OnceLemmas
+pub mod PlacesLemmas

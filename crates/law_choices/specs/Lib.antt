@@ -12,3 +12,4 @@ pub mod Flat
 pub mod Streams
 pub mod Chosen
 pub mod Once
+pub mod Places

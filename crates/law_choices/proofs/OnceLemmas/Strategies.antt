@@ -11,9 +11,10 @@ use Rattle.hp_tree.specs.Meaning.{controls_of}
 use Rattle.hp_meaning.specs.Contract.Game.{Choice}
 use Rattle.hp_meaning.specs.Contract.ChosenRuns.{ChoiceRule}
 use Rattle.hp_meaning.specs.Contract.SteeredRuns.{Strategy, IsStrategy}
+use Rattle.hp_meaning.proofs.CausalLemmas.Choices.{and_true}
 use Rattle.law_choices.specs.Once.Laws.{IsDetermined}
 use Rattle.law_choices.proofs.OnceLemmas.Deciding.{Same, same_values, same_node, told, told_same}
-use Rattle.law_choices.proofs.OnceLemmas.Tests.{Known, Test, both_true, first_false, second_false, all_pass, both, alike}
+use Rattle.law_choices.proofs.OnceLemmas.Tests.{Known, Test, first_false, second_false, all_pass, both, alike}
 
 -- a choice, with what was known before it
 abbrev pub Made : Type 0
@@ -101,7 +102,7 @@ module _ (program : List Item) where
 
     longer_makes : IsTrue (t.of k) → c ≡ longer k.node k.history k.inputs k.early
     longer_makes h =
-        made_so (told (same_node k.node k.node) && t.of k) c (s k.node k.history k.inputs k.early) (both_true (told (same_node k.node k.node)) (t.of k) (told_same (same_node k.node k.node) refl) h)
+        made_so (told (same_node k.node k.node) && t.of k) c (s k.node k.history k.inputs k.early) (and_true (told (same_node k.node k.node)) (t.of k) (told_same (same_node k.node k.node) refl) h)
 
     longer_still : (ms : List Made) → Spared t.of c ms → Makes s ms → Makes longer ms
     longer_still [] h makes = tt
@@ -132,7 +133,7 @@ module _ (program : List Item) where
         with_it t (inl e) = none (t.0, t.1, (inl e, t.2))
         with_it t (inr f) =
             told_apart m l h k.0 (λ e. f (sym e))
-            (λ u. none (both program u.0 t.0, both_true (u.0.of m.0) (t.0.of m.0) u.1 t.1, (inr (first_false (u.0.of l.0) (t.0.of l.0) u.2), spared_both u.0 t.0 m.1 ms t.2)))
+            (λ u. none (both program u.0 t.0, and_true (u.0.of m.0) (t.0.of m.0) u.1 t.1, (inr (first_false (u.0.of l.0) (t.0.of l.0) u.2), spared_both u.0 t.0 m.1 ms t.2)))
 
     abbrev all_absent : Strategy
     all_absent n history inputs early = map (λ (d : Decl). Absent) (controls_of n.contract)

@@ -7,6 +7,7 @@ use Rattle.hp_tree.specs.declared.program.Item.{Item}
 use Rattle.hp_tree.specs.Programs.{Node}
 use Rattle.hp_tree.specs.Instant.{Place, Instant, Past, nothing}
 use Rattle.hp_meaning.specs.Contract.FreePlaces.{IsEarly}
+use Rattle.hp_meaning.proofs.CausalLemmas.Choices.{and_true}
 use Rattle.law_choices.proofs.OnceLemmas.Deciding.{Same, same_value, same_values, same_node, told, told_same, told_other}
 
 -- what is known before a choice
@@ -24,15 +25,12 @@ pub record Test (program : List Item) : Type 0 where
   pub of : Known → Bool
   pub early_alone : (k : Known) (other : Instant) → ((p : Place) → IsEarly program k.node p → k.early p ≡ other p) → of k ≡ of (known_with k other)
 
+-- the same, but at places that are not early
 pub record Alike (program : List Item) (k l : Known) : Type 0 where
   pub node : k.node ≡ l.node
   pub history : k.history ≡ l.history
   pub inputs : k.inputs ≡ l.inputs
   pub early : (p : Place) → IsEarly program k.node p → k.early p ≡ l.early p
-
-pub both_true : (a b : Bool) → IsTrue a → IsTrue b → IsTrue (a && b)
-both_true true b h k = k
-both_true false b h k = h
 
 pub first_false : (a b : Bool) → IsFalse a → IsFalse (a && b)
 first_false true b h = absurd (cc)
@@ -121,5 +119,5 @@ module _ (program : List Item) where
       by_place same p is (inl e) = e
       by_place same p is (inr f) =
           absurd (none (of_early k.node p is (k.early p))
-          (both_true (told (same_node k.node k.node)) (told (same_value (k.early p) (k.early p))) (told_same (same_node k.node k.node) refl) (told_same (same_value (k.early p) (k.early p)) refl))
+          (and_true (told (same_node k.node k.node)) (told (same_value (k.early p) (k.early p))) (told_same (same_node k.node k.node) refl) (told_same (same_value (k.early p) (k.early p)) refl))
           (second_false (told (same_node k.node l.node)) (told (same_value (k.early p) (l.early p))) (told_other (same_value (k.early p) (l.early p)) f)))

@@ -1,0 +1,11 @@
+pub mod Expressions
+pub mod Rows
+pub mod Walks
+pub mod Adding
+pub mod Events
+pub mod Relating
+pub mod Counting
+pub mod Numbers
+pub mod Slots
+pub mod Absent
+pub mod Values

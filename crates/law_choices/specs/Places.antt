@@ -1,0 +1,4 @@
+pub mod Spots
+pub mod Found
+pub mod Laws
+pub mod Values
