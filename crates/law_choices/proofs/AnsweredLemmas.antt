@@ -1,0 +1,3 @@
+pub mod OneLoop
+pub mod LoopKinds
+pub mod Loops
