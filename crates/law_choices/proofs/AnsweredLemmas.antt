@@ -1,3 +1,4 @@
 pub mod OneLoop
+pub mod Extended
 pub mod LoopKinds
 pub mod Loops

@@ -1,8 +1,7 @@
 -- The kinds of what a closed node takes, and of its controllable variables, are those of the plant.
 use Rattle.std.proofs.Common.{◌≡◌, ℕ, zero, suc, ◌+◌, ◌<◌, ◌≤◌, Bool, true, false, ◌||◌, nat_lt, List, [], ◌∷◌, ◌++◌, length, map, get_or, refl, sym, ap, ap₂, subst, ◌∙◌, arith}
 use Rattle.std.specs.List.{AllByRecursion, range_with_len}
-use Rattle.hp_base.specs.Kinds.{KindData, IsOfKind, AreOfKinds}
-use Rattle.hp_base.specs.declared.value.Value.{Value}
+use Rattle.hp_base.specs.Kinds.{KindData, AreOfKinds}
 use Rattle.hp_flat.specs.declared.node.FlatTy.TheVariants.{Int as FlatInt}
 use Rattle.hp_flat.specs.declared.node.Variable.{Variable}
 use Rattle.hp_flat.specs.Nodes.{FlatNode}
@@ -84,7 +83,7 @@ module _ (types : List ObcType) (controls : ℕ) (l : Loop) (loop : IsLoop contr
   -- the kinds of the inputs of the plant are those of the inputs of the closed node, with those of the controllable variables behind them
   inputs_parts : kinds_at types l.plant (inputs_of l.plant) ≡ kinds_at types l.closed (inputs_of l.closed) ++ kinds_at types l.closed (range_with_len l.closed.inputs controls)
   inputs_parts =
-      let within = loop.inputs_within in
+      let within = loop.within in
       let start : 0 + l.closed.inputs ≡ l.closed.inputs = omega arith in
       sym (kinds_same (range_with_len 0 l.plant.inputs) (range_within (length l.plant.variables) 0 l.plant.inputs (omega (arith, within))))
       ∙ ap (λ k. kinds_at types l.closed (range_with_len 0 k)) loop.inputs

@@ -11,7 +11,7 @@ use Rattle.hp_obc.specs.Machines.{ObcType}
 use Rattle.hp_obc.specs.Steps.{Names}
 use Rattle.hp_flat.specs.Nodes.{FlatNode}
 use Rattle.law_equations.specs.Meaning.Instants.{Instant}
-use Rattle.law_equations.specs.Meaning.Kinding.{Callees, IsWellMade, IsPossible, AnswersOfKinds, AllOfKinds, kinds_at, OneReaction, OneReactionLaw}
+use Rattle.law_equations.specs.Meaning.Kinding.{Callees, IsWellMade, IsPossible, AnswersOfKinds, kinds_at, OneReaction, OneReactionLaw}
 use Rattle.law_equations.specs.Meaning.Reactions.{Answers, Reaction, inputs_of}
 use Rattle.law_equations.specs.Followed.Programs.{Answered}
 use Rattle.law_equations.specs.Shaped.Shaped.{IsHeaded}
@@ -19,11 +19,11 @@ use Rattle.law_choices.specs.OnClocks.Meaning as plain
 use Rattle.law_choices.specs.OnClocks.Meaning.{HasSome, HasOneMeaning}
 use Rattle.law_choices.specs.Choosing.Choices.{Choice, Choices, IsSteered}
 use Rattle.law_choices.specs.Choosing.Meaning.{AreInTurn, GivesAnswers}
-use Rattle.law_choices.specs.Answered.Loops.{Loop, IsLoop, IsClosed, IsItsChoice, plants, HaveClosed, AreClosed, AreTheirChoices, AnswersChosen, LoopsLaw}
+use Rattle.law_choices.specs.Answered.Loops.{Loop, IsLoop, IsItsChoice, plants, HaveClosed, AreClosed, AreTheirChoices, LoopsLaw}
 use Rattle.law_choices.proofs.OnClocksLemmas.Clamped.{all_clamped, all_clamped_are, each_clamped_are, each_clamped_stay}
 use Rattle.law_choices.proofs.OnClocksLemmas.Meanings.{kinds_some}
 use Rattle.law_choices.proofs.AnsweredLemmas.OneLoop.{loop_law}
-use Rattle.law_choices.proofs.AnsweredLemmas.LoopKinds.{SameKinds, same_kinds, values_of_kinds}
+use Rattle.law_choices.proofs.AnsweredLemmas.LoopKinds.{same_kinds, values_of_kinds}
 
 -- ---- lists
 

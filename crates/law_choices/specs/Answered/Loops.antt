@@ -11,9 +11,9 @@ use Rattle.hp_flat.specs.Equations.{FlatEqn}
 use Rattle.hp_flat.specs.Nodes.{FlatNode}
 use Rattle.law_equations.specs.Meaning.Instants.{Instant}
 use Rattle.law_equations.specs.Meaning.Kinding.{Callees}
-use Rattle.law_equations.specs.Meaning.Reactions.{Answers, Reaction, is_set}
+use Rattle.law_equations.specs.Meaning.Reactions.{Answers, Reaction, is_set, outputs_at}
 use Rattle.law_equations.specs.Meaning.Scheduling.{AreBelow}
-use Rattle.hp_controller.specs.Extending.{Extends, cut, rows_with}
+use Rattle.hp_controller.specs.Extending.{Extends, rows_with}
 use Rattle.law_choices.specs.OnClocks.Meaning as plain
 use Rattle.law_choices.specs.OnClocks.Meaning.{HasSome, HasOneMeaning}
 use Rattle.law_choices.specs.Choosing.Choices.{Choice, Choices}
@@ -26,28 +26,39 @@ pub record Loop : Type 0 where
   pub plant : FlatNode
   pub closed : FlatNode
 
--- what both share: name, outputs and the first variables; the last inputs of the plant, so many, are defined in the closed node at each instant
+-- Both have one name, and the closed node has the variables of the plant and more. The last inputs of the plant, so many, are defined in the closed node at each instant.
 pub record IsLoop (controls : ℕ) (l : Loop) : Type 0 where
   pub name : l.closed.name ≡ l.plant.name
   pub inputs : l.plant.inputs ≡ l.closed.inputs + controls
-  pub outputs : l.closed.outputs ≡ l.plant.outputs
+  pub within : l.plant.inputs ≤ length l.plant.variables
   pub variables : (more : List Variable) × (l.closed.variables ≡ l.plant.variables ++ more)
-  pub inputs_within : l.plant.inputs ≤ length l.plant.variables
-  pub outputs_within : AreBelow (length l.plant.variables) l.plant.outputs
   pub defined : (now : Instant) → AllByRecursion (λ x. is_set l.closed.eqns now x ≡ true) (range_with_len l.closed.inputs controls)
 
--- Each reaction of the closed node, in the variables of the plant, is one of the plant over its inputs and the values of the controllable variables.
-abbrev pub Follows : Answers → ℕ → Loop → Type 0
-Follows answers controls l =
-    (rows : List (List Value)) (instants : List Instant) → Reaction answers l.closed rows instants → Reaction answers l.plant (rows_with l.closed.inputs controls rows instants) (map (cut (length l.plant.variables)) instants)
+-- The plant has a reaction with the same outputs over the inputs and the values of the controllable variables in a reaction of the closed node.
+pub record IsFollowed (answers : Answers) (controls : ℕ) (l : Loop) (rows : List (List Value)) (instants : List Instant) : Type 0 where
+  pub followed : List Instant
+  pub reaction : Reaction answers l.plant (rows_with l.closed.inputs controls rows instants) followed
+  pub outputs : map (outputs_at l.plant) followed ≡ map (outputs_at l.closed) instants
 
+-- So it is of each reaction of the closed node.
 pub record IsClosed (answers : Answers) (controls : ℕ) (l : Loop) : Type 0 where
   pub loop : IsLoop controls l
-  pub follows : Follows answers controls l
+  pub follows : (rows : List (List Value)) (instants : List Instant) → Reaction answers l.closed rows instants → IsFollowed answers controls l rows instants
+
+-- the outputs of both are these variables of the plant
+pub record SameOutputs (l : Loop) : Type 0 where
+  pub outputs : l.closed.outputs ≡ l.plant.outputs
+  pub within : AreBelow (length l.plant.variables) l.plant.outputs
 
 -- So it is where the equations of the plant stay, and those behind them define the controllable variables and new ones, whatever nodes answer.
 abbrev pub ExtendedLoopLaw : Type 0
-ExtendedLoopLaw = (controls : ℕ) (more : List FlatEqn) (l : Loop) → IsLoop controls l → Extends l.plant l.closed controls more → (answers : Answers) → IsClosed answers controls l
+ExtendedLoopLaw = (controls : ℕ) (more : List FlatEqn) (l : Loop) → IsLoop controls l → SameOutputs l → Extends l.plant l.closed controls more → (answers : Answers) → IsClosed answers controls l
+
+-- A node may be extended before it is closed.
+abbrev pub ThenLaw : Type 0
+ThenLaw =
+    (controls : ℕ) (first more : List FlatEqn) (plant middle closed : FlatNode) → IsLoop 0 (record { plant = plant; closed = middle }) → Extends plant middle 0 first → IsLoop controls (record { plant = middle; closed = closed }) → Extends middle closed controls more
+    → IsLoop controls (record { plant = plant; closed = closed }) × Extends plant closed controls (first ++ more)
 
 -- A choice is that of the closed node: at the newest instant of each of its reactions over inputs of the kinds, these are the values of the controllable variables.
 abbrev pub IsItsChoice : Answers → List KindData → ℕ → FlatNode → Choice → Type 0
