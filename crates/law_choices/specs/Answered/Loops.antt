@@ -4,6 +4,7 @@ use Rattle.std.specs.Prelude.{◌≡◌, ℕ, ◌+◌, ◌≤◌, true, List, []
 use Rattle.std.specs.List.{AllByRecursion, Contains, range_with_len}
 use Rattle.hp_base.specs.Kinds.{KindData, AreOfKinds}
 use Rattle.hp_base.specs.declared.value.Value.{Value}
+use Rattle.hp_boolx.specs.Machine.{Machine}
 use Rattle.hp_obc.specs.Machines.{ObcType}
 use Rattle.hp_obc.specs.Steps.{Names}
 use Rattle.hp_flat.specs.declared.node.Variable.{Variable}
@@ -13,6 +14,8 @@ use Rattle.law_equations.specs.Meaning.Instants.{Instant}
 use Rattle.law_equations.specs.Meaning.Kinding.{Callees}
 use Rattle.law_equations.specs.Meaning.Reactions.{Answers, Reaction, is_set, outputs_at}
 use Rattle.law_equations.specs.Meaning.Scheduling.{AreBelow}
+use Rattle.hp_controller.specs.declared.decoding.Control.{Control}
+use Rattle.hp_controller.specs.Controlled.{controlled, IsControllable}
 use Rattle.hp_controller.specs.Extending.{Extends, rows_with}
 use Rattle.law_choices.specs.OnClocks.Meaning as plain
 use Rattle.law_choices.specs.OnClocks.Meaning.{HasSome, HasOneMeaning}
@@ -59,6 +62,11 @@ abbrev pub ThenLaw : Type 0
 ThenLaw =
     (controls : ℕ) (first more : List FlatEqn) (plant middle closed : FlatNode) → IsLoop 0 (record { plant = plant; closed = middle }) → Extends plant middle 0 first → IsLoop controls (record { plant = middle; closed = closed }) → Extends middle closed controls more
     → IsLoop controls (record { plant = plant; closed = closed }) × Extends plant closed controls (first ++ more)
+
+-- The node that asks a controller has equations for its controllable variables.
+abbrev pub ControlledLoopLaw : Type 0
+ControlledLoopLaw =
+    (n : FlatNode) (m : Machine) (name : List ℕ) (early late : List ℕ) (controls : List Control) → IsControllable n m early controls → IsLoop (length controls) (record { plant = n; closed = controlled n m name early late controls })
 
 -- A choice is that of the closed node: at the newest instant of each of its reactions over inputs of the kinds, these are the values of the controllable variables.
 abbrev pub IsItsChoice : Answers → List KindData → ℕ → FlatNode → Choice → Type 0
