@@ -13,3 +13,4 @@ mod StreamsLemmas
 pub mod ChosenLemmas
 pub mod OnceLemmas
 pub mod PlacesLemmas
+mod AnsweredLemmas

@@ -13,3 +13,4 @@ pub mod Streams
 pub mod Chosen
 pub mod Once
 pub mod Places
+pub mod Answered

@@ -106,7 +106,7 @@ module _ (choices : Choices) (program : List Item) (fills : List ℕ → Place �
       (all_answered before past r.0)
 
 -- answers that are alike on inputs of the kinds
-alike_answers : (answers others : Answers) (takes : Names (List KindData)) (f : List ℕ) → AnswersAlike answers others takes f → (inputs : List (List Value)) → AllByRecursion (AreOfKinds (takes f)) inputs → all_answers (others f) inputs ≡ all_answers (answers f) inputs
+pub alike_answers : (answers others : Answers) (takes : Names (List KindData)) (f : List ℕ) → AnswersAlike answers others takes f → (inputs : List (List Value)) → AllByRecursion (AreOfKinds (takes f)) inputs → all_answers (others f) inputs ≡ all_answers (answers f) inputs
 alike_answers answers others takes f alike [] h = refl
 alike_answers answers others takes f alike (args ∷ earlier) h = ap₂ (λ (vs : List Value) (all : List (List Value)). vs ∷ all) (alike args earlier h.0 h.1) (alike_answers answers others takes f alike earlier h.1)
 
@@ -116,7 +116,7 @@ both_kinds : (types : List ObcType) (k : Known) (xs ys : List Decl) → kinds_of
 both_kinds types k xs ys = map-append (λ (d : Decl). kind_of_type types (flat_type k.types d.ty)) xs ys
 
 module _ (types : List ObcType) (k : Known) where
-  in_turn : (names : List (List ℕ)) (items : List Item) (fs : List FlatNode) → AreTurned types k names items fs → AreInTurn types (calls_of types k) (λ f. kinds_of_decls types k (steered_by (k.nodes f))) names fs
+  pub in_turn : (names : List (List ℕ)) (items : List Item) (fs : List FlatNode) → AreTurned types k names items fs → AreInTurn types (calls_of types k) (λ f. kinds_of_decls types k (steered_by (k.nodes f))) names fs
   in_turn names [] [] t = tt
   in_turn names [] (f ∷ fs) t = absurd t
   in_turn names (TypeItem d ∷ items) fs t = in_turn names items fs t
