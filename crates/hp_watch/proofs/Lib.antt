@@ -1,2 +1,3 @@
 pub mod LiftLaws
 pub mod Rules
+pub mod WalkLaws

@@ -1,10 +1,23 @@
 -- Sets of lemmas that functions name.
+use Rattle.std.proofs.lemmas.List.{append-nil, append_assoc, take_all}
 use Rattle.hp_tree.proofs.Lists.{nodes-at, nodes-at_part}
 use Rattle.hp_tree.proofs.BlockLists.{lines-at_eqn, lines-at_arm, lines-at_state}
+use Rattle.hp_watch.proofs.WalkLaws.{all-found, all-left, all-met, parts-found, parts-left, parts-met, conditions-found, conditions-left, conditions-met, eqns-found, eqns-left, eqns-met, arms-found, arms-left, arms-met, states-found, states-left, states-met, events-next, drop-min}
 use Rattle.hp_watch.proofs.LiftLaws.{cases-next, lift-start, lift-next, lift-end, tests-next, either-next, either-end, bits-next, width-here, width-more}
 
--- an element of a list is no larger than the list
-pub ruleset sizes = (nodes-at, nodes-at_part, lines-at_eqn, lines-at_arm, lines-at_state)
+-- what is found behind what was found
+pub ruleset walked = (append_assoc, append-nil)
+
+-- and part by part; a part is no larger than the list that it stands in
+pub ruleset walked_exprs = (append_assoc, append-nil, all-found, all-left, all-met, parts-found, parts-left, parts-met, take_all, nodes-at, nodes-at_part)
+
+pub ruleset walked_conditions = (append_assoc, append-nil, conditions-found, conditions-left, conditions-met, take_all)
+
+pub ruleset walked_blocks = (append_assoc, append-nil, eqns-found, eqns-left, eqns-met, arms-found, arms-left, arms-met, states-found, states-left, states-met, take_all, lines-at_eqn, lines-at_arm, lines-at_state)
+
+pub ruleset events = (events-next)
+
+pub ruleset skipped = drop-min
 
 -- steps of a clock that are taken away
 pub ruleset cases = cases-next

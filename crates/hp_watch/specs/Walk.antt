@@ -6,7 +6,7 @@ use Rattle.hp_tree.specs.declared.expr.Op2.{Op2}
 use Rattle.hp_tree.specs.declared.expr.Op2.TheVariants as op
 use Rattle.hp_tree.specs.declared.block.Trans.{Trans}
 use Rattle.hp_tree.specs.Expressions.{Expr, Exprs, Parts, constant, variable, last_of, one, two, choose, pre, fby, arrow, when_is, merge, call, no_expr, more_exprs, no_part, more_parts}
-use Rattle.hp_tree.specs.Blocks.{Block, Eqns, Eqn, Arms, States, block, no_eqn, more_eqns, define, switch, reset, automaton, no_arm, more_arms, no_state, more_states}
+use Rattle.hp_tree.specs.Blocks.{Block, Eqns, Eqn, Arms, States, State, block, no_eqn, more_eqns, define, switch, reset, automaton, no_arm, more_arms, no_state, more_states}
 use Rattle.hp_tree.specs.Programs.{Contract}
 use Rattle.hp_obc.specs.declared.command.ObcOp.{ObcOp}
 use Rattle.hp_obc.specs.declared.command.ObcOp.TheVariants as machine
@@ -101,6 +101,9 @@ abbrev mutual
   in_states no_state = 0
   in_states (more_states x b until unless s qs) = in_conditions unless + for_a_state + in_conditions until + in_block b + in_states qs
 
+abbrev pub in_state : State → ℕ
+in_state q = in_conditions q.unless + for_a_state + in_conditions q.until + in_block q.body
+
 abbrev pub in_condition : Option Expr → ℕ
 in_condition None = 0
 in_condition (Some e) = in_expr e
@@ -156,6 +159,10 @@ module _ {X : Type 0} where
     walk_parts no_part es = ([], es)
     walk_parts (more_parts c e rest) es = let x = walk e es in behind x.0 (walk_parts rest x.1)
 
+  -- two expressions, one behind the other
+  abbrev pub both : Expr → Expr → List X → Walked X
+  both a b es = let x = walk a es in behind x.0 (walk b x.1)
+
   abbrev pub walk_conditions : List Trans → List X → Walked X
   walk_conditions [] es = ([], es)
   walk_conditions (t ∷ ts) es = let x = walk t.cond es in behind x.0 (walk_conditions ts x.1)
@@ -185,6 +192,18 @@ module _ {X : Type 0} where
         let weak = walk_conditions until (drop for_a_state strong.1) in
         let body = walk_block b weak.1 in
         behind (body.0 ++ weak.0 ++ strong.0) (walk_states rest body.1)
+
+  -- the body of a `reset`, and before it in the order of making its condition
+  abbrev pub walk_reset : Block → Expr → List X → Walked X
+  walk_reset b e es = let x = walk e es in before x.0 (walk_block b x.1)
+
+  -- a state: its body, its weak conditions, and its strong ones
+  abbrev pub walk_state : State → List X → Walked X
+  walk_state q es =
+      let strong = walk_conditions q.unless es in
+      let weak = walk_conditions q.until (drop for_a_state strong.1) in
+      let body = walk_block q.body weak.1 in
+      (body.0 ++ weak.0 ++ strong.0, body.1)
 
   abbrev pub walk_condition : Option Expr → List X → Walked X
   walk_condition None es = ([], es)

@@ -2,7 +2,7 @@
 //!
 //! A comparison and a call are made behind their operands, the condition of a `reset` before its body, and the transitions of a state before its body. In the order of places it
 //! is the other way round. Only a walk over the tree knows both orders.
-ghost use Rattle.std.specs.Prelude.{◌≡◌, ◌≢◌, ◌+◌, ◌++◌, length, map, drop, if◌then◌else◌, IfOk, OnOk, Err};
+ghost use Rattle.std.specs.Prelude.{◌≡◌, ◌≢◌, ◌+◌, ◌++◌, ◌∷◌, [], length, map, take, drop, if◌then◌else◌, IfOk, OnOk, Err};
 ghost use Rattle.hp_flat.specs.EquationView.{right_seen};
 ghost use Rattle.hp_tree.specs.Expressions.{exprs_of, parts_of};
 ghost use Rattle.hp_tree.specs.Blocks.{eqns_of, arms_of, states_of};
@@ -109,6 +109,7 @@ impl<'e> Walk<'e> {
     }
 
     /// Leaves out what is made for a state.
+    #[tactic(auto, using(crate::proofs::Rules::skipped))]
     fn skip(&mut self) -> Result<(), AllocError>
         ensures rest { OnOk result (self.new.rest.now ≡ drop for_a_state self.old.rest.now) }
         ensures met { OnOk result (self.new.met ≡ self.old.met + for_a_state) }
