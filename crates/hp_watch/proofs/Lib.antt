@@ -1,3 +1,4 @@
+pub mod EmbedLaws
 pub mod LiftLaws
 pub mod Rules
 pub mod WalkLaws

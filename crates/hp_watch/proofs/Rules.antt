@@ -1,8 +1,9 @@
 -- Sets of lemmas that functions name.
-use Rattle.std.proofs.lemmas.List.{append-nil, append_assoc, take_all}
+use Rattle.std.proofs.lemmas.List.{append-nil, append_assoc, map_more, take_all}
 use Rattle.hp_tree.proofs.Lists.{nodes-at, nodes-at_part}
 use Rattle.hp_tree.proofs.BlockLists.{lines-at_eqn, lines-at_arm, lines-at_state}
 use Rattle.hp_watch.proofs.WalkLaws.{all-found, all-left, all-met, parts-found, parts-left, parts-met, conditions-found, conditions-left, conditions-met, eqns-found, eqns-left, eqns-met, arms-found, arms-left, arms-met, states-found, states-left, states-met, events-next, drop-min}
+use Rattle.hp_watch.proofs.EmbedLaws.{variables-next, variables-end, inputs-next, inputs-end, eqns-next, eqns-end, eqns-placed}
 use Rattle.hp_watch.proofs.LiftLaws.{cases-next, lift-start, lift-next, lift-end, tests-next, either-next, either-end, bits-next, width-here, width-more}
 
 -- what is found behind what was found
@@ -32,3 +33,11 @@ pub ruleset eithers = (either-next, either-end)
 pub ruleset bits = bits-next
 
 pub ruleset widths = (width-here, width-more)
+
+-- variables that are moved
+pub ruleset moved = (map_more, append_assoc, append-nil)
+
+-- a node that is put into another
+pub ruleset embedded = (variables-next, variables-end, inputs-next, inputs-end, eqns-next, eqns-end)
+
+pub ruleset placed = eqns-placed

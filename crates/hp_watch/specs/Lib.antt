@@ -1,3 +1,4 @@
 pub mod Adding
+pub mod Embedding
 pub mod Lifting
 pub mod Walk
