@@ -1,4 +1,5 @@
 pub mod EmbedLaws
 pub mod LiftLaws
+pub mod ObserverLaws
 pub mod Rules
 pub mod WalkLaws

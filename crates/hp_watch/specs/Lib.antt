@@ -1,4 +1,5 @@
 pub mod Adding
 pub mod Embedding
 pub mod Lifting
+pub mod Observing
 pub mod Walk
