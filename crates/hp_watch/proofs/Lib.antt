@@ -3,3 +3,4 @@ pub mod LiftLaws
 pub mod ObserverLaws
 pub mod Rules
 pub mod WalkLaws
+pub mod WatchLaws

@@ -5,6 +5,7 @@ use Rattle.hp_tree.proofs.BlockLists.{lines-at_eqn, lines-at_arm, lines-at_state
 use Rattle.hp_watch.proofs.WalkLaws.{all-found, all-left, all-met, parts-found, parts-left, parts-met, conditions-found, conditions-left, conditions-met, eqns-found, eqns-left, eqns-met, arms-found, arms-left, arms-met, states-found, states-left, states-met, events-next, drop-min}
 use Rattle.hp_watch.proofs.EmbedLaws.{variables-next, variables-end, inputs-next, inputs-end, eqns-next, eqns-end, eqns-placed}
 use Rattle.hp_watch.proofs.ObserverLaws.{inputs_for-next, inputs_for-end, handed-next, handed-end, items-next, items-end, seen-pushed}
+use Rattle.hp_watch.proofs.WatchLaws.{targets-next, targets-end, in-next, in-end, events-next as places-next, events-end as places-end, inputs-next as free-next, reads-next, calls-next, places-next as bits-placed, places-end-free, places-end-early}
 use Rattle.hp_watch.proofs.LiftLaws.{cases-next, lift-start, lift-next, lift-end, tests-next, either-next, either-end, bits-next, width-here, width-more}
 
 -- what is found behind what was found
@@ -49,3 +50,12 @@ pub ruleset observed = (inputs_for-next, inputs_for-end, handed-next, handed-end
 pub ruleset pushed = seen-pushed
 
 pub ruleset declared = (take_more, take_all, append_assoc, append-nil)
+
+-- free places
+pub ruleset free = (targets-next, targets-end, in-next, in-end, places-next, places-end, append_assoc, append-nil)
+
+pub ruleset inputs = (free-next, reads-next, append_assoc, append-nil)
+
+pub ruleset called = calls-next
+
+pub ruleset watched = (bits-placed, places-end-free, places-end-early)

@@ -3,3 +3,4 @@ pub mod Embedding
 pub mod Lifting
 pub mod Observing
 pub mod Walk
+pub mod Watching
