@@ -1,0 +1,4 @@
+pub mod AddsLaws
+pub mod OneLaws
+pub mod LiftsLaws
+pub mod BitsLaws

@@ -1,0 +1,20 @@
+//! Laws: equations that are added to a node and define new variables alone keep it well made.
+//!
+//! The functions here do nothing: each is a law, which its contract states.
+#![tactic(auto)]
+
+ghost use Rattle.law_choices.specs.Adding.Adds.{AddsLaw, RankedLaw};
+ghost use Rattle.law_choices.specs.Adding.Lifts.{BitsLaw, BitsOnLaw, LiftLaw};
+
+/// A node whose variables have clocks still has them with more equations, if these define new variables alone and what they read is there where they are; with ranks it is well made.
+pub fn added_equations_keep_clocks()
+    ensures adds { AddsLaw }
+    ensures ranked { RankedLaw }
+{}
+
+/// A value on the base clock and its bits are such equations.
+pub fn bits_keep_clocks()
+    ensures lift { LiftLaw }
+    ensures bits { BitsLaw }
+    ensures both { BitsOnLaw }
+{}
