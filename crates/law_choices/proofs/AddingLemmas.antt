@@ -2,3 +2,4 @@ pub mod AddsLaws
 pub mod OneLaws
 pub mod LiftsLaws
 pub mod BitsLaws
+pub mod AlwaysLaws

@@ -4,12 +4,18 @@
 #![tactic(auto)]
 
 ghost use Rattle.law_choices.specs.Adding.Adds.{AddsLaw, RankedLaw};
+ghost use Rattle.law_choices.specs.Adding.Always.{AlwaysLaw};
 ghost use Rattle.law_choices.specs.Adding.Lifts.{BitsLaw, BitsOnLaw, LiftLaw};
 
 /// A node whose variables have clocks still has them with more equations, if these define new variables alone and what they read is there where they are; with ranks it is well made.
 pub fn added_equations_keep_clocks()
     ensures adds { AddsLaw }
     ensures ranked { RankedLaw }
+{}
+
+/// Equations on the base clock that define variables in a row keep clocks.
+pub fn equations_in_rows_keep_clocks()
+    ensures { AlwaysLaw }
 {}
 
 /// A value on the base clock and its bits are such equations.

@@ -45,7 +45,7 @@ each_more P (x ∷ xs) ys h g = (h.0, each_more P xs ys h.1 g)
 pub among : {A : Type 0} (P : A → Type 0) (xs : List A) (x : A) → AllByRecursion P xs → Contains xs x → P x
 among P xs x h at = All-contains P xs x (All-from_recursion P xs h) at
 
-higher : (m n : ℕ) → m ≤ n → (xs : List ℕ) → AreBelow m xs → AreBelow n xs
+pub higher : (m n : ℕ) → m ≤ n → (xs : List ℕ) → AreBelow m xs → AreBelow n xs
 higher m n l xs h = each_other (λ x. x < m) (λ x. x < n) (λ x g. omega (arith, l, g)) xs h
 
 within_more : (m n : ℕ) → m ≤ n → (e : FlatEqn) → EqnWithin m e → EqnWithin n e
@@ -54,7 +54,7 @@ within_more m n l e w = record { targets = higher m n l e.targets w.targets; clo
 -- ---- kinds
 
 module _ (types : List ObcType) (callees : Callees) where
-  kind_more : (vs more : List Variable) (x : ℕ) → x < length vs → variable_kind types (vs ++ more) x ≡ variable_kind types vs x
+  pub kind_more : (vs more : List Variable) (x : ℕ) → x < length vs → variable_kind types (vs ++ more) x ≡ variable_kind types vs x
   kind_more [] more x l = absurd (omega (arith, l))
   kind_more (v ∷ vs) more zero l = refl
   kind_more (v ∷ vs) more (suc x) l = kind_more vs more x (omega (arith, l))
@@ -74,12 +74,12 @@ module _ (types : List ObcType) (callees : Callees) where
   have_more vs more (Named x ∷ args) (k ∷ ks) w h = (kind_more vs more x w.0 ∙ h.0, have_more vs more args ks w.1 h.1)
   have_more vs more (Fixed v ∷ args) (k ∷ ks) w h = (h.0, have_more vs more args ks w h.1)
 
-  right_more : (vs more : List Variable) (r : Right) (ks : List KindData) → AreBelow (length vs) (operands r) → RightHasKinds types callees vs r ks → RightHasKinds types callees (vs ++ more) r ks
+  pub right_more : (vs more : List Variable) (r : Right) (ks : List KindData) → AreBelow (length vs) (operands r) → RightHasKinds types callees vs r ks → RightHasKinds types callees (vs ++ more) r ks
   right_more vs more (operator op args) ks w h = (h.0, have_more vs more args h.0 w h.1, h.2, h.3, h.4)
   right_more vs more (register first next) ks w h = (h.0, h.1, atom_more vs more next h.0 w h.2, h.3)
   right_more vs more (called f args) ks w h = (have_more vs more args (callees.takes f) w h.0, h.1)
 
-  arms_more : (vs more : List Variable) (clock : Clock) → AreBelow (length vs) (clock_variables clock) → AllByRecursion (λ (on : ℕ × ℕ). HasArm (variable_kind types vs on.0) on.1) clock
+  pub arms_more : (vs more : List Variable) (clock : Clock) → AreBelow (length vs) (clock_variables clock) → AllByRecursion (λ (on : ℕ × ℕ). HasArm (variable_kind types vs on.0) on.1) clock
       → AllByRecursion (λ (on : ℕ × ℕ). HasArm (variable_kind types (vs ++ more) on.0) on.1) clock
   arms_more vs more [] w h = tt
   arms_more vs more (on ∷ clock) w h = (subst (λ k. HasArm k on.1) (sym (kind_more vs more on.0 w.0)) h.0, arms_more vs more clock w.1 h.1)
@@ -97,7 +97,7 @@ module _ (types : List ObcType) (callees : Callees) where
 
 -- ---- equations that part
 
-none_among : (P : ℕ → Type 0) (x : ℕ) → ((y : ℕ) → P y → nat_eq y x ≡ false) → (xs : List ℕ) → AllByRecursion P xs → has xs x ≡ false
+pub none_among : (P : ℕ → Type 0) (x : ℕ) → ((y : ℕ) → P y → nat_eq y x ≡ false) → (xs : List ℕ) → AllByRecursion P xs → has xs x ≡ false
 none_among P x f [] h = refl
 none_among P x f (y ∷ ys) h = ap₂ (λ a b. a || b) (f y h.0) (none_among P x f ys h.1)
 

@@ -1,0 +1,99 @@
+-- What is watched of a node, and what is refused.
+use Rattle.std.proofs.Common.{◌≡◌, ◌≢◌, ℕ, zero, suc, Bool, true, false, if◌then◌else◌, nat_eq, List, [], ◌∷◌, length, slice_get, Option, Some, None, refl, sym, ap, subst, ◌∙◌, arith}
+use Rattle.std.proofs.lemmas.Bool.Decides.{nat_tests}
+use Rattle.hp_obc.specs.Machines.{ObcType}
+use Rattle.hp_tree.specs.Programs.{Node}
+use Rattle.hp_flat.specs.Nodes.{FlatNode}
+use Rattle.hp_watch.specs.Adding.{Grows}
+use Rattle.hp_watch.specs.Lifting.{bits_on}
+use Rattle.hp_watch.specs.Walk.{events_from, in_block}
+use Rattle.hp_watch.specs.declared.watching.Free.{Free}
+use Rattle.hp_watch.specs.Watching.{Observer, Call, reads, with_own, call_at, with_call, with_calls, with_observers, clock_at, Prepared, prepared, Watched, with_place, with_places, finished, watched_by, watched}
+use Rattle.hp_watch.proofs.GrowsLaws.{grows-self, grows-both, grows-bits_on, grows-embedded}
+
+-- ---- what stays
+
+grows-call : (c : Option Call) (n : FlatNode) → Grows n (with_call c n).0
+grows-call None n = grows-self n
+grows-call (Some c) n = grows-embedded c.observer.node c.site c.inputs n
+
+grows-calls : (known : List ℕ → Option Observer) (k : ℕ) (n : FlatNode) → Grows n (with_calls known k n).0
+grows-calls known zero n = grows-self n
+grows-calls known (suc i) n =
+    let before = with_calls known i n in
+    let c = call_at known (slice_get before.0.eqns i) in
+    grows-both n before.0 (with_call c before.0).0 (grows-calls known i n) (grows-call c before.0)
+
+grows-prepared : (known : List ℕ → Option Observer) (own : Observer) (node : Node) (flat : FlatNode) → Grows flat (prepared known own node flat).node
+grows-prepared known own node flat =
+    let first = with_own own (length node.inputs) flat in
+    grows-both flat first.0 (with_calls known (length flat.eqns) first.0).0 (grows-embedded own.node _ _ flat) (grows-calls known (length flat.eqns) first.0)
+
+grows-places : (types : List ObcType) (free : List Free) (is_early : List Bool) (w : Watched) → Grows w.node (with_places types free is_early w).node
+grows-places types [] is_early w = grows-self w.node
+grows-places types (p ∷ free) [] w = grows-self w.node
+grows-places types (p ∷ free) (b ∷ is_early) w =
+    let one = with_place types p b w in
+    grows-both w.node one.node (with_places types free is_early one).node (grows-bits_on types p.variable (clock_at w.node p.eqn) w.node) (grows-places types free is_early one)
+
+some-is : {A : Type 0} (a b : A) → Some a ≡ Some b → a ≡ b
+some-is a b e = cc
+
+grows-finished : (types : List ObcType) (p : Prepared) (is_early : List Bool) (w : Watched) → finished types p is_early ≡ Some w → Grows p.node w.node
+grows-finished types p is_early w = by (nat_eq (length p.free) (length is_early))
+  where
+    all : Watched
+    all = with_places types p.free is_early (record { node = p.node; early = []; late = [] })
+
+    by : (b : Bool) → (if b then Some all else None) ≡ Some w → Grows p.node w.node
+    by true e = subst (λ (x : Watched). Grows p.node x.node) (some-is all w e) (grows-places types p.free is_early (record { node = p.node; early = []; late = [] }))
+    by false e = absurd cc
+
+grows-watched_by : (types : List ObcType) (known : List ℕ → Option Observer) (node : Node) (is_early : List Bool) (flat : FlatNode) (o : Option Observer) (w : Watched) → watched_by types known node is_early flat o ≡ Some w → Grows flat w.node
+grows-watched_by types known node is_early flat None w e = absurd cc
+grows-watched_by types known node is_early flat (Some own) w e = by (nat_eq (length (events_from 0 flat.eqns)) (in_block node.body)) e
+  where
+    by : (b : Bool) → (if b then finished types (prepared known own node flat) is_early else None) ≡ Some w → Grows flat w.node
+    by true e = grows-both flat (prepared known own node flat).node w.node (grows-prepared known own node flat) (grows-finished types (prepared known own node flat) is_early w e)
+    by false e = absurd cc
+
+pub grows-watched : (types : List ObcType) (known : List ℕ → Option Observer) (node : Node) (is_early : List Bool) (flat : FlatNode) (w : Watched) → watched types known node is_early flat ≡ Some w → Grows flat w.node
+grows-watched types known node is_early flat w e = grows-watched_by types known node is_early flat (known flat.name) w e
+
+-- ---- what is refused
+
+same-number : (m n : ℕ) → m ≡ n → nat_eq m n ≡ true
+same-number m n e = grind (arith, nat_tests, e)
+
+other-number : (m n : ℕ) → m ≢ n → nat_eq m n ≡ false
+other-number m n e = grind (arith, nat_tests, e)
+
+pub watched-is : (types : List ObcType) (known : List ℕ → Option Observer) (node : Node) (is_early : List Bool) (flat : FlatNode) (own : Observer) (p : Prepared) (w : Watched)
+    → known flat.name ≡ Some own → length (events_from 0 flat.eqns) ≡ in_block node.body → p ≡ prepared known own node flat → finished types p is_early ≡ Some w → watched types known node is_early flat ≡ Some w
+watched-is types known node is_early flat own p w k m is f =
+    ap (watched_by types known node is_early flat) k
+    ∙ ap (λ b. if b then finished types (prepared known own node flat) is_early else None) (same-number (length (events_from 0 flat.eqns)) (in_block node.body) m)
+    ∙ ap (λ q. finished types q is_early) (sym is)
+    ∙ f
+
+pub watched-none : (types : List ObcType) (known : List ℕ → Option Observer) (node : Node) (is_early : List Bool) (flat : FlatNode) (own : Observer) (p : Prepared)
+    → known flat.name ≡ Some own → length (events_from 0 flat.eqns) ≡ in_block node.body → p ≡ prepared known own node flat → finished types p is_early ≡ None → watched types known node is_early flat ≡ None
+watched-none types known node is_early flat own p k m is f =
+    ap (watched_by types known node is_early flat) k
+    ∙ ap (λ b. if b then finished types (prepared known own node flat) is_early else None) (same-number (length (events_from 0 flat.eqns)) (in_block node.body) m)
+    ∙ ap (λ q. finished types q is_early) (sym is)
+    ∙ f
+
+pub watched-misfit : (types : List ObcType) (known : List ℕ → Option Observer) (node : Node) (is_early : List Bool) (flat : FlatNode) (own : Observer) → known flat.name ≡ Some own → length (events_from 0 flat.eqns) ≢ in_block node.body → watched types known node is_early flat ≡ None
+watched-misfit types known node is_early flat own k m =
+    ap (watched_by types known node is_early flat) k ∙ ap (λ b. if b then finished types (prepared known own node flat) is_early else None) (other-number (length (events_from 0 flat.eqns)) (in_block node.body) m)
+
+pub watched-unknown : (types : List ObcType) (known : List ℕ → Option Observer) (node : Node) (is_early : List Bool) (flat : FlatNode) → known flat.name ≡ None → watched types known node is_early flat ≡ None
+watched-unknown types known node is_early flat k = ap (watched_by types known node is_early flat) k
+
+-- what finishes, or does not
+pub finished-is : (types : List ObcType) (p : Prepared) (is_early : List Bool) → length p.free ≡ length is_early → finished types p is_early ≡ Some (with_places types p.free is_early (record { node = p.node; early = []; late = [] }))
+finished-is types p is_early e = ap (λ b. if b then Some (with_places types p.free is_early (record { node = p.node; early = []; late = [] })) else None) (same-number (length p.free) (length is_early) e)
+
+pub finished-none : (types : List ObcType) (p : Prepared) (is_early : List Bool) → length p.free ≢ length is_early → finished types p is_early ≡ None
+finished-none types p is_early e = ap (λ b. if b then Some (with_places types p.free is_early (record { node = p.node; early = []; late = [] })) else None) (other-number (length p.free) (length is_early) e)
