@@ -1,7 +1,7 @@
 -- Variables and equations that are put into a node, one after the other.
 use Rattle.std.proofs.Common.{◌≡◌, ℕ, suc, ◌+◌, ◌<◌, ◌≤◌, List, [], ◌∷◌, ◌++◌, length, take, drop, map, get_or, refl, sym, ap, ◌∙◌, arith}
 use Rattle.std.proofs.Math.Numerals.{add-one}
-use Rattle.std.proofs.lemmas.List.{append-nil, append_assoc, at_drop_more, at_drop_all, length-append}
+use Rattle.std.proofs.lemmas.List.{at_drop_more, at_drop_all}
 use Rattle.hp_obc.specs.declared.command.ObcOp.TheVariants.{Copy}
 use Rattle.hp_flat.specs.declared.equation.Atom.{Atom}
 use Rattle.hp_flat.specs.declared.node.Variable.{Variable}
@@ -32,29 +32,3 @@ eqns-next site by es i e n l is = at_drop_more (λ xs. with_moved site by xs n) 
 
 pub eqns-end : (site : Site) (by : ℕ) (es : List FlatEqn) (i : ℕ) (n : FlatNode) → length es ≤ i → with_moved site by (drop i es) n ≡ n
 eqns-end site by es i n l = at_drop_all (λ xs. with_moved site by xs n) es i l
-
--- ---- how many equations there are
-
-eqns-of-variable : (v : Variable) (n : FlatNode) → (with_variable v.ty n).eqns ≡ n.eqns
-unfolding with_variable
-eqns-of-variable v n = refl
-
-pub eqns-of-variables : (vs : List Variable) (n : FlatNode) → (with_variables vs n).eqns ≡ n.eqns
-eqns-of-variables [] n = refl
-eqns-of-variables (v ∷ vs) n = eqns-of-variables vs (with_variable v.ty n) ∙ eqns-of-variable v n
-
-eqns-of-eqn : (e : FlatEqn) (n : FlatNode) → (with_eqn e n).eqns ≡ n.eqns ++ e ∷ []
-unfolding with_eqn
-eqns-of-eqn e n = refl
-
-eqns-of-inputs : (site : Site) (first : ℕ) (inputs : List Atom) (i : ℕ) (n : FlatNode) → length (with_inputs site first i inputs n).eqns ≡ length n.eqns + length inputs
-eqns-of-inputs site first [] i n = omega arith
-eqns-of-inputs site first (a ∷ inputs) i n =
-    let e = equation (i + first) site.clock Copy (a ∷ []) in
-    let rest = eqns-of-inputs site first inputs (suc i) (with_eqn e n) in
-    let one = ap length (eqns-of-eqn e n) in
-    let sum = length-append n.eqns (e ∷ []) in
-    omega (arith, rest, one, sum)
-
-pub eqns-placed : (site : Site) (first : ℕ) (inputs : List Atom) (vs : List Variable) (n : FlatNode) → length (with_inputs site first 0 inputs (with_variables vs n)).eqns ≡ length n.eqns + length inputs
-eqns-placed site first inputs vs n = eqns-of-inputs site first inputs 0 (with_variables vs n) ∙ ap (λ (es : List FlatEqn). length es + length inputs) (eqns-of-variables vs n)

@@ -39,10 +39,10 @@ seen-pushed [] e = refl
 seen-pushed (x ∷ es) e = ap (λ rest. eqn_seen x ∷ rest) (seen-pushed es e)
 
 -- a body of these local names and equations is the one that is meant
-pub body-made : (outputs : List Decl) (c : Contract) (locals new_locals : List Decl) (eqns first all : List Eqn) → block locals (eqns_of eqns) ≡ c.body → first ≡ eqns ++ conditions c → all ≡ first ++ handed_on 0 outputs → new_locals ≡ locals ++ outputs
+pub body-made : (outputs : List Decl) (c : Contract) (locals new_locals : List Decl) (eqns first all : List Eqn) → block locals (eqns_of eqns) ≡ c.body → first ≡ eqns ++ conditions c.span c.assume c.enforce → all ≡ first ++ handed_on 0 outputs → new_locals ≡ locals ++ outputs
     → block new_locals (eqns_of all) ≡ body_of outputs c
 body-made outputs c locals new_locals eqns first all is f a l =
     let ds : locals ≡ locals_in c.body = ap locals_in is in
     let es : eqns ≡ eqns_in c.body = sym (list_of_eqns-eqns_of eqns) ∙ ap eqns_in is in
-    let more : all ≡ eqns_in c.body ++ conditions c ++ handed_on 0 outputs = a ∙ ap (λ xs. xs ++ handed_on 0 outputs) (f ∙ ap (λ xs. xs ++ conditions c) es) in
+    let more : all ≡ eqns_in c.body ++ conditions c.span c.assume c.enforce ++ handed_on 0 outputs = a ∙ ap (λ xs. xs ++ handed_on 0 outputs) (f ∙ ap (λ xs. xs ++ conditions c.span c.assume c.enforce) es) in
     λ j. block ((l ∙ ap (λ xs. xs ++ outputs) ds) j) (eqns_of (more j))

@@ -3,7 +3,7 @@ use Rattle.std.proofs.lemmas.List.{append-nil, append_assoc, map_more, take_all,
 use Rattle.hp_tree.proofs.Lists.{nodes-at, nodes-at_part}
 use Rattle.hp_tree.proofs.BlockLists.{lines-at_eqn, lines-at_arm, lines-at_state}
 use Rattle.hp_watch.proofs.WalkLaws.{all-found, all-left, all-met, parts-found, parts-left, parts-met, conditions-found, conditions-left, conditions-met, eqns-found, eqns-left, eqns-met, arms-found, arms-left, arms-met, states-found, states-left, states-met, events-next, drop-min}
-use Rattle.hp_watch.proofs.EmbedLaws.{variables-next, variables-end, inputs-next, inputs-end, eqns-next, eqns-end, eqns-placed}
+use Rattle.hp_watch.proofs.EmbedLaws.{variables-next, variables-end, inputs-next, inputs-end, eqns-next, eqns-end}
 use Rattle.hp_watch.proofs.ObserverLaws.{inputs_for-next, inputs_for-end, handed-next, handed-end, items-next, items-end, seen-pushed}
 use Rattle.hp_watch.proofs.WatchLaws.{targets-next, targets-end, in-next, in-end, events-next as places-next, events-end as places-end, inputs-next as free-next, reads-next, calls-next, places-next as bits-placed, places-end-free, places-end-early}
 use Rattle.hp_watch.proofs.LiftLaws.{cases-next, lift-start, lift-next, lift-end, tests-next, either-next, either-end, bits-next, width-here, width-more}
@@ -41,8 +41,6 @@ pub ruleset moved = (map_more, append_assoc, append-nil)
 
 -- a node that is put into another
 pub ruleset embedded = (variables-next, variables-end, inputs-next, inputs-end, eqns-next, eqns-end)
-
-pub ruleset placed = eqns-placed
 
 -- observers
 pub ruleset observed = (inputs_for-next, inputs_for-end, handed-next, handed-end, items-next, items-end, append_assoc, append-nil)

@@ -39,15 +39,14 @@ grows-places types (p ∷ free) (b ∷ is_early) w =
 some-is : {A : Type 0} (a b : A) → Some a ≡ Some b → a ≡ b
 some-is a b e = cc
 
-grows-finished : (types : List ObcType) (p : Prepared) (is_early : List Bool) (w : Watched) → finished types p is_early ≡ Some w → Grows p.node w.node
-grows-finished types p is_early w = by (nat_eq (length p.free) (length is_early))
-  where
-    all : Watched
-    all = with_places types p.free is_early (record { node = p.node; early = []; late = [] })
+grows-either : (b : Bool) (n : FlatNode) (all w : Watched) → Grows n all.node → (if b then Some all else None) ≡ Some w → Grows n w.node
+grows-either true n all w g e = subst (λ (x : Watched). Grows n x.node) (some-is all w e) g
+grows-either false n all w g e = absurd cc
 
-    by : (b : Bool) → (if b then Some all else None) ≡ Some w → Grows p.node w.node
-    by true e = subst (λ (x : Watched). Grows p.node x.node) (some-is all w e) (grows-places types p.free is_early (record { node = p.node; early = []; late = [] }))
-    by false e = absurd cc
+grows-finished : (types : List ObcType) (p : Prepared) (is_early : List Bool) (w : Watched) → finished types p is_early ≡ Some w → Grows p.node w.node
+grows-finished types p is_early w e =
+    let start : Watched = record { node = p.node; early = []; late = [] } in
+    grows-either (nat_eq (length p.free) (length is_early)) p.node (with_places types p.free is_early start) w (grows-places types p.free is_early start) e
 
 grows-watched_by : (types : List ObcType) (known : List ℕ → Option Observer) (node : Node) (is_early : List Bool) (flat : FlatNode) (o : Option Observer) (w : Watched) → watched_by types known node is_early flat o ≡ Some w → Grows flat w.node
 grows-watched_by types known node is_early flat None w e = absurd cc

@@ -36,8 +36,8 @@ condition_of span (Some e) = e
 abbrev pub equation : List ℕ → Span → Expr → Eqn
 equation x span right = define span ((x, span) ∷ []) right
 
-abbrev pub conditions : Contract → List Eqn
-conditions c = equation (codes "assume$") c.span (condition_of c.span c.assume) ∷ equation (codes "enforce$") c.span (condition_of c.span c.enforce) ∷ []
+abbrev pub conditions : Span → Option Expr → Option Expr → List Eqn
+conditions span assume enforce = equation (codes "assume$") span (condition_of span assume) ∷ equation (codes "enforce$") span (condition_of span enforce) ∷ []
 
 -- outputs, from a number on, have the values of the inputs that stand for them
 abbrev pub handed : Decl → ℕ → Eqn
@@ -55,7 +55,7 @@ eqns_in (block ds es) = list_of_eqns es
 
 -- the block of a contract, and the outputs of the node as its local names
 abbrev pub body_of : List Decl → Contract → Block
-body_of outputs c = block (locals_in c.body ++ outputs) (eqns_of (eqns_in c.body ++ conditions c ++ handed_on 0 outputs))
+body_of outputs c = block (locals_in c.body ++ outputs) (eqns_of (eqns_in c.body ++ conditions c.span c.assume c.enforce ++ handed_on 0 outputs))
 
 -- the observer of a node with a contract; it has the name of the node
 abbrev pub observer_of : Node → Contract → Node

@@ -200,7 +200,6 @@ fn add_eqns(
 }
 
 /// Adds an observer to a node at a site, over these inputs, and says where it stands.
-#[tactic(auto, using(crate::proofs::Rules::placed))]
 pub fn embed(
     alloc: Global,
     observer: &FlatNode,
@@ -213,9 +212,9 @@ pub fn embed(
     ensures eqns { IfOk result (λ shift. shift.eqns ≡ made.own_eqns observer.now inputs.now node.old) }
 {
     let variables = node.variables.len();
+    let eqns = moved(node.eqns.len(), inputs.len())?;
     add_variables(alloc, &observer.variables, node)?;
     add_inputs(alloc, site, inputs, variables, node)?;
-    let eqns = node.eqns.len();
     add_eqns(alloc, site, &observer.eqns, variables, node)?;
     Ok(Shift { variables, eqns })
 }

@@ -1,5 +1,5 @@
 //! Observers: nodes that hold the block of a contract, beside the nodes that have it.
-ghost use Rattle.std.specs.Prelude.{◌≡◌, ◌++◌, ◌∷◌, [], map, codes, IfOk, OnOk};
+ghost use Rattle.std.specs.Prelude.{◌≡◌, ◌≤◌, ◌++◌, ◌∷◌, [], length, map, IfOk, OnOk};
 ghost use Rattle.hp_tree.specs.BlockView.{eqn_seen};
 ghost use Rattle.hp_watch.specs.Observing as made;
 
@@ -134,22 +134,36 @@ fn add_handed_on(alloc: Global, outputs: &[Decl], eqns: &mut Vec<Eqn>) -> Result
     Ok(())
 }
 
+/// Adds the equation of what is assumed or enforced.
+fn add_condition(
+    alloc: Global,
+    name: &[u8],
+    span: Span,
+    said: &Option<Expr>,
+    eqns: &mut Vec<Eqn>,
+) -> Result<(), AllocError>
+    requires { length name.now ≤ 270 }
+    ensures { OnOk result (map eqn_seen eqns.new.items ≡ map eqn_seen eqns.old.items ++ made.equation name.now span (made.condition_of span said.now) ∷ []) }
+{
+    let right = condition_of(alloc, said, span)?;
+    let eqn = equation(alloc, Name::new(alloc, name)?, span, right)?;
+    add_eqn(eqn, eqns)?;
+    Ok(())
+}
+
 /// Adds the equations of what is assumed and what is enforced.
 #[tactic(auto, using(crate::proofs::Rules::walked))]
 fn add_conditions(
     alloc: Global,
-    contract: &Contract,
+    span: Span,
+    assume: &Option<Expr>,
+    enforce: &Option<Expr>,
     eqns: &mut Vec<Eqn>,
 ) -> Result<(), AllocError>
-    ensures { OnOk result (map eqn_seen eqns.new.items ≡ map eqn_seen eqns.old.items ++ made.conditions contract.now) }
+    ensures { OnOk result (map eqn_seen eqns.new.items ≡ map eqn_seen eqns.old.items ++ made.conditions span assume.now enforce.now) }
 {
-    let span = contract.span;
-    let assume = condition_of(alloc, &contract.assume, span)?;
-    let assumed = equation(alloc, Name::new(alloc, ASSUMED)?, span, assume)?;
-    add_eqn(assumed, eqns)?;
-    let enforce = condition_of(alloc, &contract.enforce, span)?;
-    let enforced = equation(alloc, Name::new(alloc, ENFORCED)?, span, enforce)?;
-    add_eqn(enforced, eqns)?;
+    add_condition(alloc, ASSUMED, span, assume, eqns)?;
+    add_condition(alloc, ENFORCED, span, enforce, eqns)?;
     Ok(())
 }
 
@@ -173,7 +187,13 @@ fn body_of(alloc: Global, outputs: &[Decl], contract: &Contract) -> Result<Block
         mut locals,
         mut eqns,
     } = body;
-    add_conditions(alloc, contract, &mut eqns)?;
+    add_conditions(
+        alloc,
+        contract.span,
+        &contract.assume,
+        &contract.enforce,
+        &mut eqns,
+    )?;
     add_handed_on(alloc, outputs, &mut eqns)?;
     add_copies(alloc, outputs, &mut locals)?;
     Ok(Block { locals, eqns })

@@ -104,10 +104,7 @@ none_among P x f (y ∷ ys) h = ap₂ (λ a b. a || b) (f y h.0) (none_among P x
 exclusive_both : (now : Instant) (es more : List FlatEqn) → IsExclusive now es → IsExclusive now more → AllByRecursion (λ (e : FlatEqn). NoOther now e more) es → IsExclusive now (es ++ more)
 exclusive_both now [] more h g n = g
 exclusive_both now (e ∷ es) more h g n =
-    ((λ holds. each_more (λ (d : FlatEqn). holds_no d e) es more (h.0 holds) n.0), exclusive_both now es more h.1 g n.1)
-  where
-    abbrev holds_no : FlatEqn → FlatEqn → Type 0
-    holds_no d e = holds d.clock now ≡ true → AllByRecursion (λ x. has d.targets x ≡ false) e.targets
+    ((λ q. each_more (λ (d : FlatEqn). holds d.clock now ≡ true → AllByRecursion (λ x. has d.targets x ≡ false) e.targets) es more (h.0 q) n.0), exclusive_both now es more h.1 g n.1)
 
 -- ---- the law
 
