@@ -19,7 +19,7 @@ use Rattle.hp_watch.specs.Lifting.{bits_on}
 use Rattle.hp_watch.specs.Walk.{events_from, in_block, in_contract, walk_block, walk_contract}
 use Rattle.hp_watch.specs.declared.embedding.Shift.{Shift}
 use Rattle.hp_watch.specs.declared.watching.Free.{Free}
-use Rattle.hp_watch.specs.declared.watching.Called as held_called
+use Rattle.hp_watch.specs.declared.watching.Call as held_call
 use Rattle.hp_watch.specs.declared.watching.Observer as held_observer
 use Rattle.hp_watch.specs.declared.watching.Observers as held_observers
 use Rattle.hp_watch.specs.declared.watching.Placed as held_placed
@@ -119,7 +119,7 @@ pub record Call : Type 0 where
   pub inputs : List Atom
 
 -- as the code holds it
-abbrev pub call_seen : held_called.Called → Call
+abbrev pub call_seen : held_call.Call → Call
 call_seen c = record { observer = observer_seen c.observer.now; site = site_seen c.site; inputs = c.inputs.items }
 
 -- where an equation stands

@@ -258,7 +258,7 @@ fn add_own(
 
 /// The observer of the node that an equation calls, where it is put, and what it takes.
 #[derive(Drop)]
-struct Called<'w> {
+struct Call<'w> {
     observer: &'w Observer,
     site: Site,
     inputs: Vec<Atom>,
@@ -279,13 +279,13 @@ fn called_by<'w>(
     observer: &'w Observer,
     eqn: &FlatEqn,
     args: &[Atom],
-) -> Result<Called<'w>, AllocError>
+) -> Result<Call<'w>, AllocError>
     ensures { IfOk result (λ called. made.call_seen called ≡ made.call_by (observer_seen observer.now) eqn.now args.now) }
 {
     let site = site_of(alloc, eqn)?;
     let mut inputs = Vec::from_slice(alloc, args)?;
     add_reads(&eqn.targets, &mut inputs)?;
-    Ok(Called {
+    Ok(Call {
         observer,
         site,
         inputs,
@@ -297,7 +297,7 @@ fn called<'w>(
     alloc: Global,
     observers: &'w Observers<'_>,
     eqn: &FlatEqn,
-) -> Result<Option<Called<'w>>, AllocError>
+) -> Result<Option<Call<'w>>, AllocError>
     ensures { IfOk result (λ called. option_map made.call_seen called ≡ made.call_of (known_in observers.now) eqn.now eqn.now.right) }
 {
     let FlatRight::Call { node, args } = &eqn.right else {
@@ -316,7 +316,7 @@ fn called_at<'w>(
     observers: &'w Observers<'_>,
     node: &FlatNode,
     number: usize,
-) -> Result<Option<Called<'w>>, AllocError>
+) -> Result<Option<Call<'w>>, AllocError>
     ensures { IfOk result (λ called. option_map made.call_seen called ≡ made.call_at (known_in observers.now) (slice_get node.now.eqns number)) }
 {
     match node.eqns.get(number) {
@@ -328,7 +328,7 @@ fn called_at<'w>(
 /// Adds the observer of a call, if there is one, and says where it stands.
 fn add_called(
     alloc: Global,
-    called: &Option<Called<'_>>,
+    called: &Option<Call<'_>>,
     node: &mut FlatNode,
 ) -> Result<Option<Shift>, AllocError>
     ensures node { OnOk result (node.new ≡ (made.with_call (option_map made.call_seen called.now) node.old).0) }

@@ -3,3 +3,4 @@ pub mod OneLaws
 pub mod LiftsLaws
 pub mod BitsLaws
 pub mod AlwaysLaws
+pub mod ControlsLaws

@@ -5,6 +5,7 @@
 
 ghost use Rattle.law_choices.specs.Adding.Adds.{AddsLaw, RankedLaw};
 ghost use Rattle.law_choices.specs.Adding.Always.{AlwaysLaw};
+ghost use Rattle.law_choices.specs.Adding.Controls.{StepsKeepLaw};
 ghost use Rattle.law_choices.specs.Adding.Lifts.{BitsLaw, BitsOnLaw, LiftLaw};
 
 /// A node whose variables have clocks still has them with more equations, if these define new variables alone and what they read is there where they are; with ranks it is well made.
@@ -23,4 +24,9 @@ pub fn bits_keep_clocks()
     ensures lift { LiftLaw }
     ensures bits { BitsLaw }
     ensures both { BitsOnLaw }
+{}
+
+/// So are the equations by which a node keeps the registers of its machine and asks its controller.
+pub fn steps_keep_clocks()
+    ensures { StepsKeepLaw }
 {}

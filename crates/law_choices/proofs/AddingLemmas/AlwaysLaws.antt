@@ -38,11 +38,11 @@ one_differs t = (tt, tt)
 
 range_has : (a k x : ℕ) → a ≤ x → x < a + k → Contains (range_with_len a k) x
 range_has a zero x l u = absurd (omega (arith, l, u))
-range_has a (suc k) x l u = by (nat_eq a x) refl
+range_has a (suc k) x l u = by (nat_eq a x) refl (λ m. range_has (a + 1) k x m (omega (arith, u)))
   where
-    by : (b : Bool) → nat_eq a x ≡ b → Contains (a ∷ range_with_len (a + 1) k) x
-    by true e = let same : a ≡ x = grind (arith, nat_tests, e) in (0, omega arith, same)
-    by false e = let c = range_has (a + 1) k x (grind (arith, nat_tests, e, l)) (omega (arith, u)) in (suc c.0, (let l = c.1 in omega (arith, l)), c.2)
+    by : (b : Bool) → nat_eq a x ≡ b → (a + 1 ≤ x → Contains (range_with_len (a + 1) k) x) → Contains (a ∷ range_with_len (a + 1) k) x
+    by true e rest = let same : a ≡ x = grind (arith, nat_tests, e) in (0, omega arith, same)
+    by false e rest = Contains-append_right (a ∷ []) (range_with_len (a + 1) k) x (rest (grind (arith, nat_tests, e, l)))
 
 -- a number of one of two rows
 abbrev Between : ℕ → ℕ → ℕ → ℕ → ℕ → Type 0
@@ -121,21 +121,21 @@ later e es x s = (s.0, Contains-append_right (e ∷ []) es s.0 s.1, s.2)
 
 first_said : (a t : ℕ) (es : List FlatEqn) (b u : ℕ) → InRows a t es b u → (x : ℕ) → a ≤ x → x < b → IsSaid es x
 first_said a t [] b u h x l v = let e = h.0 in absurd (omega (arith, l, v, e))
-first_said a t (e ∷ es) b u (inl h) x l v = by (nat_lt x (a + h.0)) refl
+first_said a t (e ∷ es) b u (inl h) x l v = by (nat_lt x (a + h.0)) refl (λ m. first_said (a + h.0) t es b u h.2 x m v)
   where
-    by : (c : Bool) → nat_lt x (a + h.0) ≡ c → IsSaid (e ∷ es) x
-    by true q = (e, (0, omega arith, refl), subst (λ xs. Contains xs x) (sym h.1) (range_has a h.0 x l (grind (arith, nat_tests, q))))
-    by false q = later e es x (first_said (a + h.0) t es b u h.2 x (grind (arith, nat_tests, q)) v)
+    by : (c : Bool) → nat_lt x (a + h.0) ≡ c → (a + h.0 ≤ x → IsSaid es x) → IsSaid (e ∷ es) x
+    by true q rest = (e, (0, omega arith, refl), subst (λ xs. Contains xs x) (sym h.1) (range_has a h.0 x l (grind (arith, nat_tests, q))))
+    by false q rest = later e es x (rest (grind (arith, nat_tests, q)))
 first_said a t (e ∷ es) b u (inr h) x l v = later e es x (first_said a (t + 1) es b u h.1 x l v)
 
 second_said : (a t : ℕ) (es : List FlatEqn) (b u : ℕ) → InRows a t es b u → (x : ℕ) → t ≤ x → x < u → IsSaid es x
 second_said a t [] b u h x l v = let e = h.1 in absurd (omega (arith, l, v, e))
 second_said a t (e ∷ es) b u (inl h) x l v = later e es x (second_said (a + h.0) t es b u h.2 x l v)
-second_said a t (e ∷ es) b u (inr h) x l v = by (nat_eq t x) refl
+second_said a t (e ∷ es) b u (inr h) x l v = by (nat_eq t x) refl (λ m. second_said a (t + 1) es b u h.1 x m v)
   where
-    by : (c : Bool) → nat_eq t x ≡ c → IsSaid (e ∷ es) x
-    by true q = let same : t ≡ x = grind (arith, nat_tests, q) in (e, (0, omega arith, refl), subst (λ xs. Contains xs x) (sym h.0) (0, omega arith, same))
-    by false q = later e es x (second_said a (t + 1) es b u h.1 x (grind (arith, nat_tests, q, l)) v)
+    by : (c : Bool) → nat_eq t x ≡ c → (t + 1 ≤ x → IsSaid es x) → IsSaid (e ∷ es) x
+    by true q rest = let same : t ≡ x = grind (arith, nat_tests, q) in (e, (0, omega arith, refl), subst (λ xs. Contains xs x) (sym h.0) (0, omega arith, same))
+    by false q rest = later e es x (rest (grind (arith, nat_tests, q, l)))
 
 -- ---- the law
 
@@ -158,7 +158,7 @@ module _ (types : List ObcType) (callees : Callees) (n other : FlatNode) (before
   grown = let g = rows_grow V other.inputs es (length other.variables) n.inputs rows in g.0
 
   same : (x : ℕ) → x < V → clock x ≡ before x
-  same x l = ap (λ b. if b then before x else []) (grind (arith, nat_tests, l))
+  same x l = let e : nat_lt x V ≡ true = grind (arith, nat_tests, l) in ap (λ b. if b then before x else []) e
 
   within : (x : ℕ) → Between V (length other.variables) other.inputs n.inputs x → x < length other.variables
   within x (inl h) = h.1
@@ -184,7 +184,7 @@ module _ (types : List ObcType) (callees : Callees) (n other : FlatNode) (before
 
   base : (x : ℕ) → IsNew n other x → clock x ≡ []
   base x (inl h) = let l = h.1 in let m = inputs_within in same x (omega (arith, l, m)) ∙ c.inputs x l
-  base x (inr h) = ap (λ b. if b then before x else []) (grind (arith, nat_tests, h))
+  base x (inr h) = let e : nat_lt x V ≡ false = grind (arith, nat_tests, h) in ap (λ b. if b then before x else []) e
 
   said : (x : ℕ) → x < length other.variables → IsNew n other x → IsSaid es x
   said x l (inl h) = second_said V other.inputs es (length other.variables) n.inputs rows x h.0 h.1

@@ -22,7 +22,7 @@ use Rattle.hp_watch.specs.Adding.{type_at, next, added_variable, with_variable, 
 use Rattle.hp_watch.specs.Lifting.{count_of, has_bit, width_of, with_tests, either, with_either, with_bit, with_bits, bits_as, bits_of, bits_on, lifted}
 use Rattle.law_choices.specs.Adding.Adds.{IsClocked}
 use Rattle.law_choices.specs.Adding.Lifts.{HaveBytes, Keeps, IsOn, CanStand, BitsLaw, BitsOnLaw}
-use Rattle.law_choices.specs.Closed.Clocking.{IsFrontOf}
+use Rattle.law_choices.specs.Closed.Clocking.{IsFrontOf, IsDefinedOn}
 use Rattle.law_choices.proofs.ClosedLemmas.ClosedLaws.{each_other}
 use Rattle.law_choices.proofs.AddingLemmas.AddsLaws.{each_more}
 use Rattle.law_choices.proofs.AddingLemmas.OneLaws.{variable-behind, eqn-behind, kind-at, keeps-self, keeps-both, on-kept, Defines, one-keeps, one-on}
@@ -53,7 +53,7 @@ module _ (types : List ObcType) (callees : Callees) where
         steps = tt;
         reads = each_other (λ x. (x < length n.variables) × IsFrontOf (clock x) []) (λ x. IsFrontOf (clock x) []) (λ x h. h.1) (flat_map atom_variables args) there;
       } in
-      let on = (e, subst (λ es. Contains es e) (sym behind.eqns) (Contains-push n.eqns e), (0, omega arith, refl), refl) in
+      let on : IsDefinedOn other (length n.variables) [] = (e, subst (λ es. Contains es e) (sym behind.eqns) (Contains-push n.eqns e), (0, omega arith, refl), refl) in
       (
         one-keeps types callees n clock other ty [] (e ∷ []) c behind value (defines, tt) (λ now. ((λ z. tt), tt)) (inl on),
         one-on types callees n clock other ty [] (e ∷ []) c behind value (defines, tt) (λ now. ((λ z. tt), tt)) (inl on),
@@ -80,7 +80,7 @@ module _ (types : List ObcType) (callees : Callees) where
       let here = on-kept types callees n made.0 clock k [] (Enum t) value v in
       let kind = Constructors t (constructors types t) in
       let args = Read value ∷ Fixed (E t i) ∷ [] in
-      let one = define made.0 k.clock Truth Eq args (kind ∷ kind ∷ []) k.clocked tt ((here.variable, here.there), tt) (kind_on made.0 k.clock [] (Enum t) value here, ((refl, omega (arith, l)), refl), tt)
+      let one = define made.0 k.clock Truth Eq args (kind ∷ kind ∷ []) k.clocked tt ((here.variable, here.there), tt) (kind_on made.0 k.clock [] (Enum t) value here, (((refl, omega (arith, l)), refl), tt))
       (ap (λ b. if b then Some Bools else None) (same_number t)) in
       let other = (defined Truth Eq args made.0).0 in
       let h = one.0 in (
@@ -93,7 +93,7 @@ module _ (types : List ObcType) (callees : Callees) where
   either_gives : (counts : Bool) (n : FlatNode) (clock : ℕ → Clock) → IsClocked types callees n clock → (test bit : ℕ) → IsOn n clock [] Truth test → IsOn n clock [] Truth bit → Gives n clock Truth (either counts test (n, bit))
   either_gives false n clock c test bit t b = (keeps-self types callees n clock c, b)
   either_gives true n clock c test bit t b =
-      define n clock Truth Or (Read bit ∷ Read test ∷ []) (Bools ∷ Bools ∷ []) c tt ((b.variable, b.there), ((t.variable, t.there), tt)) (kind_on n clock [] Truth bit b, kind_on n clock [] Truth test t, tt) refl
+      define n clock Truth Or (Read bit ∷ Read test ∷ []) (Bools ∷ Bools ∷ []) c tt ((b.variable, b.there), ((t.variable, t.there), tt)) (kind_on n clock [] Truth bit b, (kind_on n clock [] Truth test t, tt)) refl
 
   eithers : (place c : ℕ) (n : FlatNode) (clock : ℕ → Clock) → IsClocked types callees n clock → (xs : List ℕ) (bit : ℕ) → AllByRecursion (IsOn n clock [] Truth) xs → IsOn n clock [] Truth bit → Gives n clock Truth (with_either place c xs (n, bit))
   eithers place c n clock h [] bit t b = (keeps-self types callees n clock h, b)

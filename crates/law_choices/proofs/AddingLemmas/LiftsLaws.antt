@@ -1,5 +1,5 @@
 -- Values on the base clock, and their bits.
-use Rattle.std.proofs.Common.{◌≡◌, ◌≢◌, ◌⊎◌, inl, inr, ℕ, zero, suc, ◌+◌, ◌<◌, ◌≤◌, Bool, true, false, ◌||◌, ◌&&◌, if◌then◌else◌, nat_eq, nat_lt, min, List, [], ◌∷◌, ◌++◌, length, map, slice_get, get_or, Option, Some, None, refl, sym, ap, ap₂, subst, ◌∙◌, arith}
+use Rattle.std.proofs.Common.{rules, ◌≡◌, ◌≢◌, ◌⊎◌, inl, inr, ℕ, zero, suc, ◌+◌, ◌<◌, ◌≤◌, Bool, true, false, ◌||◌, ◌&&◌, if◌then◌else◌, nat_eq, nat_lt, min, List, [], ◌∷◌, ◌++◌, length, map, slice_get, get_or, Option, Some, None, refl, sym, ap, ap₂, subst, ◌∙◌, arith}
 use Rattle.std.specs.Prelude.{Contains}
 use Rattle.std.specs.List.{AllByRecursion, flat_map}
 use Rattle.std.proofs.lemmas.Bool.Decides.{nat_tests}
@@ -51,9 +51,12 @@ counts_arm types Truth c h a = a
 counts_arm types Int c h a = absurd (omega (arith, a))
 counts_arm types (Enum t) c h a = let e = bytes_at types t h in omega (arith, a, e)
 
+zero_fits : IsOfKind Ints (first_value Int)
+zero_fits = search rules
+
 first_of : (types : List ObcType) (ty : FlatTy) → HasValue types ty → IsOfKind (kind_of_type types ty) (first_value ty) × IsTyped types (kind_of_type types ty)
 first_of types Truth h = (tt, tt)
-first_of types Int h = (refl, tt)
+first_of types Int h = (zero_fits, tt)
 first_of types (Enum t) h = ((refl, h), refl)
 
 -- ---- clocks
@@ -126,11 +129,11 @@ each_case P s (suc k) f = each_more P (cases s k) (case_eqn s k ∷ []) (each_ca
 
 has_case : (s : Step) (k c : ℕ) → c < k → Contains (cases s k) (case_eqn s c)
 has_case s zero c l = absurd (omega (arith, l))
-has_case s (suc k) c l = by (nat_lt c k) refl
+has_case s (suc k) c l = by (nat_lt c k) refl (λ m. has_case s k c m)
   where
-    by : (b : Bool) → nat_lt c k ≡ b → Contains (cases s k ++ case_eqn s k ∷ []) (case_eqn s c)
-    by true e = Contains-append_left (cases s k) (case_eqn s k ∷ []) (case_eqn s c) (has_case s k c (grind (arith, nat_tests, e)))
-    by false e = let same : k ≡ c = grind (arith, nat_tests, e, l) in subst (λ d. Contains (cases s k ++ case_eqn s k ∷ []) (case_eqn s d)) same (Contains-push (cases s k) (case_eqn s k))
+    by : (b : Bool) → nat_lt c k ≡ b → (c < k → Contains (cases s k) (case_eqn s c)) → Contains (cases s k ++ case_eqn s k ∷ []) (case_eqn s c)
+    by true e rest = Contains-append_left (cases s k) (case_eqn s k ∷ []) (case_eqn s c) (rest (grind (arith, nat_tests, e)))
+    by false e rest = let same : k ≡ c = grind (arith, nat_tests, e, l) in subst (λ d. Contains (cases s k ++ case_eqn s k ∷ []) (case_eqn s d)) same (Contains-push (cases s k) (case_eqn s k))
 
 exclusive_more : (now : Instant) (es : List FlatEqn) (d : FlatEqn) → IsExclusive now es → AllByRecursion (λ (e : FlatEqn). holds e.clock now ≡ true → holds d.clock now ≡ true → AllByRecursion (λ x. has d.targets x ≡ false) e.targets) es → IsExclusive now (es ++ d ∷ [])
 exclusive_more now [] d h g = ((λ z. tt), tt)
@@ -205,10 +208,10 @@ module _ (types : List ObcType) (callees : Callees) (bytes : HaveBytes types) wh
     behind = cases-behind s count n (with_variable ty n) (added_variable V ty ∷ []) (variable-behind ty n)
 
     same_before : (y : ℕ) → y < V → one_more n clock before y ≡ clock y
-    same_before y l = ap (λ b. if b then clock y else before) (grind (arith, nat_tests, l))
+    same_before y l = let e : nat_lt y V ≡ true = grind (arith, nat_tests, l) in ap (λ b. if b then clock y else before) e
 
     last_clock : one_more n clock before V ≡ before
-    last_clock = ap (λ b. if b then clock V else before) (grind (arith, nat_tests))
+    last_clock = let e : nat_lt V V ≡ false = grind (arith, nat_tests) in ap (λ b. if b then clock V else before) e
 
     tested_kind : variable_kind types other.variables on.0 ≡ variable_kind types n.variables on.0
     tested_kind = ap (λ vs. variable_kind types vs on.0) behind.variables ∙ kind_more types callees n.variables (added_variable V ty ∷ []) on.0 tested_below
@@ -224,7 +227,7 @@ module _ (types : List ObcType) (callees : Callees) (bytes : HaveBytes types) wh
           (case_eqn s i, subst (λ es. Contains es (case_eqn s i)) (sym behind.eqns) at, (0, omega arith, refl), ap (λ d. d ++ (on.0, i) ∷ []) (sym last_clock));
     }
 
-    pub step-keeps : Keeps types callees n clock other
+    abbrev pub step-keeps : Keeps types callees n clock other
     step-keeps = one-keeps types callees n clock other ty before (cases s count) c behind has_value (each_case (Defines types callees n clock kind) s count case_defines) (λ now. cases_exclusive s now count) (inr split)
 
     pub step-on : IsOn other step-keeps.clock before ty V
@@ -262,12 +265,12 @@ module _ (types : List ObcType) (callees : Callees) (bytes : HaveBytes types) wh
   Lifted n clock before ty made = (k : Keeps types callees n clock made.0) × IsOn made.0 k.clock before ty made.1
 
   lift : (n : FlatNode) (clock : ℕ → Clock) → IsClocked types callees n clock → (before on : Clock) (ty : FlatTy) (x : ℕ) → CanStand types n clock (before ++ on) → IsOn n clock (before ++ on) ty x → Lifted n clock before ty (lifted types before on x n)
-  lift n clock c before [] ty x s v = (keeps-self types callees n clock c, subst (λ d. IsOn n clock d ty x) (append-nil before) v)
-  lift n clock c before (on ∷ rest) ty x s v =
+  lift n clock c before [] t x stand v = (keeps-self types callees n clock c, subst (λ d. IsOn n clock d t x) (append-nil before) v)
+  lift n clock c before (on ∷ rest) t x stand v =
       let front = before ++ on ∷ [] in
       let e : before ++ on ∷ rest ≡ front ++ rest = sym (append_assoc before (on ∷ []) rest) in
-      let stands = subst (CanStand types n clock) e s in
-      let inner = lift n clock c front rest ty x stands (subst (λ d. IsOn n clock d ty x) e v) in
+      let stands = subst (CanStand types n clock) e stand in
+      let inner = lift n clock c front rest t x stands (subst (λ d. IsOn n clock d t x) e v) in
       let made = lifted types front rest x n in
       let k = inner.0 in
       let i = inner.1 in
@@ -281,4 +284,4 @@ module _ (types : List ObcType) (callees : Callees) (bytes : HaveBytes types) wh
       )
 
 pub lift_law : LiftLaw
-lift_law types callees n clock on x bytes c s v = lift types callees bytes n clock c [] on (type_at n x) x s v
+lift_law types callees n clock on x bytes c stand v = lift types callees bytes n clock c [] on (type_at n x) x stand v

@@ -89,10 +89,10 @@ value-at types n x l h = value-type types n.variables x l h
 -- ---- what stays
 
 module _ (types : List ObcType) (callees : Callees) where
-  pub keeps-self : (n : FlatNode) (clock : ℕ → Clock) → IsClocked types callees n clock → Keeps types callees n clock n
+  abbrev pub keeps-self : (n : FlatNode) (clock : ℕ → Clock) → IsClocked types callees n clock → Keeps types callees n clock n
   keeps-self n clock c = record { clock = clock; clocked = c; same = λ x l. refl; grows = record { name = refl; variables = ([], sym (append-nil n.variables)); inputs = refl; outputs = refl; eqns = ([], sym (append-nil n.eqns)) } }
 
-  pub keeps-both : (n m other : FlatNode) (clock : ℕ → Clock) (k : Keeps types callees n clock m) → Keeps types callees m k.clock other → Keeps types callees n clock other
+  abbrev pub keeps-both : (n m other : FlatNode) (clock : ℕ → Clock) (k : Keeps types callees n clock m) → Keeps types callees m k.clock other → Keeps types callees n clock other
   keeps-both n m other clock k h =
       let g = k.grows in
       record { clock = h.clock; clocked = h.clocked; same = λ x l. let more = grows-length n m g in h.same x (omega (arith, l, more)) ∙ k.same x l; grows = grows-both n m other g h.grows }
@@ -140,10 +140,10 @@ module _ (types : List ObcType) (callees : Callees) (n : FlatNode) (before : ℕ
     size = ap length b.variables ∙ length-append n.variables (v ∷ [])
 
     same : (x : ℕ) → x < V → clock x ≡ before x
-    same x l = ap (λ q. if q then before x else on) (grind (arith, nat_tests, l))
+    same x l = let e : nat_lt x V ≡ true = grind (arith, nat_tests, l) in ap (λ q. if q then before x else on) e
 
     last : clock V ≡ on
-    last = ap (λ q. if q then before V else on) (grind (arith, nat_tests))
+    last = let e : nat_lt V V ≡ false = grind (arith, nat_tests) in ap (λ q. if q then before V else on) e
 
     front : (x : ℕ) (d : Clock) → x < V → IsFrontOf (before x) d → IsFrontOf (clock x) d
     front x d l h = (h.0, h.1 ∙ ap (λ k. k ++ h.0) (sym (same x l)))
@@ -199,7 +199,7 @@ module _ (types : List ObcType) (callees : Callees) (n : FlatNode) (before : ℕ
         by (inl d) = inl (subst (IsDefinedOn other V) (sym last) d)
         by (inr s) = inr s
 
-    pub one-keeps : Keeps types callees n before other
+    abbrev pub one-keeps : Keeps types callees n before other
     one-keeps = record { clock = clock; clocked = adds_law types callees n other before clock c same adds; same = same; grows = grows-behind n other (v ∷ []) es b }
 
     pub one-on : IsOn other clock on ty V
