@@ -47,7 +47,7 @@ pub inputs-next : (n : FlatNode) (x : ℕ) → free_inputs n (x + 1) ≡ free_in
 inputs-next n x = ap (free_inputs n) (add-one x)
 
 pub reads-next : (i : ℕ) → reads (range_with_len 0 (i + 1)) ≡ reads (range_with_len 0 i) ++ Read i ∷ []
-reads-next i = let e : i ≡ 0 + i = omega arith in map-range_with_len_more (λ x. Read x) 0 i i e
+reads-next i = let e : 0 + i ≡ i = omega arith in map-range_with_len_more (λ x. Read x) 0 i i e
 
 pub calls-next : (known : List ℕ → Option Observer) (i : ℕ) (n : FlatNode)
     → with_calls known (i + 1) n ≡ (let before = with_calls known i n in let one = with_call (call_at known (slice_get before.0.eqns i)) before.0 in (one.0, before.1 ++ one.1 ∷ []))

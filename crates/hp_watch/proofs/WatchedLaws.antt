@@ -1,10 +1,12 @@
 -- What is watched of a node, and what is refused.
-use Rattle.std.proofs.Common.{◌≡◌, ◌≢◌, ℕ, zero, suc, Bool, true, false, if◌then◌else◌, nat_eq, List, [], ◌∷◌, length, slice_get, Option, Some, None, refl, sym, ap, subst, ◌∙◌, arith}
+use Rattle.std.proofs.Common.{◌≡◌, ◌≢◌, ℕ, zero, suc, Bool, true, false, if◌then◌else◌, nat_eq, List, [], ◌∷◌, ◌++◌, length, slice_get, Option, Some, None, refl, sym, ap, subst, ◌∙◌, arith}
+use Rattle.std.specs.List.{range_with_len}
 use Rattle.std.proofs.lemmas.Bool.Decides.{nat_tests}
 use Rattle.hp_obc.specs.Machines.{ObcType}
 use Rattle.hp_tree.specs.Programs.{Node}
 use Rattle.hp_flat.specs.Nodes.{FlatNode}
 use Rattle.hp_watch.specs.Adding.{Grows}
+use Rattle.hp_watch.specs.Embedding.{Site}
 use Rattle.hp_watch.specs.Lifting.{bits_on}
 use Rattle.hp_watch.specs.Walk.{events_from, in_block}
 use Rattle.hp_watch.specs.declared.watching.Free.{Free}
@@ -27,7 +29,8 @@ grows-calls known (suc i) n =
 grows-prepared : (known : List ℕ → Option Observer) (own : Observer) (node : Node) (flat : FlatNode) → Grows flat (prepared known own node flat).node
 grows-prepared known own node flat =
     let first = with_own own (length node.inputs) flat in
-    grows-both flat first.0 (with_calls known (length flat.eqns) first.0).0 (grows-embedded own.node _ _ flat) (grows-calls known (length flat.eqns) first.0)
+    let site : Site = record { clock = []; restart = [] } in
+    grows-both flat first.0 (with_calls known (length flat.eqns) first.0).0 (grows-embedded own.node site (reads (range_with_len 0 (length node.inputs)) ++ reads flat.outputs) flat) (grows-calls known (length flat.eqns) first.0)
 
 grows-places : (types : List ObcType) (free : List Free) (is_early : List Bool) (w : Watched) → Grows w.node (with_places types free is_early w).node
 grows-places types [] is_early w = grows-self w.node
@@ -58,41 +61,3 @@ grows-watched_by types known node is_early flat (Some own) w e = by (nat_eq (len
 
 pub grows-watched : (types : List ObcType) (known : List ℕ → Option Observer) (node : Node) (is_early : List Bool) (flat : FlatNode) (w : Watched) → watched types known node is_early flat ≡ Some w → Grows flat w.node
 grows-watched types known node is_early flat w e = grows-watched_by types known node is_early flat (known flat.name) w e
-
--- ---- what is refused
-
-same-number : (m n : ℕ) → m ≡ n → nat_eq m n ≡ true
-same-number m n e = grind (arith, nat_tests, e)
-
-other-number : (m n : ℕ) → m ≢ n → nat_eq m n ≡ false
-other-number m n e = grind (arith, nat_tests, e)
-
-pub watched-is : (types : List ObcType) (known : List ℕ → Option Observer) (node : Node) (is_early : List Bool) (flat : FlatNode) (own : Observer) (p : Prepared) (w : Watched)
-    → known flat.name ≡ Some own → length (events_from 0 flat.eqns) ≡ in_block node.body → p ≡ prepared known own node flat → finished types p is_early ≡ Some w → watched types known node is_early flat ≡ Some w
-watched-is types known node is_early flat own p w k m is f =
-    ap (watched_by types known node is_early flat) k
-    ∙ ap (λ b. if b then finished types (prepared known own node flat) is_early else None) (same-number (length (events_from 0 flat.eqns)) (in_block node.body) m)
-    ∙ ap (λ q. finished types q is_early) (sym is)
-    ∙ f
-
-pub watched-none : (types : List ObcType) (known : List ℕ → Option Observer) (node : Node) (is_early : List Bool) (flat : FlatNode) (own : Observer) (p : Prepared)
-    → known flat.name ≡ Some own → length (events_from 0 flat.eqns) ≡ in_block node.body → p ≡ prepared known own node flat → finished types p is_early ≡ None → watched types known node is_early flat ≡ None
-watched-none types known node is_early flat own p k m is f =
-    ap (watched_by types known node is_early flat) k
-    ∙ ap (λ b. if b then finished types (prepared known own node flat) is_early else None) (same-number (length (events_from 0 flat.eqns)) (in_block node.body) m)
-    ∙ ap (λ q. finished types q is_early) (sym is)
-    ∙ f
-
-pub watched-misfit : (types : List ObcType) (known : List ℕ → Option Observer) (node : Node) (is_early : List Bool) (flat : FlatNode) (own : Observer) → known flat.name ≡ Some own → length (events_from 0 flat.eqns) ≢ in_block node.body → watched types known node is_early flat ≡ None
-watched-misfit types known node is_early flat own k m =
-    ap (watched_by types known node is_early flat) k ∙ ap (λ b. if b then finished types (prepared known own node flat) is_early else None) (other-number (length (events_from 0 flat.eqns)) (in_block node.body) m)
-
-pub watched-unknown : (types : List ObcType) (known : List ℕ → Option Observer) (node : Node) (is_early : List Bool) (flat : FlatNode) → known flat.name ≡ None → watched types known node is_early flat ≡ None
-watched-unknown types known node is_early flat k = ap (watched_by types known node is_early flat) k
-
--- what finishes, or does not
-pub finished-is : (types : List ObcType) (p : Prepared) (is_early : List Bool) → length p.free ≡ length is_early → finished types p is_early ≡ Some (with_places types p.free is_early (record { node = p.node; early = []; late = [] }))
-finished-is types p is_early e = ap (λ b. if b then Some (with_places types p.free is_early (record { node = p.node; early = []; late = [] })) else None) (same-number (length p.free) (length is_early) e)
-
-pub finished-none : (types : List ObcType) (p : Prepared) (is_early : List Bool) → length p.free ≢ length is_early → finished types p is_early ≡ None
-finished-none types p is_early e = ap (λ b. if b then Some (with_places types p.free is_early (record { node = p.node; early = []; late = [] })) else None) (other-number (length p.free) (length is_early) e)

@@ -3,6 +3,7 @@ ghost use Rattle.std.specs.Prelude.{◌≡◌, ◌≢◌, ◌+◌, ◌++◌, ◌
 ghost use Rattle.std.specs.List.{range_with_len};
 ghost use Rattle.hp_flat.specs.declared.equation.Atom.TheVariants.{Variable as Read};
 ghost use Rattle.hp_flat.specs.EquationView.{right_seen};
+ghost use Rattle.hp_watch.specs.Adding.{Grows};
 ghost use Rattle.hp_watch.specs.Embedding.{site_seen};
 ghost use Rattle.hp_watch.specs.Walk.{events_from, in_block, in_contract};
 ghost use Rattle.hp_watch.specs.Lifting.{bits_on};
@@ -642,9 +643,8 @@ fn finish(
     Ok(watched)
 }
 
-/// Adds to the clocked equations of a node the observers of its contract and of those of the nodes that it calls, and what has the bits of its free places. It is said of
-/// these, in order, which are early.
-pub fn watch(
+/// What `watch` gives.
+fn all_watched(
     alloc: Global,
     types: &[ObcType],
     node: &Node,
@@ -661,4 +661,23 @@ pub fn watch(
     let prepared = prepare(alloc, observers, own, node, flat)?;
     let watched = finish(alloc, types, is_early, prepared)?;
     Ok(watched)
+}
+
+/// Adds to the clocked equations of a node the observers of its contract and of those of the nodes that it calls, and what has the bits of its free places. It is said of
+/// these, in order, which are early. What the node has stays, with more behind it. It is refused where the node has no observer, where it has another number of comparisons and
+/// calls than its body, or where it has another number of free places than it is said of.
+pub fn watch(
+    alloc: Global,
+    types: &[ObcType],
+    node: &Node,
+    is_early: &[bool],
+    flat: FlatNode,
+    observers: &Observers<'_>,
+) -> Result<Watched, WatchErr>
+    ensures watched { IfOk result (λ w. made.watched types.now (known_in observers.now) node.now is_early.now flat ≡ Some (watched_seen w)) }
+    ensures grows { IfOk result (λ w. Grows flat w.node) }
+    ensures misfit { result ≡ Err Misfit → made.watched types.now (known_in observers.now) node.now is_early.now flat ≡ None }
+{
+    let all = all_watched(alloc, types, node, is_early, flat, observers)?;
+    Ok(all)
 }
