@@ -23,7 +23,7 @@ use Rattle.law_choices.proofs.AddingLemmas.AddsLaws.{adds_law, among, none_among
 
 -- ---- rows
 
-each_range : (P : ℕ → Type 0) (a k : ℕ) → ((x : ℕ) → a ≤ x → x < a + k → P x) → AllByRecursion P (range_with_len a k)
+pub each_range : (P : ℕ → Type 0) (a k : ℕ) → ((x : ℕ) → a ≤ x → x < a + k → P x) → AllByRecursion P (range_with_len a k)
 each_range P a zero f = tt
 each_range P a (suc k) f = (f a (omega arith) (omega arith), each_range P (a + 1) k (λ x l u. f x (omega (arith, l)) (omega (arith, u))))
 

@@ -115,7 +115,7 @@ last_holds (on ∷ c) t i now h = last_holds c t i now (second (has_constructor 
 
 -- ---- one step
 
-abbrev cases : Step → ℕ → List FlatEqn
+abbrev pub cases : Step → ℕ → List FlatEqn
 cases s zero = []
 cases s (suc c) = cases s c ++ case_eqn s c ∷ []
 
@@ -123,7 +123,7 @@ cases-behind : (s : Step) (k : ℕ) (n m : FlatNode) (vs : List Variable) → Be
 cases-behind s zero n m vs b = b
 cases-behind s (suc k) n m vs b = eqn-behind n (with_cases s k m) vs (cases s k) (case_eqn s k) (cases-behind s k n m vs b)
 
-each_case : (P : FlatEqn → Type 0) (s : Step) (k : ℕ) → ((c : ℕ) → c < k → P (case_eqn s c)) → AllByRecursion P (cases s k)
+pub each_case : (P : FlatEqn → Type 0) (s : Step) (k : ℕ) → ((c : ℕ) → c < k → P (case_eqn s c)) → AllByRecursion P (cases s k)
 each_case P s zero f = tt
 each_case P s (suc k) f = each_more P (cases s k) (case_eqn s k ∷ []) (each_case P s k (λ c l. f c (omega (arith, l)))) (f k (omega arith), tt)
 
@@ -140,7 +140,7 @@ exclusive_more now [] d h g = ((λ z. tt), tt)
 exclusive_more now (e ∷ es) d h g =
     ((λ z. each_more (λ (f : FlatEqn). holds f.clock now ≡ true → AllByRecursion (λ x. has f.targets x ≡ false) e.targets) es (d ∷ []) (h.0 z) (g.0 z, tt)), exclusive_more now es d h.1 g.1)
 
-cases_exclusive : (s : Step) (now : Instant) (k : ℕ) → IsExclusive now (cases s k)
+pub cases_exclusive : (s : Step) (now : Instant) (k : ℕ) → IsExclusive now (cases s k)
 cases_exclusive s now zero = tt
 cases_exclusive s now (suc k) =
     exclusive_more now (cases s k) (case_eqn s k) (cases_exclusive s now k)
@@ -150,25 +150,25 @@ cases_exclusive s now (suc k) =
 
 module _ (types : List ObcType) (callees : Callees) (bytes : HaveBytes types) where
   module _ (n : FlatNode) (clock : ℕ → Clock) (c : IsClocked types callees n clock) (before : Clock) (on : ℕ × ℕ) (x : ℕ) (stand : CanStand types n clock (before ++ on ∷ [])) (value : IsOn n clock (before ++ on ∷ []) (type_at n x) x) where
-    abbrev s : Step
+    abbrev pub s : Step
     s = step_of before on x n
 
-    abbrev V : ℕ
+    abbrev pub V : ℕ
     V = length n.variables
 
-    abbrev ty : FlatTy
+    abbrev pub ty : FlatTy
     ty = type_at n x
 
-    abbrev kind : KindData
+    abbrev pub kind : KindData
     kind = kind_of_type types ty
 
     tested_below : on.0 < V
     tested_below = tested_last (λ y. y < V) before on.0 on.1 stand.within
 
-    abbrev count : ℕ
+    abbrev pub count : ℕ
     count = count_of types (type_at n on.0)
 
-    has_value : HasValue types ty
+    pub has_value : HasValue types ty
     has_value = value-at types n x value.variable c.values
 
     arm_of : (i : ℕ) → i < count → HasArm (variable_kind types n.variables on.0) i
@@ -189,7 +189,7 @@ module _ (types : List ObcType) (callees : Callees) (bytes : HaveBytes types) wh
     front true i e = let same : on.1 ≡ i = grind (arith, nat_tests, e) in (subst (λ j. IsFrontOf (clock x) (before ++ (on.0, j) ∷ [])) same value.there, tt)
     front false i e = tt
 
-    case_defines : (i : ℕ) → i < count → Defines types callees n clock kind (case_eqn s i)
+    pub case_defines : (i : ℕ) → i < count → Defines types callees n clock kind (case_eqn s i)
     case_defines i l = record {
       target = refl;
       clock = clock_last (λ y. y < V) before on.0 on.1 i stand.within;
@@ -201,10 +201,10 @@ module _ (types : List ObcType) (callees : Callees) (bytes : HaveBytes types) wh
       reads = front (nat_eq i on.1) i refl;
     }
 
-    abbrev other : FlatNode
+    abbrev pub other : FlatNode
     other = (without_step types s n).0
 
-    behind : Behind n other (added_variable V ty ∷ []) (cases s count)
+    pub behind : Behind n other (added_variable V ty ∷ []) (cases s count)
     behind = cases-behind s count n (with_variable ty n) (added_variable V ty ∷ []) (variable-behind ty n)
 
     same_before : (y : ℕ) → y < V → one_more n clock before y ≡ clock y
@@ -216,7 +216,7 @@ module _ (types : List ObcType) (callees : Callees) (bytes : HaveBytes types) wh
     tested_kind : variable_kind types other.variables on.0 ≡ variable_kind types n.variables on.0
     tested_kind = ap (λ vs. variable_kind types vs on.0) behind.variables ∙ kind_more types callees n.variables (added_variable V ty ∷ []) on.0 tested_below
 
-    split : IsSplit other types (one_more n clock before) V
+    pub split : IsSplit other types (one_more n clock before) V
     split = record {
       tested = on.0;
       there = let f = steps_end types n clock [] before on.0 on.1 stand.steps in (f.0, last_clock ∙ f.1 ∙ ap (λ d. d ++ f.0) (sym (same_before on.0 tested_below)));

@@ -114,7 +114,7 @@ abbrev pub one_more : FlatNode → (ℕ → Clock) → Clock → ℕ → Clock
 one_more n clock new x = if nat_lt x (length n.variables) then clock x else new
 
 module _ (types : List ObcType) (callees : Callees) (n : FlatNode) (before : ℕ → Clock) where
-  abbrev V : ℕ
+  abbrev pub V : ℕ
   V = length n.variables
 
   -- an equation that defines the next variable, of a kind
@@ -130,16 +130,16 @@ module _ (types : List ObcType) (callees : Callees) (n : FlatNode) (before : ℕ
 
   module _ (other : FlatNode) (ty : FlatTy) (on : Clock) (es : List FlatEqn) (c : IsClocked types callees n before) (b : Behind n other (added_variable (length n.variables) ty ∷ []) es) (value : HasValue types ty)
       (all : AllByRecursion (Defines (kind_of_type types ty)) es) (exclusive : (now : Instant) → IsExclusive now es) (defined : IsDefinedOn other (length n.variables) on ⊎ IsSplit other types (one_more n before on) (length n.variables)) where
-    abbrev clock : ℕ → Clock
+    abbrev pub clock : ℕ → Clock
     clock = one_more n before on
 
-    abbrev v : Variable
+    abbrev pub v : Variable
     v = added_variable V ty
 
     size : length other.variables ≡ V + 1
     size = ap length b.variables ∙ length-append n.variables (v ∷ [])
 
-    same : (x : ℕ) → x < V → clock x ≡ before x
+    pub same : (x : ℕ) → x < V → clock x ≡ before x
     same x l = let e : nat_lt x V ≡ true = grind (arith, nat_tests, l) in ap (λ q. if q then before x else on) e
 
     last : clock V ≡ on
@@ -176,7 +176,7 @@ module _ (types : List ObcType) (callees : Callees) (n : FlatNode) (before : ℕ
     new_is x l (inl h) = let i = b.inputs in let m = h.0 in let u = h.1 in absurd (omega (arith, i, m, u))
     new_is x l (inr h) = omega (arith, l, h, size)
 
-    adds : Adds types callees n other clock
+    pub adds : Adds types callees n other clock
     unfolding IsDistinct
     adds = record {
       inputs = let i = b.inputs in omega (arith, i);
