@@ -4,3 +4,4 @@ pub mod LiftsLaws
 pub mod BitsLaws
 pub mod AlwaysLaws
 pub mod ControlsLaws
+pub mod SomeLaws

@@ -11,3 +11,4 @@ pub mod FilledLemmas
 pub mod FlatLemmas
 mod StreamsLemmas
 pub mod ChosenLemmas
+pub mod AddingLemmas

@@ -11,3 +11,4 @@ pub mod Filled
 pub mod Flat
 pub mod Streams
 pub mod Chosen
+pub mod Adding

@@ -6,7 +6,7 @@
 ghost use Rattle.law_choices.specs.Adding.Adds.{AddsLaw, RankedLaw};
 ghost use Rattle.law_choices.specs.Adding.Always.{AlwaysLaw};
 ghost use Rattle.law_choices.specs.Adding.Controls.{StepsKeepLaw};
-ghost use Rattle.law_choices.specs.Adding.Lifts.{BitsLaw, BitsOnLaw, LiftLaw};
+ghost use Rattle.law_choices.specs.Adding.Lifts.{BitsLaw, BitsOnLaw, LiftLaw, SomeLiftLaw};
 
 /// A node whose variables have clocks still has them with more equations, if these define new variables alone and what they read is there where they are; with ranks it is well made.
 pub fn added_equations_keep_clocks()
@@ -24,6 +24,7 @@ pub fn bits_keep_clocks()
     ensures lift { LiftLaw }
     ensures bits { BitsLaw }
     ensures both { BitsOnLaw }
+    ensures some { SomeLiftLaw }
 {}
 
 /// So are the equations by which a node keeps the registers of its machine and asks its controller.

@@ -27,12 +27,13 @@ use Rattle.law_equations.specs.Meaning.Scheduling.{clock_variables, AreBelow}
 use Rattle.law_equations.specs.Meaning.Solving.{IsExclusive, NoOther}
 use Rattle.hp_watch.specs.Adding.{Grows, type_at, first_value, next, added_variable, with_variable, with_eqn, equation, defined}
 use Rattle.hp_watch.specs.Lifting.{constructors_of, count_of, Step, case_eqn, with_cases, step_of, without_step, lifted}
+use Rattle.hp_watch.proofs.GrowsLaws.{grows-length}
 use Rattle.law_choices.specs.Adding.Adds.{IsClocked}
 use Rattle.law_choices.specs.Adding.Lifts.{HaveBytes, Keeps, IsOn, CanStand, LiftLaw}
 use Rattle.law_choices.specs.Closed.Clocking.{IsFrontOf, IsDefinedOn, StepsStand, IsSplit}
 use Rattle.law_choices.proofs.ClosedLemmas.ClosedLaws.{each_other, each_both}
 use Rattle.law_choices.proofs.AddingLemmas.AddsLaws.{each_more, kind_more}
-use Rattle.law_choices.proofs.AddingLemmas.OneLaws.{Behind, grows-length, variable-behind, eqn-behind, type-grown, kind-at, value-at, keeps-self, keeps-both, on-kept, one_more, Defines, one-keeps, one-on}
+use Rattle.law_choices.proofs.AddingLemmas.OneLaws.{Behind, variable-behind, eqn-behind, type-grown, kind-at, value-at, keeps-self, keeps-both, on-kept, one_more, Defines, one-keeps, one-on}
 
 -- ---- constructors
 
@@ -95,13 +96,13 @@ variables_front P [] more h = tt
 variables_front P (on ∷ c) more h = (h.0, variables_front P c more h.1)
 
 -- behind the same steps a variable has one constructor alone
-one_constructor : (v : Value) (c d : ℕ) → has_constructor c v ≡ true → has_constructor d v ≡ true → c ≡ d
+pub one_constructor : (v : Value) (c d : ℕ) → has_constructor c v ≡ true → has_constructor d v ≡ true → c ≡ d
 one_constructor (B true) c d h g = grind (arith, nat_tests, h, g)
 one_constructor (B false) c d h g = grind (arith, nat_tests, h, g)
 one_constructor (E t k) c d h g = grind (arith, nat_tests, h, g)
 one_constructor v c d h g = absurd cc
 
-last_holds : (c : Clock) (t i : ℕ) (now : Instant) → holds (c ++ (t, i) ∷ []) now ≡ true → has_constructor i (now t) ≡ true
+pub last_holds : (c : Clock) (t i : ℕ) (now : Instant) → holds (c ++ (t, i) ∷ []) now ≡ true → has_constructor i (now t) ≡ true
 last_holds [] t i now h = first (has_constructor i (now t)) h
   where
     first : (b : Bool) → (b && true) ≡ true → b ≡ true

@@ -18,6 +18,7 @@ use Rattle.law_equations.specs.Meaning.Kinding.{Callees, HasValue, HasArm, Right
 use Rattle.law_equations.specs.Meaning.Scheduling.{clock_variables, AreBelow, EqnWithin}
 use Rattle.law_equations.specs.Meaning.Solving.{IsExclusive}
 use Rattle.hp_watch.specs.Adding.{Grows, type_of, type_at, added_variable, with_variable, with_eqn}
+use Rattle.hp_watch.proofs.GrowsLaws.{grows-self, grows-both, grows-length}
 use Rattle.law_choices.specs.Adding.Adds.{IsClocked, IsNew, Adds}
 use Rattle.law_choices.specs.Adding.Lifts.{Keeps, IsOn, CanStand}
 use Rattle.law_choices.specs.Closed.Clocking.{IsFrontOf, IsDefinedOn, StepsStand, IsSplit}
@@ -43,18 +44,6 @@ eqn-behind n other vs es e b = record { name = b.name; variables = b.variables; 
 
 pub grows-behind : (n other : FlatNode) (vs : List Variable) (es : List FlatEqn) → Behind n other vs es → Grows n other
 grows-behind n other vs es b = record { name = b.name; variables = (vs, b.variables); inputs = b.inputs; outputs = b.outputs; eqns = (es, b.eqns) }
-
-pub grows-both : (n m other : FlatNode) → Grows n m → Grows m other → Grows n other
-grows-both n m other g h = record {
-  name = h.name ∙ g.name;
-  variables = let v = g.variables in let w = h.variables in (v.0 ++ w.0, w.1 ∙ ap (λ xs. xs ++ w.0) v.1 ∙ append_assoc n.variables v.0 w.0);
-  inputs = h.inputs ∙ g.inputs;
-  outputs = h.outputs ∙ g.outputs;
-  eqns = let v = g.eqns in let w = h.eqns in (v.0 ++ w.0, w.1 ∙ ap (λ xs. xs ++ w.0) v.1 ∙ append_assoc n.eqns v.0 w.0);
-}
-
-pub grows-length : (n other : FlatNode) → Grows n other → length n.variables ≤ length other.variables
-grows-length n other g = let v = g.variables in let e = ap length v.1 in let s = length-append n.variables v.0 in omega (arith, e, s)
 
 -- ---- types and kinds
 
@@ -90,7 +79,7 @@ value-at types n x l h = value-type types n.variables x l h
 
 module _ (types : List ObcType) (callees : Callees) where
   abbrev pub keeps-self : (n : FlatNode) (clock : ℕ → Clock) → IsClocked types callees n clock → Keeps types callees n clock n
-  keeps-self n clock c = record { clock = clock; clocked = c; same = λ x l. refl; grows = record { name = refl; variables = ([], sym (append-nil n.variables)); inputs = refl; outputs = refl; eqns = ([], sym (append-nil n.eqns)) } }
+  keeps-self n clock c = record { clock = clock; clocked = c; same = λ x l. refl; grows = grows-self n }
 
   abbrev pub keeps-both : (n m other : FlatNode) (clock : ℕ → Clock) (k : Keeps types callees n clock m) → Keeps types callees m k.clock other → Keeps types callees n clock other
   keeps-both n m other clock k h =

@@ -1,6 +1,6 @@
 -- Values on the base clock and their bits are such equations.
 -- Source: own.
-use Rattle.std.specs.Prelude.{◌≡◌, ℕ, ◌<◌, ◌≤◌, nat_lt, if◌then◌else◌, List, [], length}
+use Rattle.std.specs.Prelude.{◌≡◌, ℕ, ◌<◌, ◌≤◌, List, [], ◌∷◌, length}
 use Rattle.std.specs.List.{AllByRecursion}
 use Rattle.hp_obc.specs.Machines.{ObcType}
 use Rattle.hp_flat.specs.declared.node.FlatTy.{FlatTy}
@@ -10,7 +10,7 @@ use Rattle.hp_flat.specs.Nodes.{FlatNode}
 use Rattle.law_equations.specs.Meaning.Kinding.{Callees, HasArm, variable_kind}
 use Rattle.law_equations.specs.Meaning.Scheduling.{clock_variables, AreBelow}
 use Rattle.law_choices.specs.Adding.Adds.{IsClocked}
-use Rattle.law_choices.specs.Closed.Clocking.{IsFrontOf, StepsStand}
+use Rattle.law_choices.specs.Closed.Clocking.{IsFrontOf, StepsStand, by_cases}
 use Rattle.hp_watch.specs.Adding.{Grows, type_at}
 use Rattle.hp_watch.specs.Lifting.{lifted, bits_of, bits_on}
 
@@ -42,6 +42,10 @@ abbrev pub LiftLaw : Type 0
 LiftLaw =
     (types : List ObcType) (callees : Callees) (n : FlatNode) (clock : ℕ → Clock) (on : Clock) (x : ℕ) → HaveBytes types → IsClocked types callees n clock → CanStand types n clock on → IsOn n clock on (type_at n x) x
     → (k : Keeps types callees n clock (lifted types [] on x n).0) × IsOn (lifted types [] on x n).0 k.clock [] (type_at n x) (lifted types [] on x n).1
+
+-- So it is of a node in which a variable is defined by an equation for each truth value of the input, of that variable where the input is true.
+abbrev pub SomeLiftLaw : Type 0
+SomeLiftLaw = (callees : Callees) → IsClocked [] callees by_cases (λ x. []) × HaveBytes [] × CanStand [] by_cases (λ x. []) ((0, 1) ∷ []) × IsOn by_cases (λ x. []) ((0, 1) ∷ []) (type_at by_cases 1) 1
 
 -- The bits of a variable on the base clock, as truth values on it.
 abbrev pub BitsLaw : Type 0
