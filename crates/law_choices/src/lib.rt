@@ -2,6 +2,7 @@
 #![tactic(auto)]
 
 pub mod answered;
+pub mod adding;
 pub mod choosing;
 pub mod chosen;
 pub mod closed;

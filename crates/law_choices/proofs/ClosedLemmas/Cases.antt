@@ -9,11 +9,11 @@ use Rattle.law_choices.specs.Closed.Closed.{IsTarget}
 use Rattle.law_choices.specs.Closed.Clocking.{IsDefinedOn, IsSplit, copy_where, by_cases, SomeLaw}
 use Rattle.law_choices.proofs.ClosedLemmas.ClosedLaws.{first_one, later_one}
 
-abbrev base : ℕ → Clock
+abbrev pub base : ℕ → Clock
 base x = []
 
 -- only one variable is defined
-is_one : (x : ℕ) → IsTarget by_cases.eqns x → x ≡ 1
+pub is_one : (x : ℕ) → IsTarget by_cases.eqns x → x ≡ 1
 is_one x t =
     let each : AllByRecursion (λ (e : FlatEqn). AllByRecursion (λ y. y ≡ 1) e.targets) by_cases.eqns = ((refl, tt), ((refl, tt), tt)) in
     let own = All-contains (λ (e : FlatEqn). AllByRecursion (λ y. y ≡ 1) e.targets) by_cases.eqns t.0 (All-from_recursion (λ (e : FlatEqn). AllByRecursion (λ y. y ≡ 1) e.targets) by_cases.eqns each) t.1 in
@@ -24,7 +24,7 @@ arm zero h = (copy_where 0, later_one (copy_where 1) (copy_where 0) (copy_where 
 arm (suc zero) h = (copy_where 1, first_one (copy_where 1) (copy_where 0 ∷ []), first_one 1 [], refl)
 arm (suc (suc c)) h = absurd (omega (arith, h))
 
-split : IsSplit by_cases [] base 1
+pub split : IsSplit by_cases [] base 1
 split = record { tested = 0; there = ([], refl); has_one = omega arith; arms = arm }
 
 pub some_law : SomeLaw

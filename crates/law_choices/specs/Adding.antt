@@ -1,0 +1,4 @@
+pub mod Adds
+pub mod Lifts
+pub mod Always
+pub mod Controls
