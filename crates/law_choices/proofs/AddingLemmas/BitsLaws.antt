@@ -53,8 +53,7 @@ module _ (types : List ObcType) (callees : Callees) where
         steps = tt;
         reads = each_other (λ x. (x < length n.variables) × IsFrontOf (clock x) []) (λ x. IsFrontOf (clock x) []) (λ x h. h.1) (flat_map atom_variables args) there;
       } in
-      let on : IsDefinedOn other (length n.variables) [] = (e, subst (λ es. Contains es e) (sym behind.eqns) (Contains-push n.eqns e), (0, omega arith, refl), refl) in
-      (
+      let on : IsDefinedOn other (length n.variables) [] = (e, subst (λ es. Contains es e) (sym behind.eqns) (Contains-push n.eqns e), (0, omega arith, refl), refl) in (
         one-keeps types callees n clock other ty [] (e ∷ []) c behind value (defines, tt) (λ now. ((λ z. tt), tt)) (inl on),
         one-on types callees n clock other ty [] (e ∷ []) c behind value (defines, tt) (λ now. ((λ z. tt), tt)) (inl on),
       )

@@ -250,8 +250,7 @@ module _ (types : List ObcType) (callees : Callees) (n : FlatNode) (before : ℕ
   always_all =
       let few = is.init in
       each_more (IsAlways types callees other.variables clock) (register_eqns p.registers p.gates (length m.gates) m.init m.next) (asking_eqn name front_places p.control m.control ∷ gate_eqns (places m p) p.gates 0 m.gates)
-      (registers-always types callees other clock V p.gates (length m.gates) m.init m.next (λ x l u. new x (omega (arith, l)) (omega (arith, u))) (λ x l u. new x l (omega (arith, u, few))))
-      (
+      (registers-always types callees other clock V p.gates (length m.gates) m.init m.next (λ x l u. new x (omega (arith, l)) (omega (arith, u))) (λ x l u. new x l (omega (arith, u, few)))) (
         asking-always types callees other clock m name front_places p.control asked front_size fronts (λ x l u. new x (omega (arith, l)) (omega (arith, u))),
         gates-always types callees other clock (places m p) p.gates 0 m.gates all_places (λ x l u. new x (omega (arith, l)) (omega (arith, u))),
       )

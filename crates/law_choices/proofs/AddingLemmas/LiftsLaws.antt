@@ -278,8 +278,7 @@ module _ (types : List ObcType) (callees : Callees) (bytes : HaveBytes types) wh
       let here = stand_kept n made.0 clock k front (stand_front n clock front rest stands) in
       let value : IsOn made.0 k.clock front (type_at made.0 made.1) made.1 = record { variable = i.variable; there = i.there; type = refl } in
       let step = step-keeps made.0 k.clock k.clocked before on made.1 here value in
-      let last = step-on made.0 k.clock k.clocked before on made.1 here value in
-      (
+      let last = step-on made.0 k.clock k.clocked before on made.1 here value in (
         keeps-both types callees n made.0 (without_step types (step_of before on made.1 made.0) made.0).0 clock k step,
         record { variable = last.variable; there = last.there; type = last.type ∙ i.type },
       )
