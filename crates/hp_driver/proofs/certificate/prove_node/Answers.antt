@@ -33,13 +33,13 @@ returns-then-is_none-clause-outcome g c =
     before after (code_of c.report_no_contract.result) node (MatchOption-at_some _ _ c.in-Some.node c.in-Some.is c.node_named.ensures) (is_none node.contract none) reports
 
 pub returns-then-is_none-clause-leaves : goal.returns-then-is_none-clause-leaves
-returns-then-is_none-clause-leaves g c = λ words file program held same w.
+returns-then-is_none-clause-leaves g c =
     let name = c.args.name.now in
     let node = c.in-Some.node.now in
     let before = g.E.Sink.took c.args.diag.now in
     let after = g.E.Sink.took c.report_no_contract.new.diag in
     let reports : ReportsOrNot before after (no_contract_line name node.span) 1 (code_of c.report_no_contract.result) = search rules in
-    nothing_written words (g.F.Folder.files c.args.files.now) (code_of c.report_no_contract.result) (not_done_or_not before after (no_contract_line name node.span) (code_of c.report_no_contract.result) reports)
+    λ words file program held same w. nothing_written words (g.F.Folder.files c.args.files.now) (code_of c.report_no_contract.result) (not_done_or_not before after (no_contract_line name node.span) (code_of c.report_no_contract.result) reports)
 
 pub returns-clause-outcome : goal.returns-clause-outcome
 returns-clause-outcome g c =
@@ -62,4 +62,4 @@ returns-clause-leaves g c =
 pub prove_contract-requires : goal.prove_contract-requires
 prove_contract-requires g c =
     let some : IsTrue (is_some c.in-Some.node.now.contract) = search rules in
-    (some, c.requires.0, c.args.name.now, c.requires.1, MatchOption-at_some _ _ c.in-Some.node c.in-Some.is c.node_named.ensures)
+    (some, (c.requires.0, c.args.name.now, c.requires.1, MatchOption-at_some _ _ c.in-Some.node c.in-Some.is c.node_named.ensures))

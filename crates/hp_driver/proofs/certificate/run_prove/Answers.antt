@@ -33,4 +33,4 @@ returns-in-Ok-clause-leaves g c =
     c.prove_node.ensures.leaves
 
 pub prove_node-requires : goal.prove_node-requires
-prove_node-requires g c = let o = c.in-Ok.ensures.ordered in (o.program, c.args.text.now, o.ranks, o.judged, o.arranged)
+prove_node-requires g c = let o = c.in-Ok.ensures.ordered in (o.program, (c.args.text.now, o.ranks, o.judged, o.arranged))

@@ -27,4 +27,4 @@ returns-in-Ok-clause-outcome g c =
     )
 
 pub verify_node-requires : goal.verify_node-requires
-verify_node-requires g c = let o = c.in-Ok.ensures.ordered in (o.program, c.args.text.now, o.ranks, o.judged, o.arranged)
+verify_node-requires g c = let o = c.in-Ok.ensures.ordered in (o.program, (c.args.text.now, o.ranks, o.judged, o.arranged))

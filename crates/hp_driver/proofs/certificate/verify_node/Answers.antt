@@ -43,4 +43,4 @@ returns-clause-outcome g c =
 pub verify_contract-requires : goal.verify_contract-requires
 verify_contract-requires g c =
     let some : IsTrue (is_some c.in-Some.node.now.contract) = search rules in
-    (some, c.requires.0, c.args.name.now, c.requires.1, MatchOption-at_some _ _ c.in-Some.node c.in-Some.is c.node_named.ensures)
+    (some, (c.requires.0, c.args.name.now, c.requires.1, MatchOption-at_some _ _ c.in-Some.node c.in-Some.is c.node_named.ensures))
