@@ -1,6 +1,6 @@
 -- What a walk finds outside of transitions has the same values without automata.
-use Rattle.std.proofs.Common.{◌≡◌, ℕ, suc, List, [], ◌∷◌, ◌++◌, map, inl, inr, refl, sym, ap, subst, ◌∙◌, Some, None}
-use Rattle.std.specs.Prelude.{◌+◌, Bool, true, false, IsTrue, IsFalse, if◌then◌else◌, ⊤, ◌⊎◌, reverse, Option}
+use Rattle.std.proofs.Common.{◌≡◌, ℕ, List, [], ◌∷◌, ◌++◌, map, inl, inr, refl, sym, subst, Some}
+use Rattle.std.specs.Prelude.{◌+◌, Bool, true, false, IsTrue, IsFalse, if◌then◌else◌, reverse}
 use Rattle.std.specs.Str.{bytes_eq}
 use Rattle.hp_base.specs.declared.value.Value.{Value}
 use Rattle.hp_base.specs.declared.value.Value.TheVariants.{Absent}
@@ -9,19 +9,19 @@ use Rattle.hp_tree.specs.declared.expr.Op2.{Op2}
 use Rattle.hp_tree.specs.declared.program.Item.{Item}
 use Rattle.hp_tree.specs.declared.program.Item.TheVariants.{TypeItem, NodeItem}
 use Rattle.hp_tree.specs.Expressions.{Expr, constant, variable, last_of, one, two, choose, pre, fby, arrow, when_is, merge, call, Exprs, no_expr, more_exprs, Parts, no_part, more_parts}
-use Rattle.hp_tree.specs.Blocks.{Decl, Block, block, Eqns, no_eqn, more_eqns, Eqn, define, switch, reset, automaton, Arms, no_arm, more_arms, States, no_state, more_states}
+use Rattle.hp_tree.specs.Blocks.{Block, block, Eqns, no_eqn, more_eqns, Eqn, define, switch, reset, automaton, Arms, no_arm, more_arms, States, no_state, more_states}
 use Rattle.hp_tree.specs.Programs.{TypeDecl, Node}
 use Rattle.hp_tree.specs.Operators.{real, is_there}
-use Rattle.hp_tree.specs.Instant.{Step, Inputs, Controls, Body, Observer, Assume, Enforce, Named, Fresh, Equations, Head, Tail, Right, Test, Arms as ArmsOf, States as StatesOf, Until, Unless, Active, Next, Pending, First, Second, Third, Args, Instance, Place, Instant, Given, at, part, since}
-use Rattle.hp_tree.specs.Meaning.{Names, Nodes, lasts, input_of, absent, controls_of, given_to, node, nodes, node_among, types_of}
+use Rattle.hp_tree.specs.Instant.{Step, Controls, Body, Named, Equations, Head, Tail, Right, Test, Arms as ArmsOf, States as StatesOf, Until, Unless, First, Second, Third, Args, Instance, Place, Instant, Given, at, part, since}
+use Rattle.hp_tree.specs.Meaning.{Nodes, lasts, input_of, absent, controls_of, given_to, node, nodes, node_among, types_of}
 use Rattle.hp_tree.specs.Operators.{constant_of}
 use Rattle.hp_tree.specs.Reaction.{Each}
 use Rattle.hp_tables.specs.Defining.Names.{names_of_states}
 use Rattle.hp_automata.specs.Names.{once}
-use Rattle.law_automata.specs.Lowered.Standing.{Relation, Along, BothThere, InArm, behind as row, ExprStands, ExprsStand, PartsStand, BlockStands, EqnsStand, EqnStands, ArmsStand, StatesStand, BodyStands, NodeStands, either_is, stands_among, Stands}
+use Rattle.law_automata.specs.Lowered.Standing.{Relation, Along, BothThere, InArm, behind as row, ExprStands, ExprsStand, PartsStand, BlockStands, EqnsStand, EqnStands, ArmsStand, StatesStand, BodyStands, NodeStands, either_is, stands_among}
 use Rattle.law_equations.specs.Flattened.Flatten.{Prefix, below}
 use Rattle.hp_watch.specs.Walk.{compares}
-use Rattle.law_choices.specs.Places.Spots.{Spot, compared, call_spot}
+use Rattle.law_choices.specs.Places.Spots.{Spot, compared}
 use Rattle.law_choices.specs.Places.Found.{Both, behind, behind_state, at_body, at_states, at_condition, both_compared, found, found_in_all, found_in_parts, found_in_conditions, found_in_block, found_in_eqns, found_in_eqn, found_in_arms, found_in_states, found_in_body, found_in_node}
 use Rattle.law_choices.specs.Places.Laws.{places_of}
 use Rattle.law_choices.specs.Places.Values.{in_transition, SameWhereThere, ValuesLaw}
