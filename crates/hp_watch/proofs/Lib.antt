@@ -1,9 +1,1 @@
-pub mod EmbedLaws
-pub mod GrowsLaws
-pub mod LiftLaws
-pub mod ObserverLaws
 pub mod Rules
-pub mod WalkLaws
-pub mod WalkNature
-pub mod WatchLaws
-pub mod WatchedLaws

@@ -1,10 +1,9 @@
 //! Observers: nodes that hold the block of a contract, beside the nodes that have it.
-ghost use Rattle.std.specs.Prelude.{◌≡◌, ◌≤◌, ◌++◌, ◌∷◌, [], length, map, IfOk, OnOk};
-ghost use Rattle.hp_tree.specs.BlockView.{eqn_seen};
-ghost use Rattle.hp_watch.specs.Observing as made;
-
 use hp_base::{Name, Span, Ty};
-use hp_tree::{Block, Const, Contract, Decl, Eqn, Expr, ExprKind, Item, Node, Program, copy_decls};
+use hp_tree::{
+    Block, Cons, Const, Contract, Decl, Eqn, Expr, ExprKind, Item, Node, Program, copy_decls,
+    copy_last,
+};
 use itoa::Buffer;
 use std::alloc::{AllocError, Global};
 
@@ -13,20 +12,19 @@ const ASSUMED: &[u8] = b"assume$";
 
 const ENFORCED: &[u8] = b"enforce$";
 
+/// What the name of an input begins with that stands for an output of the node; its number follows.
+const INPUT: &[u8] = b"in$";
+
 /// The name of the input that stands for an output of the node, by the output's number.
-fn input_name(alloc: Global, output: usize) -> Result<Name, AllocError>
-    ensures { IfOk result (λ name. name ≡ made.input_name output) }
-{
-    let mut bytes = Vec::from_slice(alloc, b"in$")?;
+fn input_name(alloc: Global, output: usize) -> Result<Name, AllocError> {
+    let mut bytes = Vec::from_slice(alloc, INPUT)?;
     let mut buffer = Buffer::new();
     bytes.extend_from_slice(buffer.format(output).as_bytes())?;
     Name::new(alloc, &bytes)
 }
 
 /// A declaration on the base clock.
-fn declared(alloc: Global, name: Name, ty: Ty, span: Span) -> Decl
-    ensures { result ≡ made.declared name ty span }
-{
+fn declared(alloc: Global, name: Name, ty: Ty, span: Span) -> Decl {
     Decl {
         name,
         ty,
@@ -36,53 +34,30 @@ fn declared(alloc: Global, name: Name, ty: Ty, span: Span) -> Decl
     }
 }
 
-/// The input that stands for an output of a number.
-fn input_for(alloc: Global, output: &Decl, number: usize) -> Result<Decl, AllocError>
-    ensures { IfOk result (λ input. input ≡ made.declared (made.input_name number) output.now.ty output.now.span) }
-{
-    let name = input_name(alloc, number)?;
-    let ty = output.ty.copy(alloc)?;
-    Ok(declared(alloc, name, ty, output.span))
-}
-
 /// The inputs of the observer: those of the node, and behind them one for each of its outputs.
-#[tactic(auto, using(crate::proofs::Rules::observed))]
-fn inputs_of(alloc: Global, node: &Node) -> Result<Vec<Decl>, AllocError>
-    ensures { IfOk result (λ inputs. inputs.items ≡ node.now.inputs ++ made.inputs_for 0 node.now.outputs) }
-{
+fn inputs_of(alloc: Global, node: &Node) -> Result<Vec<Decl>, AllocError> {
     let mut inputs = copy_decls(alloc, &node.inputs)?;
-    add_inputs(alloc, &node.outputs, &mut inputs)?;
+    for i in 0..node.outputs.len() {
+        let output = &node.outputs[i];
+        let name = input_name(alloc, i)?;
+        let ty = output.ty.copy(alloc)?;
+        inputs.push(declared(alloc, name, ty, output.span))?;
+    }
     Ok(inputs)
 }
 
-/// Adds the inputs that stand for outputs.
-#[tactic(auto, using(crate::proofs::Rules::observed))]
-fn add_inputs(alloc: Global, outputs: &[Decl], inputs: &mut Vec<Decl>) -> Result<(), AllocError>
-    ensures { OnOk result (inputs.new.items ≡ inputs.old.items ++ made.inputs_for 0 outputs.now) }
-{
-    for i in 0..outputs.len() {
-        let input = input_for(alloc, &outputs[i], i)?;
-        inputs.push(input)?;
-    }
-    Ok(())
-}
-
 /// The outputs of the observer.
-fn outputs_of(alloc: Global, span: Span) -> Result<Vec<Decl>, AllocError>
-    ensures { IfOk result (λ outputs. outputs.items ≡ made.outputs_at span) }
-{
-    let assumed = Name::new(alloc, ASSUMED)?;
-    let enforced = Name::new(alloc, ENFORCED)?;
+fn outputs_of(alloc: Global, span: Span) -> Result<Vec<Decl>, AllocError> {
     let mut outputs = Vec::new(alloc);
-    outputs.push(declared(alloc, assumed, Ty::Bool, span))?;
-    outputs.push(declared(alloc, enforced, Ty::Bool, span))?;
+    for name in [ASSUMED, ENFORCED] {
+        let name = Name::new(alloc, name)?;
+        outputs.push(declared(alloc, name, Ty::Bool, span))?;
+    }
     Ok(outputs)
 }
 
 /// What is assumed or enforced, which is true where it is not said.
-fn condition_of(alloc: Global, said: &Option<Expr>, span: Span) -> Result<Expr, AllocError>
-    ensures { IfOk result (λ expr. expr ≡ made.condition_of span said.now) }
-{
+fn condition_of(alloc: Global, said: &Option<Expr>, span: Span) -> Result<Expr, AllocError> {
     match said {
         None => Expr::new(alloc, span, ExprKind::Const(Const::B(true))),
         Some(expr) => expr.copy(alloc),
@@ -90,117 +65,42 @@ fn condition_of(alloc: Global, said: &Option<Expr>, span: Span) -> Result<Expr, 
 }
 
 /// The equation of one name.
-fn equation(alloc: Global, name: Name, span: Span, right: Expr) -> Result<Eqn, AllocError>
-    ensures { IfOk result (λ eqn. eqn_seen eqn ≡ made.equation name span right) }
-{
+fn equation(alloc: Global, name: Name, span: Span, right: Expr) -> Result<Eqn, AllocError> {
     let mut names = Vec::new(alloc);
     names.push((name, span))?;
     Ok(Eqn::Def { span, names, right })
 }
 
-/// Adds an equation.
-#[tactic(auto, using(crate::proofs::Rules::pushed))]
-fn add_eqn(eqn: Eqn, eqns: &mut Vec<Eqn>) -> Result<(), AllocError>
-    ensures { OnOk result (map eqn_seen eqns.new.items ≡ map eqn_seen eqns.old.items ++ eqn_seen eqn ∷ []) }
-{
-    eqns.push(eqn)?;
-    Ok(())
-}
-
 /// The equation by which an output of the node has the value of its input.
-fn handed_on(alloc: Global, output: &Decl, number: usize) -> Result<Eqn, AllocError>
-    ensures { IfOk result (λ eqn. eqn_seen eqn ≡ made.handed output.now number) }
-{
+fn handed_on(alloc: Global, output: &Decl, number: usize) -> Result<Eqn, AllocError> {
     let input = input_name(alloc, number)?;
     let right = Expr::new(alloc, output.span, ExprKind::Name(input))?;
     equation(alloc, output.name.copy(alloc)?, output.span, right)
 }
 
-/// Adds the equations by which outputs have the values of their inputs.
-#[tactic(auto, using(crate::proofs::Rules::observed))]
-fn add_handed_on(alloc: Global, outputs: &[Decl], eqns: &mut Vec<Eqn>) -> Result<(), AllocError>
-    ensures { OnOk result (map eqn_seen eqns.new.items ≡ map eqn_seen eqns.old.items ++ made.handed_on 0 outputs.now) }
-{
-    for i in 0..outputs.len() {
-        let eqn = handed_on(alloc, &outputs[i], i)?;
-        add_eqn(eqn, eqns)?;
-    }
-    Ok(())
-}
-
-/// Adds the equation of what is assumed or enforced.
-fn add_condition(
-    alloc: Global,
-    name: &[u8],
-    span: Span,
-    said: &Option<Expr>,
-    eqns: &mut Vec<Eqn>,
-) -> Result<(), AllocError>
-    requires { length name.now ≤ 270 }
-    ensures { OnOk result (map eqn_seen eqns.new.items ≡ map eqn_seen eqns.old.items ++ made.equation name.now span (made.condition_of span said.now) ∷ []) }
-{
-    let right = condition_of(alloc, said, span)?;
-    let eqn = equation(alloc, Name::new(alloc, name)?, span, right)?;
-    add_eqn(eqn, eqns)?;
-    Ok(())
-}
-
-/// Adds the equations of what is assumed and what is enforced.
-#[tactic(auto, using(crate::proofs::Rules::walked))]
-fn add_conditions(
-    alloc: Global,
-    span: Span,
-    assume: &Option<Expr>,
-    enforce: &Option<Expr>,
-    eqns: &mut Vec<Eqn>,
-) -> Result<(), AllocError>
-    ensures { OnOk result (map eqn_seen eqns.new.items ≡ map eqn_seen eqns.old.items ++ made.conditions span assume.now enforce.now) }
-{
-    add_condition(alloc, ASSUMED, span, assume, eqns)?;
-    add_condition(alloc, ENFORCED, span, enforce, eqns)?;
-    Ok(())
-}
-
-/// Adds copies of declarations.
-#[tactic(auto, using(crate::proofs::Rules::declared))]
-fn add_copies(alloc: Global, decls: &[Decl], into: &mut Vec<Decl>) -> Result<(), AllocError>
-    ensures { OnOk result (into.new.items ≡ into.old.items ++ decls.now) }
-{
-    for decl in decls {
-        into.push(decl.copy(alloc)?)?;
-    }
-    Ok(())
-}
-
 /// The body of the observer: the block of the contract, and in it the outputs of the node, which have the values of the inputs that stand for them.
-fn body_of(alloc: Global, outputs: &[Decl], contract: &Contract) -> Result<Block, AllocError>
-    ensures { IfOk result (λ body. body ≡ made.body_of outputs.now contract.now) }
-{
-    let body = contract.body.copy(alloc)?;
-    let Block {
-        mut locals,
-        mut eqns,
-    } = body;
-    add_conditions(
-        alloc,
-        contract.span,
-        &contract.assume,
-        &contract.enforce,
-        &mut eqns,
-    )?;
-    add_handed_on(alloc, outputs, &mut eqns)?;
-    add_copies(alloc, outputs, &mut locals)?;
-    Ok(Block { locals, eqns })
+fn body_of(alloc: Global, node: &Node, contract: &Contract) -> Result<Block, AllocError> {
+    let span = contract.span;
+    let mut body = contract.body.copy(alloc)?;
+    let assume = condition_of(alloc, &contract.assume, span)?;
+    let enforce = condition_of(alloc, &contract.enforce, span)?;
+    body.eqns
+        .push(equation(alloc, Name::new(alloc, ASSUMED)?, span, assume)?)?;
+    body.eqns.push(equation(alloc, Name::new(alloc, ENFORCED)?, span, enforce)?)?;
+    for i in 0..node.outputs.len() {
+        let output = &node.outputs[i];
+        body.locals.push(output.copy(alloc)?)?;
+        body.eqns.push(handed_on(alloc, output, i)?)?;
+    }
+    Ok(body)
 }
 
 /// The observer of a contract. It has the name of the node.
-fn observer_of(alloc: Global, node: &Node, contract: &Contract) -> Result<Node, AllocError>
-    ensures { IfOk result (λ observer. observer ≡ made.observer_of node.now contract.now) }
-{
+fn observer_of(alloc: Global, node: &Node, contract: &Contract) -> Result<Node, AllocError> {
     let name = node.name.copy(alloc)?;
     let inputs = inputs_of(alloc, node)?;
     let outputs = outputs_of(alloc, contract.span)?;
-    let body = body_of(alloc, &node.outputs, contract)?;
+    let body = body_of(alloc, node, contract)?;
     Ok(Node {
         name,
         span: node.span,
@@ -211,51 +111,28 @@ fn observer_of(alloc: Global, node: &Node, contract: &Contract) -> Result<Node, 
     })
 }
 
-/// Adds the observer of a node, if that has a contract.
-#[tactic(auto, using(crate::proofs::Rules::walked))]
-fn add_observer(alloc: Global, node: &Node, items: &mut Vec<Item>) -> Result<(), AllocError>
-    ensures { OnOk result (items.new.items ≡ items.old.items ++ made.observed node.now node.now.contract) }
-{
-    match &node.contract {
-        None => Ok(()),
-        Some(contract) => {
-            let observer = observer_of(alloc, node, contract)?;
-            items.push(Item::NodeItem(observer))?;
-            Ok(())
-        }
-    }
-}
-
 /// Adds what stands for an item: a type, or the observer of a node that has a contract.
-fn add_item(alloc: Global, item: &Item, items: &mut Vec<Item>) -> Result<(), AllocError>
-    ensures { OnOk result (items.new.items ≡ items.old.items ++ made.observed_item item.now) }
-{
+fn add_item(alloc: Global, item: &Item, items: &mut Vec<Item>) -> Result<(), AllocError> {
     match item {
         Item::TypeItem(decl) => {
-            let copy = decl.copy(alloc)?;
-            items.push(Item::TypeItem(copy))?;
+            items.push(Item::TypeItem(decl.copy(alloc)?))?;
             Ok(())
         }
-        Item::NodeItem(node) => add_observer(alloc, node, items),
+        Item::NodeItem(node) => match &node.contract {
+            None => Ok(()),
+            Some(contract) => {
+                items.push(Item::NodeItem(observer_of(alloc, node, contract)?))?;
+                Ok(())
+            }
+        },
     }
-}
-
-/// Adds what stands for each item.
-#[tactic(auto, using(crate::proofs::Rules::observed))]
-fn add_items(alloc: Global, all: &[Item], items: &mut Vec<Item>) -> Result<(), AllocError>
-    ensures { OnOk result (items.new.items ≡ items.old.items ++ made.observers all.now) }
-{
-    for i in 0..all.len() {
-        add_item(alloc, &all[i], items)?;
-    }
-    Ok(())
 }
 
 /// The observers of the contracts of a program, in order, with its types. A contract holds no calls, so they need no other node.
-pub fn observers(alloc: Global, program: &Program) -> Result<Program, AllocError>
-    ensures { IfOk result (λ seen. seen ≡ made.observers program.now) }
-{
+pub fn observers(alloc: Global, program: &Program) -> Result<Program, AllocError> {
     let mut items = Vec::new(alloc);
-    add_items(alloc, &program.items, &mut items)?;
+    for item in &program.items {
+        add_item(alloc, item, &mut items)?;
+    }
     Ok(Program { items })
 }

@@ -2,29 +2,18 @@
 //!
 //! A comparison and a call are made behind their operands, the condition of a `reset` before its body, and the transitions of a state before its body. In the order of places it
 //! is the other way round. Only a walk over the tree knows both orders.
-ghost use Rattle.std.specs.Prelude.{◌≡◌, ◌≢◌, ◌+◌, ◌++◌, ◌∷◌, [], length, map, take, drop, if◌then◌else◌, IfOk, OnOk, Err};
-ghost use Rattle.hp_flat.specs.EquationView.{right_seen};
-ghost use Rattle.hp_tree.specs.Expressions.{exprs_of, parts_of};
-ghost use Rattle.hp_tree.specs.Blocks.{eqns_of, arms_of, states_of};
-ghost use Rattle.hp_tree.specs.BlockView.{eqn_seen, arm_seen, state_seen};
-ghost use Rattle.hp_watch.specs.Walk as made;
-ghost use Rattle.hp_watch.specs.Walk.{before, behind, compares, events_from, in_front, is_comparison, is_event, for_a_state};
-ghost use Rattle.hp_watch.specs.declared.error.WatchErr.TheVariants.{Misfit};
-
 use crate::error::WatchErr;
 use hp_flat::{FlatEqn, FlatRight};
 use hp_obc::ObcOp;
-use hp_tree::{Arm, Block, Cons, Contract, Eqn, Expr, ExprKind, Op2, State, Trans};
+use hp_tree::{Arm, Block, Contract, Eqn, Expr, ExprKind, Op2, State, Trans};
 use std::alloc::{AllocError, Global};
 
 /// How many comparisons are made for a state of an automaton besides those of its conditions and its body: of the jumps from it, of those that make it active, and of its
 /// restart.
-const FOR_A_STATE: usize = 5;
+const COMPARED_FOR_A_STATE: usize = 5;
 
 /// Whether the operator is a comparison.
-fn is_comparison(op: ObcOp) -> bool
-    ensures { result ≡ is_comparison op }
-{
+fn is_comparison(op: ObcOp) -> bool {
     match op {
         ObcOp::Eq | ObcOp::Ne | ObcOp::Lt | ObcOp::Le | ObcOp::Gt | ObcOp::Ge => true,
         _ => false,
@@ -32,9 +21,7 @@ fn is_comparison(op: ObcOp) -> bool
 }
 
 /// Whether the operator of the tree is a comparison.
-fn compares(op: Op2) -> bool
-    ensures { result ≡ compares op }
-{
+fn compares(op: Op2) -> bool {
     match op {
         Op2::Eq | Op2::Ne | Op2::Lt | Op2::Le | Op2::Gt | Op2::Ge => true,
         _ => false,
@@ -42,9 +29,7 @@ fn compares(op: Op2) -> bool
 }
 
 /// Whether an equation is that of a comparison or a call.
-fn is_event(eqn: &FlatEqn) -> bool
-    ensures { result ≡ is_event eqn.now.right }
-{
+fn is_event(eqn: &FlatEqn) -> bool {
     match &eqn.right {
         FlatRight::Op(op, _) => is_comparison(*op),
         FlatRight::Call { .. } => true,
@@ -52,123 +37,66 @@ fn is_event(eqn: &FlatEqn) -> bool
     }
 }
 
-/// Adds a number if it counts.
-fn add_counted(counts: bool, number: usize, into: &mut Vec<usize>) -> Result<(), AllocError>
-    ensures { OnOk result (into.new.items ≡ (if counts then into.old.items ++ number ∷ [] else into.old.items)) }
-{
-    if counts {
-        into.push(number)?;
-    }
-    Ok(())
-}
-
 /// The equations of comparisons and calls, by number, in the order in which they were made.
-#[tactic(auto, using(crate::proofs::Rules::events))]
-pub fn events_of(alloc: Global, eqns: &[FlatEqn]) -> Result<Vec<usize>, AllocError>
-    ensures { IfOk result (λ events. events.items ≡ events_from 0 eqns.now) }
-{
+pub fn events_of(alloc: Global, eqns: &[FlatEqn]) -> Result<Vec<usize>, AllocError> {
     let mut events = Vec::new(alloc);
     for i in 0..eqns.len() {
-        let counts = is_event(&eqns[i]);
-        add_counted(counts, i, &mut events)?;
+        if is_event(&eqns[i]) {
+            events.push(i)?;
+        }
     }
     Ok(events)
-}
-
-/// More than a number. There is no memory for so many comparisons and calls that they have no number.
-fn more(number: usize, by: usize) -> Result<usize, AllocError>
-    ensures { IfOk result (λ sum. sum ≡ number + by) }
-{
-    number.checked_add(by).ok_or(AllocError)
 }
 
 /// A walk over a part of the tree, beside the comparisons and calls that were made of it.
 #[derive(Drop)]
 struct Walk<'e> {
     alloc: Global,
-    /// Those that are left.
-    rest: &'e [usize],
-    /// How many were asked for.
+    events: &'e [usize],
+    /// How many of them were met.
     met: usize,
 }
 
 impl<'e> Walk<'e> {
-    /// Adds the next comparison or call that was made, if there is one.
-    fn meet(&mut self, into: &mut Vec<usize>) -> Result<(), AllocError>
-        ensures found { OnOk result (into.new.items ≡ into.old.items ++ take 1 self.old.rest.now) }
-        ensures rest { OnOk result (self.new.rest.now ≡ drop 1 self.old.rest.now) }
-        ensures met { OnOk result (self.new.met ≡ self.old.met + 1) }
-    {
-        self.met = more(self.met, 1)?;
-        let rest: &'e [usize] = self.rest;
-        if rest.len() > 0 {
-            into.push(rest[0])?;
-            self.rest = &rest[1..];
+    /// Adds the next comparison or call that was made.
+    fn meet(&mut self, into: &mut Vec<usize>) -> Result<(), WatchErr> {
+        match self.events.get(self.met) {
+            None => Err(WatchErr::Misfit),
+            Some(event) => {
+                into.push(*event)?;
+                self.met += 1;
+                Ok(())
+            }
         }
-        Ok(())
     }
 
-    /// Leaves out what is made for a state.
-    #[tactic(auto, using(crate::proofs::Rules::skipped))]
-    fn skip(&mut self) -> Result<(), AllocError>
-        ensures rest { OnOk result (self.new.rest.now ≡ drop for_a_state self.old.rest.now) }
-        ensures met { OnOk result (self.new.met ≡ self.old.met + for_a_state) }
-    {
-        self.met = more(self.met, FOR_A_STATE)?;
-        let rest: &'e [usize] = self.rest;
-        self.rest = &rest[rest.len().min(FOR_A_STATE)..];
+    /// Leaves out so many.
+    fn skip(&mut self, count: usize) -> Result<(), WatchErr> {
+        let Some(met) = self.met.checked_add(count) else {
+            return Err(WatchErr::Misfit);
+        };
+        if met > self.events.len() {
+            return Err(WatchErr::Misfit);
+        }
+        self.met = met;
         Ok(())
     }
 
     #[cycle(expr)]
-    #[tactic(auto, using(crate::proofs::Rules::walked_exprs))]
-    fn all(&mut self, exprs: &[Expr], into: &mut Vec<usize>) -> Result<(), AllocError>
-        ensures found { OnOk result (into.new.items ≡ into.old.items ++ (made.walk_all (exprs_of exprs.now) self.old.rest.now).0) }
-        ensures rest { OnOk result (self.new.rest.now ≡ (made.walk_all (exprs_of exprs.now) self.old.rest.now).1) }
-        ensures met { OnOk result (self.new.met ≡ self.old.met + made.in_exprs (exprs_of exprs.now)) }
-    {
+    #[tactic(auto, using(crate::proofs::Rules::sizes))]
+    fn all(&mut self, exprs: &[Expr], into: &mut Vec<usize>) -> Result<(), WatchErr> {
         for expr in exprs {
             self.expr(expr, into)?;
         }
         Ok(())
     }
 
-    #[cycle(expr)]
-    #[tactic(auto, using(crate::proofs::Rules::walked_exprs))]
-    fn parts(&mut self, parts: &[(Cons, Expr)], into: &mut Vec<usize>) -> Result<(), AllocError>
-        ensures found { OnOk result (into.new.items ≡ into.old.items ++ (made.walk_parts (parts_of parts.now) self.old.rest.now).0) }
-        ensures rest { OnOk result (self.new.rest.now ≡ (made.walk_parts (parts_of parts.now) self.old.rest.now).1) }
-        ensures met { OnOk result (self.new.met ≡ self.old.met + made.in_parts (parts_of parts.now)) }
-    {
-        for (_, part) in parts {
-            self.expr(part, into)?;
-        }
-        Ok(())
-    }
-
-    /// Two expressions, one behind the other.
-    #[cycle(expr)]
-    #[tactic(auto, using(crate::proofs::Rules::walked))]
-    fn both(&mut self, a: &Expr, b: &Expr, into: &mut Vec<usize>) -> Result<(), AllocError>
-        ensures found { OnOk result (into.new.items ≡ into.old.items ++ (made.both a.now b.now self.old.rest.now).0) }
-        ensures rest { OnOk result (self.new.rest.now ≡ (made.both a.now b.now self.old.rest.now).1) }
-        ensures met { OnOk result (self.new.met ≡ self.old.met + (made.in_expr a.now + made.in_expr b.now)) }
-    {
-        self.expr(a, into)?;
-        self.expr(b, into)?;
-        Ok(())
-    }
-
     /// A comparison, which stands before what its operands have.
     #[cycle(expr)]
-    #[tactic(auto, using(crate::proofs::Rules::walked))]
-    fn comparison(&mut self, a: &Expr, b: &Expr, into: &mut Vec<usize>) -> Result<(), AllocError>
-        ensures found { OnOk result (into.new.items ≡ into.old.items ++ (in_front (made.both a.now b.now self.old.rest.now)).0) }
-        ensures rest { OnOk result (self.new.rest.now ≡ (in_front (made.both a.now b.now self.old.rest.now)).1) }
-        ensures met { OnOk result (self.new.met ≡ self.old.met + (made.in_expr a.now + made.in_expr b.now + 1)) }
-    {
+    fn comparison(&mut self, a: &Expr, b: &Expr, into: &mut Vec<usize>) -> Result<(), WatchErr> {
         let mut operands = Vec::new(self.alloc);
-        self.both(a, b, &mut operands)?;
+        self.expr(a, &mut operands)?;
+        self.expr(b, &mut operands)?;
         self.meet(into)?;
         into.extend_from_slice(&operands)?;
         Ok(())
@@ -176,12 +104,7 @@ impl<'e> Walk<'e> {
 
     /// A call, which stands before what its arguments have.
     #[cycle(expr)]
-    #[tactic(auto, using(crate::proofs::Rules::walked))]
-    fn call(&mut self, args: &[Expr], into: &mut Vec<usize>) -> Result<(), AllocError>
-        ensures found { OnOk result (into.new.items ≡ into.old.items ++ (in_front (made.walk_all (exprs_of args.now) self.old.rest.now)).0) }
-        ensures rest { OnOk result (self.new.rest.now ≡ (in_front (made.walk_all (exprs_of args.now) self.old.rest.now)).1) }
-        ensures met { OnOk result (self.new.met ≡ self.old.met + (made.in_exprs (exprs_of args.now) + 1)) }
-    {
+    fn call(&mut self, args: &[Expr], into: &mut Vec<usize>) -> Result<(), WatchErr> {
         let mut operands = Vec::new(self.alloc);
         self.all(args, &mut operands)?;
         self.meet(into)?;
@@ -190,34 +113,32 @@ impl<'e> Walk<'e> {
     }
 
     #[cycle(expr)]
-    #[tactic(auto, using(crate::proofs::Rules::walked))]
-    fn expr(&mut self, expr: &Expr, into: &mut Vec<usize>) -> Result<(), AllocError>
-        ensures found { OnOk result (into.new.items ≡ into.old.items ++ (made.walk expr.now self.old.rest.now).0) }
-        ensures rest { OnOk result (self.new.rest.now ≡ (made.walk expr.now self.old.rest.now).1) }
-        ensures met { OnOk result (self.new.met ≡ self.old.met + made.in_expr expr.now) }
-    {
+    #[tactic(auto, using(crate::proofs::Rules::sizes))]
+    fn expr(&mut self, expr: &Expr, into: &mut Vec<usize>) -> Result<(), WatchErr> {
         match &*expr.kind {
             ExprKind::Const(_) | ExprKind::Name(_) | ExprKind::Last(_) => Ok(()),
             ExprKind::One(_, a) | ExprKind::Pre(a) | ExprKind::When(a, _, _) => self.expr(a, into),
             ExprKind::Two(op, a, b) if compares(*op) => self.comparison(a, b, into),
             ExprKind::Two(_, a, b) | ExprKind::Fby(a, b) | ExprKind::Arrow(a, b) => {
-                self.both(a, b, into)
+                self.expr(a, into)?;
+                self.expr(b, into)
             }
             ExprKind::If(a, b, c) => {
-                self.both(a, b, into)?;
+                self.expr(a, into)?;
+                self.expr(b, into)?;
                 self.expr(c, into)
             }
-            ExprKind::Merge(_, parts) => self.parts(parts, into),
+            ExprKind::Merge(_, parts) => {
+                for (_, part) in parts {
+                    self.expr(part, into)?;
+                }
+                Ok(())
+            }
             ExprKind::Call { args, .. } => self.call(args, into),
         }
     }
 
-    #[tactic(auto, using(crate::proofs::Rules::walked_conditions))]
-    fn conditions(&mut self, transitions: &[Trans], into: &mut Vec<usize>) -> Result<(), AllocError>
-        ensures found { OnOk result (into.new.items ≡ into.old.items ++ (made.walk_conditions transitions.now self.old.rest.now).0) }
-        ensures rest { OnOk result (self.new.rest.now ≡ (made.walk_conditions transitions.now self.old.rest.now).1) }
-        ensures met { OnOk result (self.new.met ≡ self.old.met + made.in_conditions transitions.now) }
-    {
+    fn conditions(&mut self, transitions: &[Trans], into: &mut Vec<usize>) -> Result<(), WatchErr> {
         for transition in transitions {
             self.expr(&transition.cond, into)?;
         }
@@ -226,16 +147,11 @@ impl<'e> Walk<'e> {
 
     /// A state: in the order of places its body stands first, then its weak transitions, then its strong ones.
     #[cycle(block)]
-    #[tactic(auto, using(crate::proofs::Rules::walked))]
-    fn state(&mut self, state: &State, into: &mut Vec<usize>) -> Result<(), AllocError>
-        ensures found { OnOk result (into.new.items ≡ into.old.items ++ (made.walk_state (state_seen state.now) self.old.rest.now).0) }
-        ensures rest { OnOk result (self.new.rest.now ≡ (made.walk_state (state_seen state.now) self.old.rest.now).1) }
-        ensures met { OnOk result (self.new.met ≡ self.old.met + made.in_state (state_seen state.now)) }
-    {
+    fn state(&mut self, state: &State, into: &mut Vec<usize>) -> Result<(), WatchErr> {
         let mut strong = Vec::new(self.alloc);
         let mut weak = Vec::new(self.alloc);
         self.conditions(&state.unless, &mut strong)?;
-        self.skip()?;
+        self.skip(COMPARED_FOR_A_STATE)?;
         self.conditions(&state.until, &mut weak)?;
         self.block(&state.body, into)?;
         into.extend_from_slice(&weak)?;
@@ -244,12 +160,8 @@ impl<'e> Walk<'e> {
     }
 
     #[cycle(block)]
-    #[tactic(auto, using(crate::proofs::Rules::walked_blocks))]
-    fn states(&mut self, states: &[State], into: &mut Vec<usize>) -> Result<(), AllocError>
-        ensures found { OnOk result (into.new.items ≡ into.old.items ++ (made.walk_states (states_of (map state_seen states.now)) self.old.rest.now).0) }
-        ensures rest { OnOk result (self.new.rest.now ≡ (made.walk_states (states_of (map state_seen states.now)) self.old.rest.now).1) }
-        ensures met { OnOk result (self.new.met ≡ self.old.met + made.in_states (states_of (map state_seen states.now))) }
-    {
+    #[tactic(auto, using(crate::proofs::Rules::sizes))]
+    fn states(&mut self, states: &[State], into: &mut Vec<usize>) -> Result<(), WatchErr> {
         for state in states {
             self.state(state, into)?;
         }
@@ -257,12 +169,8 @@ impl<'e> Walk<'e> {
     }
 
     #[cycle(block)]
-    #[tactic(auto, using(crate::proofs::Rules::walked_blocks))]
-    fn arms(&mut self, arms: &[Arm], into: &mut Vec<usize>) -> Result<(), AllocError>
-        ensures found { OnOk result (into.new.items ≡ into.old.items ++ (made.walk_arms (arms_of (map arm_seen arms.now)) self.old.rest.now).0) }
-        ensures rest { OnOk result (self.new.rest.now ≡ (made.walk_arms (arms_of (map arm_seen arms.now)) self.old.rest.now).1) }
-        ensures met { OnOk result (self.new.met ≡ self.old.met + made.in_arms (arms_of (map arm_seen arms.now))) }
-    {
+    #[tactic(auto, using(crate::proofs::Rules::sizes))]
+    fn arms(&mut self, arms: &[Arm], into: &mut Vec<usize>) -> Result<(), WatchErr> {
         for arm in arms {
             self.block(&arm.body, into)?;
         }
@@ -271,12 +179,7 @@ impl<'e> Walk<'e> {
 
     /// A `reset`, whose condition stands behind its body.
     #[cycle(block)]
-    #[tactic(auto, using(crate::proofs::Rules::walked))]
-    fn reset(&mut self, body: &Block, cond: &Expr, into: &mut Vec<usize>) -> Result<(), AllocError>
-        ensures found { OnOk result (into.new.items ≡ into.old.items ++ (made.walk_reset body.now cond.now self.old.rest.now).0) }
-        ensures rest { OnOk result (self.new.rest.now ≡ (made.walk_reset body.now cond.now self.old.rest.now).1) }
-        ensures met { OnOk result (self.new.met ≡ self.old.met + (made.in_expr cond.now + made.in_block body.now)) }
-    {
+    fn reset(&mut self, body: &Block, cond: &Expr, into: &mut Vec<usize>) -> Result<(), WatchErr> {
         let mut condition = Vec::new(self.alloc);
         self.expr(cond, &mut condition)?;
         self.block(body, into)?;
@@ -285,12 +188,7 @@ impl<'e> Walk<'e> {
     }
 
     #[cycle(block)]
-    #[tactic(auto, using(crate::proofs::Rules::walked))]
-    fn eqn(&mut self, eqn: &Eqn, into: &mut Vec<usize>) -> Result<(), AllocError>
-        ensures found { OnOk result (into.new.items ≡ into.old.items ++ (made.walk_eqn (eqn_seen eqn.now) self.old.rest.now).0) }
-        ensures rest { OnOk result (self.new.rest.now ≡ (made.walk_eqn (eqn_seen eqn.now) self.old.rest.now).1) }
-        ensures met { OnOk result (self.new.met ≡ self.old.met + made.in_eqn (eqn_seen eqn.now)) }
-    {
+    fn eqn(&mut self, eqn: &Eqn, into: &mut Vec<usize>) -> Result<(), WatchErr> {
         match eqn {
             Eqn::Def { right, .. } => self.expr(right, into),
             Eqn::Switch { cond, arms, .. } => {
@@ -303,91 +201,60 @@ impl<'e> Walk<'e> {
     }
 
     #[cycle(block)]
-    #[tactic(auto, using(crate::proofs::Rules::walked_blocks))]
-    fn block(&mut self, block: &Block, into: &mut Vec<usize>) -> Result<(), AllocError>
-        ensures found { OnOk result (into.new.items ≡ into.old.items ++ (made.walk_block block.now self.old.rest.now).0) }
-        ensures rest { OnOk result (self.new.rest.now ≡ (made.walk_block block.now self.old.rest.now).1) }
-        ensures met { OnOk result (self.new.met ≡ self.old.met + made.in_block block.now) }
-    {
-        self.eqns(&block.eqns, into)
-    }
-
-    #[cycle(block)]
-    #[tactic(auto, using(crate::proofs::Rules::walked_blocks))]
-    fn eqns(&mut self, eqns: &[Eqn], into: &mut Vec<usize>) -> Result<(), AllocError>
-        ensures found { OnOk result (into.new.items ≡ into.old.items ++ (made.walk_eqns (eqns_of (map eqn_seen eqns.now)) self.old.rest.now).0) }
-        ensures rest { OnOk result (self.new.rest.now ≡ (made.walk_eqns (eqns_of (map eqn_seen eqns.now)) self.old.rest.now).1) }
-        ensures met { OnOk result (self.new.met ≡ self.old.met + made.in_eqns (eqns_of (map eqn_seen eqns.now))) }
-    {
-        for eqn in eqns {
+    #[tactic(auto, using(crate::proofs::Rules::sizes))]
+    fn block(&mut self, block: &Block, into: &mut Vec<usize>) -> Result<(), WatchErr> {
+        for eqn in &block.eqns {
             self.eqn(eqn, into)?;
         }
         Ok(())
     }
 
     /// What is assumed or enforced, if it is said.
-    fn condition(&mut self, said: &Option<Expr>, into: &mut Vec<usize>) -> Result<(), AllocError>
-        ensures found { OnOk result (into.new.items ≡ into.old.items ++ (made.walk_condition said.now self.old.rest.now).0) }
-        ensures rest { OnOk result (self.new.rest.now ≡ (made.walk_condition said.now self.old.rest.now).1) }
-        ensures met { OnOk result (self.new.met ≡ self.old.met + made.in_condition said.now) }
-    {
+    fn condition(&mut self, said: &Option<Expr>, into: &mut Vec<usize>) -> Result<(), WatchErr> {
         match said {
             None => Ok(()),
             Some(expr) => self.expr(expr, into),
         }
     }
 
-    /// A contract: its block, what it assumes, and what it enforces.
-    #[tactic(auto, using(crate::proofs::Rules::walked))]
-    fn contract(&mut self, contract: &Contract, into: &mut Vec<usize>) -> Result<(), AllocError>
-        ensures found { OnOk result (into.new.items ≡ into.old.items ++ (made.walk_contract contract.now self.old.rest.now).0) }
-        ensures met { OnOk result (self.new.met ≡ self.old.met + made.in_contract contract.now) }
-    {
-        self.block(&contract.body, into)?;
-        self.condition(&contract.assume, into)?;
-        self.condition(&contract.enforce, into)?;
-        Ok(())
+    /// Whether all that were made were met.
+    fn finish(&self) -> Result<(), WatchErr> {
+        if self.met == self.events.len() {
+            Ok(())
+        } else {
+            Err(WatchErr::Misfit)
+        }
     }
 }
 
-/// The comparisons and calls of a block, in the order of places, of those that were made of it. It is refused where there are not as many.
-pub fn walk_block(alloc: Global, block: &Block, events: &[usize]) -> Result<Vec<usize>, WatchErr>
-    ensures found { IfOk result (λ found. found.items ≡ (made.walk_block block.now events.now).0) }
-    ensures as_many { OnOk result (length events.now ≡ made.in_block block.now) }
-    ensures misfit { result ≡ Err Misfit → length events.now ≢ made.in_block block.now }
-{
+/// The comparisons and calls of a block, in the order of places, of those that were made of it.
+pub fn walk_block(alloc: Global, block: &Block, events: &[usize]) -> Result<Vec<usize>, WatchErr> {
     let mut walk = Walk {
         alloc,
-        rest: events,
+        events,
         met: 0,
     };
     let mut found = Vec::new(alloc);
     walk.block(block, &mut found)?;
-    if walk.met != events.len() {
-        return Err(WatchErr::Misfit);
-    }
+    walk.finish()?;
     Ok(found)
 }
 
-/// The comparisons of a contract, in the order of places: its block, what it assumes, and what it enforces. It is refused where there are not as many.
+/// The comparisons of a contract, in the order of places: its block, what it assumes, and what it enforces.
 pub fn walk_contract(
     alloc: Global,
     contract: &Contract,
     events: &[usize],
-) -> Result<Vec<usize>, WatchErr>
-    ensures found { IfOk result (λ found. found.items ≡ (made.walk_contract contract.now events.now).0) }
-    ensures as_many { OnOk result (length events.now ≡ made.in_contract contract.now) }
-    ensures misfit { result ≡ Err Misfit → length events.now ≢ made.in_contract contract.now }
-{
+) -> Result<Vec<usize>, WatchErr> {
     let mut walk = Walk {
         alloc,
-        rest: events,
+        events,
         met: 0,
     };
     let mut found = Vec::new(alloc);
-    walk.contract(contract, &mut found)?;
-    if walk.met != events.len() {
-        return Err(WatchErr::Misfit);
-    }
+    walk.block(&contract.body, &mut found)?;
+    walk.condition(&contract.assume, &mut found)?;
+    walk.condition(&contract.enforce, &mut found)?;
+    walk.finish()?;
     Ok(found)
 }

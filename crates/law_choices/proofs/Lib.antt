@@ -14,4 +14,3 @@ pub mod ChosenLemmas
 pub mod OnceLemmas
 pub mod PlacesLemmas
 mod AnsweredLemmas
-pub mod AddingLemmas

@@ -14,4 +14,3 @@ pub mod Chosen
 pub mod Once
 pub mod Places
 pub mod Answered
-pub mod Adding

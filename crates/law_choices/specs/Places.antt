@@ -1,3 +1,4 @@
+pub mod Walk
 pub mod Spots
 pub mod Found
 pub mod Laws

@@ -1,6 +1,0 @@
-use Rattle.std.proofs.Common.{◌≡◌, ◌++◌, take}
-use Rattle.hp_watch.specs.Embedding.{moved_all}
-use Rattle.hp_watch.proofs.embedding.add_moved.Given as goal
-
-abbrev pub invariant-loop-number : goal.invariant-loop-number
-invariant-loop-number l = l.into.items ≡ l.initial.into.items ++ moved_all l.by (take l.number-index l.numbers)

@@ -1,4 +1,0 @@
-pub mod Adds
-pub mod Lifts
-pub mod Always
-pub mod Controls
