@@ -3,7 +3,7 @@
 //! The functions here do nothing: each is a law, which its contract states.
 #![tactic(auto)]
 
-ghost use Rattle.law_choices.specs.Answered.Loops.{ControlledLoopLaw, ExtendedLoopLaw, LoopLaw, LoopsLaw, ThenLaw};
+ghost use Rattle.law_choices.specs.Answered.Loops.{ControlledLoopLaw, ExtendedLoopLaw, LoopLaw, LoopsLaw, OwnLoopLaw, ThenLaw};
 ghost use Rattle.law_choices.specs.Answered.Programs.{AllowedLaw, ClosedProgramLaw, ClosedTextLaw};
 
 use crate::choosing::programs_have_one_meaning_under_each_choice;
@@ -25,6 +25,7 @@ pub fn closed_loops_answer_under_a_choice()
 /// A node that asks a controller defines its controllable variables at each instant.
 pub fn extended_nodes_close()
     ensures extended { ExtendedLoopLaw }
+    ensures itself { OwnLoopLaw }
     ensures in_two_steps { ThenLaw }
     ensures controlled { ControlledLoopLaw }
 {

@@ -1,16 +1,17 @@
 -- Nodes that are extended close the nodes as they were.
-use Rattle.std.proofs.Common.{◌≡◌, ◌⊎◌, inl, inr, ℕ, ◌<◌, ◌≤◌, if◌then◌else◌, List, [], ◌∷◌, ◌++◌, length, map, refl, sym, ap, ap₂, ◌∙◌, arith}
+use Rattle.std.proofs.Common.{◌≡◌, ◌⊎◌, inl, inr, ℕ, ◌<◌, ◌≤◌, if◌then◌else◌, List, [], ◌∷◌, ◌++◌, length, map, refl, sym, ap, ap₂, subst, ◌∙◌, arith}
 use Rattle.std.specs.List.{AllByRecursion}
 use Rattle.std.proofs.lemmas.Bool.{lt-ltb}
-use Rattle.std.proofs.lemmas.List.{append_assoc, length-append}
+use Rattle.std.proofs.lemmas.List.{append-nil, append_assoc, length-append}
 use Rattle.hp_base.specs.declared.value.Value.{Value}
 use Rattle.hp_base.specs.declared.value.Value.TheVariants.{Absent}
 use Rattle.hp_flat.specs.Equations.{FlatEqn}
+use Rattle.hp_flat.specs.Nodes.{FlatNode}
 use Rattle.law_equations.specs.Meaning.Instants.{Instant}
-use Rattle.law_equations.specs.Meaning.Reactions.{outputs_at}
+use Rattle.law_equations.specs.Meaning.Reactions.{Answers, Reaction, outputs_at}
 use Rattle.law_equations.specs.Meaning.Scheduling.{AreBelow}
-use Rattle.hp_controller.specs.Extending.{cut, ExtendedLaw}
-use Rattle.law_choices.specs.Answered.Loops.{Loop, SameOutputs, ExtendedLoopLaw, ThenLaw}
+use Rattle.hp_controller.specs.Extending.{cut, rows_with, ExtendedLaw}
+use Rattle.law_choices.specs.Answered.Loops.{Loop, SameOutputs, ExtendedLoopLaw, OwnLoopLaw, ThenLaw}
 
 -- the first variables of an instant
 values_within : (bound : ℕ) (now : Instant) (xs : List ℕ) → AreBelow bound xs → map (cut bound now) xs ≡ map now xs
@@ -27,6 +28,20 @@ extended_loop law controls more l loop same x answers = record {
   loop = loop;
   follows = λ rows instants r.
       record { followed = map (cut (length l.plant.variables)) instants; reaction = law answers l.plant l.closed controls more x rows instants r; outputs = outputs_within l same instants };
+}
+
+-- ---- nodes that stay
+
+none_behind : (answers : Answers) (n : FlatNode) (rows : List (List Value)) (instants : List Instant) → Reaction answers n rows instants → rows_with n.inputs 0 rows instants ≡ rows
+none_behind answers n [] [] r = refl
+none_behind answers n [] (now ∷ past) r = absurd r
+none_behind answers n (row ∷ rows) [] r = absurd r
+none_behind answers n (row ∷ rows) (now ∷ past) r = ap₂ (λ (v : List Value) (vs : List (List Value)). v ∷ vs) (append-nil row) (none_behind answers n rows past r.0)
+
+pub own_loop : OwnLoopLaw
+own_loop n within answers = record {
+  loop = record { name = refl; inputs = omega arith; within = within; variables = ([], sym (append-nil n.variables)); defined = λ now. tt };
+  follows = λ rows instants r. record { followed = instants; reaction = subst (λ rs. Reaction answers n rs instants) (sym (none_behind answers n rows instants r)) r; outputs = refl };
 }
 
 -- ---- two steps

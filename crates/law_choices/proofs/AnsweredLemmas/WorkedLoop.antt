@@ -1,11 +1,10 @@
 -- Worked: a node whose controllable variable is the negation of its input. It meets each premise of the laws of closed nodes, and where its input is true the choice is false.
-use Rattle.std.proofs.Common.{◌≡◌, ℕ, zero, suc, ◌<◌, Bool, true, false, not, List, [], ◌∷◌, length, map, refl, sym, ap, ap₂, subst, ◌∙◌, arith}
-use Rattle.std.specs.Prelude.{⊤, inl, IsTrue, nat_eq}
-use Rattle.std.specs.List.{AllByRecursion, Contains, IsDistinct}
-use Rattle.hp_base.specs.Kinds.{KindData, Bools, IsOfKind, AreOfKinds}
+use Rattle.std.proofs.Common.{◌≡◌, inl, true, false, List, [], ◌∷◌, refl, ap, ◌∙◌, arith}
+use Rattle.std.specs.Prelude.{IsTrue}
+use Rattle.std.specs.List.{IsDistinct}
+use Rattle.hp_base.specs.Kinds.{KindData, Bools, IsOfKind}
 use Rattle.hp_base.specs.declared.value.Value.{Value}
 use Rattle.hp_base.specs.declared.value.Value.TheVariants.{Absent, Nil, B, E, I, Star}
-use Rattle.hp_obc.specs.Machines.{ObcType}
 use Rattle.hp_obc.specs.Steps.{Names}
 use Rattle.hp_obc.specs.Values.{unary}
 use Rattle.hp_obc.specs.declared.command.ObcOp.TheVariants.{Not, And}
@@ -15,19 +14,14 @@ use Rattle.hp_flat.specs.declared.node.Variable.{Variable}
 use Rattle.hp_flat.specs.Equations.{operator, FlatEqn}
 use Rattle.hp_flat.specs.Nodes.{FlatNode}
 use Rattle.law_equations.specs.Meaning.Fitting.{is_there}
-use Rattle.law_equations.specs.Meaning.Instants.{Instant}
-use Rattle.law_equations.specs.Meaning.Kinding.{Callees, IsWellMade, IsPossible, ClocksFit}
-use Rattle.law_equations.specs.Meaning.Solving.{IsExclusive}
+use Rattle.law_equations.specs.Meaning.Kinding.{Callees, EqnKinds, IsWellMade}
 use Rattle.hp_controller.specs.Extending.{Extends}
 use Rattle.law_choices.specs.OnClocks.Meaning as plain
-use Rattle.law_choices.specs.OnClocks.Meaning.{HasSome, HasOneMeaning}
+use Rattle.law_choices.specs.OnClocks.Meaning.{HasOneMeaning}
 use Rattle.law_choices.specs.Choosing.Meaning.{AreInTurn}
-use Rattle.law_choices.specs.Answered.Loops.{Loop, IsLoop, SameOutputs, IsClosed, AnswersChosen, plants, HaveClosed, AreClosed, ExtendedLoopLaw, LoopsLaw}
+use Rattle.law_choices.specs.Answered.Loops.{Loop, IsLoop, SameOutputs, AnswersChosen, plants, ExtendedLoopLaw, LoopsLaw}
 
 -- ---- the nodes
-
-
-
 
 -- an input, a controllable variable and an output
 abbrev variables : List Variable
@@ -62,7 +56,7 @@ extends : Extends plant closed 1 (its_control ∷ [])
 extends = record {
   inputs = refl;
   variables = omega arith;
-  within = (record { targets = (omega arith, tt); clock = tt; operands = (omega arith, omega arith, tt); restart = tt }, tt);
+  within = (record { targets = (omega arith, tt); clock = tt; operands = (omega arith, (omega arith, tt)); restart = tt }, tt);
   eqns = refl;
   targets = ((inl (omega arith), tt), tt);
 }
@@ -76,47 +70,57 @@ abbrev controls : Names (List KindData)
 controls f = Bools ∷ []
 
 bool_there : (v : Value) → IsOfKind Bools v → IsTrue (is_there v)
-bool_there (B b) h = tt
+bool_there (B b) h = refl
 bool_there Absent h = absurd h
 bool_there Nil h = absurd h
 bool_there Star h = absurd h
 bool_there (E t c) h = absurd h
 bool_there (I n) h = absurd h
 
-unfolding IsDistinct
-  plant_well : IsWellMade [] callees plant
-  plant_well = record {
-    ranked = ((((λ (h : false ≡ true). absurd cc), tt), ((λ (h : false ≡ true). absurd cc), tt), tt), tt);
-    no_inputs = ((omega arith, tt), tt);
-    targets_differ = ((tt, tt), tt);
-    values = (tt, tt, tt, tt);
-    kinds = (record { right = (Bools ∷ Bools ∷ [], (refl, refl, tt), Bools, refl, refl); clock = tt; restart = tt }, tt);
-    fit = λ now p. record { outputs = (bool_there (now 2) (p 2), tt); clocks = (tt, tt); operands_there = ((λ h. (bool_there (now 0) (p 0), bool_there (now 1) (p 1), tt)), tt); exclusive = ((λ h. tt), tt) };
-  }
+-- the kind of the output, and that of the controllable variable
+output_kinds : EqnKinds [] callees variables its_output
+output_kinds = record { right = (Bools ∷ Bools ∷ [], (refl, (refl, tt)), Bools, refl, refl); clock = tt; restart = tt }
 
-  closed_well : IsWellMade [] callees closed
-  closed_well = record {
-    ranked =
-        ((((λ (h : false ≡ true). absurd cc), (λ (h : false ≡ true). absurd cc), tt), ((λ (h : false ≡ true). absurd cc), (λ h. omega arith), tt), tt), (((λ (h : false ≡ true). absurd cc), (λ (h : false ≡ true). absurd cc), tt), tt), tt);
-    no_inputs = ((omega arith, tt), (omega arith, tt), tt);
-    targets_differ = ((tt, tt), (tt, tt), tt);
-    values = (tt, tt, tt, tt);
-    kinds =
-        (record { right = (Bools ∷ Bools ∷ [], (refl, refl, tt), Bools, refl, refl); clock = tt; restart = tt }, record { right = (Bools ∷ [], (refl, tt), Bools, refl, refl); clock = tt; restart = tt }, tt);
-    fit = λ now p.
-        record {
-          outputs = (bool_there (now 2) (p 2), tt);
-          clocks = (tt, tt, tt);
-          operands_there = ((λ h. (bool_there (now 0) (p 0), bool_there (now 1) (p 1), tt)), (λ h. (bool_there (now 0) (p 0), tt)), tt);
-          exclusive = ((λ h. ((λ g. (refl, tt)), tt)), (λ h. tt), tt);
-        };
-  }
+control_kinds : EqnKinds [] callees variables its_control
+control_kinds = record { right = (Bools ∷ [], (refl, tt), Bools, refl, refl); clock = tt; restart = tt }
+
+no : {P : Type 0} → false ≡ true → P
+no h = absurd cc
+
+plant_well : IsWellMade [] callees plant
+unfolding IsDistinct
+plant_well = record {
+  ranked = (((no, tt), ((no, tt), tt)), tt);
+  no_inputs = ((omega arith, tt), tt);
+  targets_differ = ((tt, tt), tt);
+  values = (tt, (tt, (tt, tt)));
+  kinds = (output_kinds, tt);
+  fit = λ now p.
+      record { outputs = (bool_there (now 2) (p 2), tt); clocks = (tt, tt); operands_there = ((λ h. (bool_there (now 0) (p 0), (bool_there (now 1) (p 1), tt))), tt); exclusive = ((λ h. tt), tt) };
+}
+
+closed_well : IsWellMade [] callees closed
+unfolding IsDistinct
+closed_well = record {
+  ranked = (((no, (no, tt)), ((no, ((λ h. omega arith), tt)), tt)), (((no, (no, tt)), tt), tt));
+  no_inputs = ((omega arith, tt), ((omega arith, tt), tt));
+  targets_differ = ((tt, tt), ((tt, tt), tt));
+  values = (tt, (tt, (tt, tt)));
+  kinds = (output_kinds, (control_kinds, tt));
+  fit = λ now p.
+      record {
+        outputs = (bool_there (now 2) (p 2), tt);
+        clocks = (tt, (tt, tt));
+        operands_there = ((λ h. (bool_there (now 0) (p 0), (bool_there (now 1) (p 1), tt))), ((λ h. (bool_there (now 0) (p 0), tt)), tt));
+        exclusive = ((λ h. ((λ g. (refl, tt)), tt)), ((λ h. tt), tt));
+      };
+}
 
 plants_in_turn : AreInTurn [] callees controls [] (plants (loop ∷ []))
 plants_in_turn = (plant_well, record { takes = refl; gives = refl }, refl, (tt, tt), tt)
 
 closed_in_turn : plain.AreInTurn [] callees [] (closed ∷ [])
-closed_in_turn = (closed_well, record { takes = refl; gives = refl }, refl, (tt, tt, tt), tt)
+closed_in_turn = (closed_well, record { takes = refl; gives = refl }, refl, (tt, (tt, tt)), tt)
 
 -- ---- what is answered
 
@@ -134,7 +138,7 @@ module _ (meaning : plain.MeaningLaw) (extended : ExtendedLoopLaw) (loops : Loop
       let r = y.reaction in
       let here = r.1 in
       let input : y.now 0 ≡ B true = ap first here.inputs_are in
-      let control : y.now 1 ≡ negated (y.now 0) = ap first (here.equations.1.0 tt) in
+      let control : y.now 1 ≡ negated (y.now 0) = ap first (here.equations.1.0 refl) in
       chosen.theirs.0 (B true ∷ []) [] (tt, tt) tt y.now y.past r ∙ ap (λ v. v ∷ []) (control ∙ ap negated input)
     where
       first : List Value → Value

@@ -57,6 +57,10 @@ pub record SameOutputs (l : Loop) : Type 0 where
 abbrev pub ExtendedLoopLaw : Type 0
 ExtendedLoopLaw = (controls : ℕ) (more : List FlatEqn) (l : Loop) → IsLoop controls l → SameOutputs l → Extends l.plant l.closed controls more → (answers : Answers) → IsClosed answers controls l
 
+-- A node without controllable variables closes itself.
+abbrev pub OwnLoopLaw : Type 0
+OwnLoopLaw = (n : FlatNode) → n.inputs ≤ length n.variables → (answers : Answers) → IsClosed answers 0 (record { plant = n; closed = n })
+
 -- A node may be extended before it is closed.
 abbrev pub ThenLaw : Type 0
 ThenLaw =
