@@ -94,7 +94,7 @@ module _ (words : List (List ℕ)) (held : Files) (file out text : List ℕ) (pr
   succeeds log line status (Outcome.chosen_compiled c chosen some) f g = inl refl
   succeeds log line status (Outcome.chosen_not_written c chosen some) f g = absurd (g refl)
   succeeds log line status (Outcome.past {file = x} {out = y} v r) f g = unfolds x y line status v r g
-  succeeds log line status (Outcome.swept s is_summary) f g = inl refl
+  succeeds log line status (Outcome.swept other s is_summary) f g = inl refl
   succeeds log line status (Outcome.swept_in_part other said rest s is_summary e) f g = absurd (g refl)
   succeeds log line status (Outcome.not_swept {tasks = t} {instants = i} s) f g = absurd (sweep_past words t i s file out w)
   succeeds log line status (Outcome.done asked step has_end answer good_lines) f g = inl refl
