@@ -117,7 +117,7 @@ fn definition(alloc: Global, decl: &Decl, right: Expr) -> Result<Eqn, AllocError
 }
 
 /// The right side `arg op last name`.
-fn joined(alloc: Global, at: Span, op: Op2, arg: &Name, name: &Name) -> Result<Expr, AllocError>
+fn with_last(alloc: Global, at: Span, op: Op2, arg: &Name, name: &Name) -> Result<Expr, AllocError>
     ensures { IfOk result (λ expr. expr ≡ tree.two at op (tree.variable at arg.now) (tree.last_of at name.now)) }
 {
     let first = variable(alloc, at, arg)?;
@@ -188,7 +188,7 @@ impl Additions {
     {
         let arg = self.add_argument(text, at, arg)?;
         let name = self.fresh(text)?;
-        let right = joined(text.alloc, at, Op2::Or, &arg, &name)?;
+        let right = with_last(text.alloc, at, Op2::Or, &arg, &name)?;
         let decl = boolean(text.alloc, at, &name, Some(false))?;
         self.define(text.alloc, decl, right)?;
         Ok(name)
@@ -207,7 +207,7 @@ impl Additions {
     {
         let arg = self.add_argument(text, at, arg)?;
         let name = self.fresh(text)?;
-        let right = joined(text.alloc, at, Op2::And, &arg, &name)?;
+        let right = with_last(text.alloc, at, Op2::And, &arg, &name)?;
         let decl = boolean(text.alloc, at, &name, Some(true))?;
         self.define(text.alloc, decl, right)?;
         Ok(name)
@@ -229,7 +229,7 @@ impl Additions {
         let begins = self.add_argument(text, at, begins)?;
         let name = self.fresh(text)?;
         let first = variable(text.alloc, at, &begins)?;
-        let second = joined(text.alloc, at, Op2::And, &holds, &name)?;
+        let second = with_last(text.alloc, at, Op2::And, &holds, &name)?;
         let right = two(text.alloc, at, Op2::Or, first, second)?;
         let decl = boolean(text.alloc, at, &name, Some(false))?;
         self.define(text.alloc, decl, right)?;

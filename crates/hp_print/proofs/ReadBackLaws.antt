@@ -29,7 +29,7 @@ slice-at front w rest =
 
 -- ---- the tokens that are written are spelled as they are written
 
-spell-at : (ws : List Written) (front text : List ℕ) → text ≡ front ++ written_text ws → Spell (lexemes text (written_tokens front ws)) ws
+pub spell-at : (ws : List Written) (front text : List ℕ) → text ≡ front ++ written_text ws → Spell (lexemes text (written_tokens front ws)) ws
 spell-at [] front text e = tt
 spell-at (w ∷ ws) front text e =
     let rest = w.behind ∷ written_text ws in
@@ -52,7 +52,7 @@ lexemes-append : (text : List ℕ) (ts us : List Token) → lexemes text (ts ++ 
 lexemes-append text [] us = refl
 lexemes-append text (t ∷ ts) us = ap (λ z. lexeme text t ∷ z) (lexemes-append text ts us)
 
-all-spelled : (text front : List ℕ) (tokens : List Token) (rest : List ℕ) → text ≡ front ++ rest → Reads front tokens rest → Spelled (lexemes text tokens)
+pub all-spelled : (text front : List ℕ) (tokens : List Token) (rest : List ℕ) → text ≡ front ++ rest → Reads front tokens rest → Spelled (lexemes text tokens)
 all-spelled text front tokens rest e (Reads.nothing) = tt
 all-spelled text front tokens rest e (Reads.more {front = f} {w = w} {tokens = ts} {next = next} r p) =
     let whole : text ≡ f ++ (w ++ rest) = e ∙ append_assoc f w rest in
@@ -61,7 +61,7 @@ all-spelled text front tokens rest e (Reads.more {front = f} {w = w} {tokens = t
 
 -- ---- the law
 
-same-tokens : (p q : List Item) → bare_program p ≡ bare_program q → program_tokens p ≡ program_tokens q
+pub same-tokens : (p q : List Item) → bare_program p ≡ bare_program q → program_tokens p ≡ program_tokens q
 same-tokens p q e = sym (program-bare p) ∙ ap program_tokens e ∙ program-bare q
 
 pub read-back : (p : List Item) → IsOfText p → length (canonical_text p) ≤ most Size → IsReadBack p (canonical_text p)
