@@ -3,6 +3,7 @@
 
 libraries.py build LANES CRATE..   proves and builds, as the gate does, each library at or below these that is not built of its sources: so many at once, those with the
                                    longest chain above them first; a program is checked. A log of each stands in /tmp/libraries/CRATE
+libraries.py program LANES CRATE   the same, and builds the program, which stands in its folder out/ then; it tells of each crate that is proved, and may be stopped and started
 libraries.py take CLONE            takes from another clone all libraries that are built of the same sources
 libraries.py rt WORD..             the kit's rt in the current folder, with each crate's sources summed up once, and no lock on the libraries below
 """
@@ -70,12 +71,14 @@ def weight(crate):
     return SECONDS.get(crate.name, 20 + laws / 100 + crate.count(rb'\n') / 10)
 
 
-def prove(rt, crate, jobs):
+def prove(rt, crate, jobs, makes=False):
     started = time.time()
     with open(f'{LOGS}/{crate.name}', 'w', encoding='utf-8') as crate.out:
         os.makedirs(f'{crate.folder}/out', exist_ok=True)
         status = 1 if rt.rtlib.fmt(crate.folder, '--check', crate.out) else 0
-        if crate.is_program:
+        if crate.is_program and makes:
+            status = crate.ci(['--jobs', str(jobs)], False) or status
+        elif crate.is_program:
             status = crate.prove(['check', *crate.words(['--jobs', str(jobs)], keeps=False)]) or status
         else:
             stamp = crate.stamp()
@@ -86,13 +89,20 @@ def prove(rt, crate, jobs):
     return status, round(time.time() - started)
 
 
-def build(rt, lanes, names):
+def build(rt, lanes, names, makes=False):
     os.makedirs(LOGS, exist_ok=True)
     rt.rtlib.guarded()
     # the crates above a library load its statements, as in the gate
     rt.rtlib.Crate.cuts_libraries = True
+    if makes:
+        rt.rtlib.Crate = rt.Crate
+        rt.Crate.allowed = rt.handles_of(os.getcwd())
     crates = below(rt, os.getcwd(), names)
     todo = [it for it in crates if it.is_program or not it.is_built()]
+    if makes:
+        for it in crates:
+            if it not in todo:
+                print(f'rt: {it.name} is kept: nothing has changed', flush=True)
     done, failed, running, chain = {it.name for it in crates} - {it.name for it in todo}, [], {}, {}
     for it in reversed(crates):
         chain[it.name] = chain.get(it.name, 0) + weight(it)
@@ -109,13 +119,16 @@ def build(rt, lanes, names):
                     break
                 jobs = max(1, min(4, free // (len(ready) - at))) if weight(it) > 800 else 1
                 todo.remove(it)
-                running[pool.submit(prove, rt, it, jobs)] = it, jobs
+                running[pool.submit(prove, rt, it, jobs, makes)] = it, jobs
             if not running:
                 break
             for task in wait(running, return_when=FIRST_COMPLETED).done:
                 it, _ = running.pop(task)
                 status, seconds = task.result()
-                print(time.strftime('%H:%M:%S'), 'NOT PROVED' if status else 'proved', it.name, f'{seconds} s', flush=True)
+                if makes:
+                    print(f'rt: {it.name} {"NOT PROVED" if status else "proved"}', flush=True)
+                else:
+                    print(time.strftime('%H:%M:%S'), 'NOT PROVED' if status else 'proved', it.name, f'{seconds} s', flush=True)
                 (failed.append if status else done.add)(it.name)
     print(f'not proved: {failed}; not tried: {[it.name for it in todo]}' if failed else 'all are proved')
     return bool(failed)
@@ -139,6 +152,8 @@ def take(rt, other):
 def main(words):
     if words[:1] == ['build'] and len(words) > 2:
         return build(kit(), int(words[1]), words[2:])
+    if words[:1] == ['program'] and len(words) == 3:
+        return build(kit(), int(words[1]), words[2:], makes=True)
     if words[:1] == ['take'] and len(words) == 2:
         return take(kit(), words[1])
     if words[:1] == ['rt']:

@@ -13,6 +13,7 @@ from . import TOOLS, TOP, program
 
 # proves each crate of the folder that it is called in, and makes a program that says its words
 STANDS_IN = '''#!/bin/sh
+[ "$1" = help ] && echo "rt ci [--anew]" && exit
 [ "$1" = ci ] || exit 9
 [ -f HANDLES ] && [ -d .git ] || exit 8
 for name in $(sed 's/:.*//' crates.txt); do
@@ -94,7 +95,7 @@ class Repository(unittest.TestCase):
 
     def test_who_stops_it_stops_what_it_started(self):
         with open(f'{self.bin}/rt', 'w') as file:
-            file.write('#!/bin/sh\necho $$ >"$(dirname "$0")/number"\npwd >"$(dirname "$0")/room"\nexec sleep 100\n')
+            file.write('#!/bin/sh\n[ "$1" = help ] && echo --anew && exit\necho $$ >"$(dirname "$0")/number"\npwd >"$(dirname "$0")/room"\nexec sleep 100\n')
         started = subprocess.Popen([f'{self.top}/build'], stderr=subprocess.PIPE, text=True, env={**os.environ, 'PATH': f'{self.bin}:{os.environ["PATH"]}', 'PYTHONDONTWRITEBYTECODE': '1'})
         self.until(lambda: os.path.exists(f'{self.bin}/room') and os.path.getsize(f'{self.bin}/room'))
         started.send_signal(signal.SIGTERM)

@@ -8,6 +8,8 @@ use Rattle.hp_compile.specs.declared.refusal.Refusal.{Refusal}
 use Rattle.hp_compile.specs.declared.refusal.Refusal.TheVariants as refusal
 use Rattle.hp_io.specs.Files.{Files}
 use Rattle.hp_io.specs.Told.{Grows}
+use Rattle.hp_past.specs.Unfolding.{unfolded}
+use Rattle.hp_print.specs.ReadBack.{IsReadBack}
 use Rattle.hp_tree.specs.declared.program.Item.{Item}
 use Rattle.hp_driver.specs.Command.{IsPastOf}
 use Rattle.hp_driver.specs.Diagnostics.{refusal_line}
@@ -31,14 +33,18 @@ module _ (out : List ℕ) (program : List Item) where
   holds : (files : Option Files) (file text : List ℕ) → Gives files file text → IsProgramOf text program → HoldsProgram files file program
   holds files file text gives is = record { text = text; gives = gives; program_of = is }
 
+  -- what is written of the program of a text is read back
+  abbrev pub ReadsBack : Type 0
+  ReadsBack = (text : List ℕ) → IsProgramOf text program → length (unfolded_text program) ≤ most Size → IsReadBack (unfolded program) (unfolded_text program)
+
   -- so is the text of the program without the formulas of its contracts
-  pub unfolds : (line : List ℕ) (status : ℕ) → WritesSource (unfolded_text program) line status → UnfoldsProgram out program line status
-  unfolds line status (WritesSource.too_long long) text is words files file w gives = Outcome.past w (PastOutcome.too_long_unfolded (holds files file text gives is) long)
-  unfolds line status (WritesSource.written short) text is words files file w gives = Outcome.past w (PastOutcome.written (holds files file text gives is) short)
-  unfolds line status (WritesSource.not_written short) text is words files file w gives = Outcome.past w (PastOutcome.not_written (holds files file text gives is) short)
-  unfolds line status WritesSource.no_memory text is words files file w gives = Outcome.no_memory
-  unfolds line status (WritesSource.line_failed {status = s} told b rest r) text is words files file w gives =
-      Outcome.line_failed line b rest (unfolds (line ++ b ∷ rest) s r text is words files file w gives)
+  pub unfolds : ReadsBack → (line : List ℕ) (status : ℕ) → WritesSource (unfolded_text program) line status → UnfoldsProgram out program line status
+  unfolds back line status (WritesSource.too_long long) text is words files file w gives = Outcome.past w (PastOutcome.too_long_unfolded (holds files file text gives is) long)
+  unfolds back line status (WritesSource.written short) text is words files file w gives = Outcome.past w (PastOutcome.written (holds files file text gives is) short (back text is short))
+  unfolds back line status (WritesSource.not_written short) text is words files file w gives = Outcome.past w (PastOutcome.not_written (holds files file text gives is) short)
+  unfolds back line status WritesSource.no_memory text is words files file w gives = Outcome.no_memory
+  unfolds back line status (WritesSource.line_failed {status = s} told b rest r) text is words files file w gives =
+      Outcome.line_failed line b rest (unfolds back (line ++ b ∷ rest) s r text is words files file w gives)
 
   pub unfolds_memory : UnfoldsProgram out program [] 6
   unfolds_memory text is words files file w gives = Outcome.no_memory

@@ -5,6 +5,7 @@ use Rattle.hp_base.specs.declared.limit.What.TheVariants.{Size}
 use Rattle.hp_io.specs.Files.{Files}
 use Rattle.hp_tree.specs.declared.program.Item.{Item}
 use Rattle.hp_print.specs.ProgramTokens.{canonical_text}
+use Rattle.hp_print.specs.ReadBack.{IsReadBack}
 use Rattle.hp_compile.specs.Judged.{IsProgramOf}
 use Rattle.hp_compile.specs.Refusals.{Causes}
 use Rattle.hp_compile.specs.declared.refusal.Refusal.{Refusal}
@@ -31,6 +32,6 @@ module _ (files : Option Files) (file : List ℕ) where
     refused : (text : List ℕ) (cause : Refusal) → Gives files file text → Causes text cause → ((program : List Item) → IsProgramOf text program → ⊥) → PastOutcome (refusal_line cause) 1
     -- the text that would be written is longer than a source text may be
     too_long_unfolded : {program : List Item} → HoldsProgram files file program → most Size < length (unfolded_text program) → PastOutcome (too_long_line Size) 1
-    -- it was written, or could not be
-    written : {program : List Item} → HoldsProgram files file program → length (unfolded_text program) ≤ most Size → PastOutcome [] 0
+    -- it was written, and is read back as that program, but for places; or it could not be written
+    written : {program : List Item} → HoldsProgram files file program → length (unfolded_text program) ≤ most Size → IsReadBack (unfolded program) (unfolded_text program) → PastOutcome [] 0
     not_written : {program : List Item} → HoldsProgram files file program → length (unfolded_text program) ≤ most Size → PastOutcome [] 5

@@ -1,5 +1,5 @@
 //! The command `past`.
-ghost use Rattle.std.specs.Prelude.{◌≡◌, ◌≢◌, List, ℕ, IfOk, IfErr, MatchResult};
+ghost use Rattle.std.specs.Prelude.{◌≡◌, ◌≢◌, ◌<◌, ◌^◌, List, ℕ, IfOk, IfErr, OnOk, MatchResult};
 ghost use Rattle.hp_io.specs.Reads.{NothingRead};
 ghost use Rattle.hp_io.specs.Told.{Grows};
 ghost use Rattle.hp_tree.specs.declared.program.Item.{Item};
@@ -7,7 +7,7 @@ ghost use Rattle.hp_print.specs.ProgramTokens.{canonical_text};
 ghost use Rattle.hp_compile.specs.Judged.{IsProgramOf};
 ghost use Rattle.hp_compile.specs.Refusals.{IsRefused};
 ghost use Rattle.hp_compile.specs.declared.refusal.Refusal.TheVariants.{OutOfMemory};
-ghost use Rattle.hp_past.specs.Unfolding.{unfolded};
+ghost use Rattle.hp_past.specs.Unfolding.{unfolded, next_number};
 ghost use Rattle.hp_driver.specs.Faults.{WriteOrPutFaults};
 ghost use Rattle.hp_driver.specs.Past.{UnfoldsText, UnfoldsProgram, WritesSource, LeavesOfText, LeavesOfProgram, LeavesSource};
 ghost use Rattle.hp_driver.specs.Status.{code_of};
@@ -20,7 +20,7 @@ use hp_compile::Refusal;
 use hp_io::{Folder, Sink};
 use hp_lexer::lex;
 use hp_parser::parse;
-use hp_past::unfold;
+use hp_past::{unfold, unfolded_programs_are_read_back};
 use hp_print::print;
 use hp_tree::Program;
 use std::alloc::{AllocError, Global};
@@ -39,7 +39,8 @@ fn read(alloc: Global, text: &[u8]) -> Result<Program, Refusal>
 
 /// The canonical text of the program without the formulas of its contracts.
 fn unfolded_text(alloc: Global, program: &Program) -> Result<Vec<u8>, AllocError>
-    ensures { IfOk result (λ text. text.items ≡ canonical_text (unfolded program.now)) }
+    ensures text { IfOk result (λ text. text.items ≡ canonical_text (unfolded program.now)) }
+    ensures small { OnOk result (next_number program.now < 2 ^ 64) }
 {
     match unfold(alloc, program) {
         Ok(unfolded) => print(alloc, &unfolded),
@@ -81,6 +82,8 @@ fn write_unfolded<F: Folder, E: Sink>(
     ensures reads { NothingRead (F.reads files.old) (F.reads files.new) }
     ensures writes { WriteOrPutFaults out.now (code_of result) (F.write_faults files.old) (F.write_faults files.new) (E.faults diag.old) (E.faults diag.new) }
 {
+    // A law: what is written is read back.
+    unfolded_programs_are_read_back();
     match unfolded_text(alloc, program) {
         Ok(text) => write_source(alloc, text.as_slice(), out, files, diag),
         Err(_) => Status::NoMemory,

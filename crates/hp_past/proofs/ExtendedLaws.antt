@@ -77,15 +77,15 @@ module _ (there : Formulas) (names : Names) where
   contract-later : (c : Contract) (k : ℕ) → k ≤ (in_contract there names c k).1
   contract-later c k = let steps = contract-steps there names c (nothing_added k) in steps.later
 
-  optional-later : (o : Option Contract) (k : ℕ) → k ≤ (in_optional there names o k).1
+  pub optional-later : (o : Option Contract) (k : ℕ) → k ≤ (in_optional there names o k).1
   optional-later None k = omega arith
   optional-later (Some c) k = contract-later c k
 
-  item-later : (item : Item) (k : ℕ) → k ≤ (in_item there names item k).1
+  pub item-later : (item : Item) (k : ℕ) → k ≤ (in_item there names item k).1
   item-later (TypeItem t) k = omega arith
   item-later (NodeItem n) k = optional-later n.contract k
 
-  behind-later : (items : List Item) (k : ℕ) → k ≤ number_behind there names items k
+  pub behind-later : (items : List Item) (k : ℕ) → k ≤ number_behind there names items k
   behind-later [] k = omega arith
   behind-later (item ∷ items) k =
       let a = item-later item k in

@@ -182,13 +182,13 @@ steps-on names s t u a b =
 
 -- a variable that is added under a name that is new
 module _ (names : Names) (s : Added) (at : Span) (first : Option Bool) (right : Expr) where
-  abbrev number : ℕ
+  abbrev pub number : ℕ
   number = free names s.next
 
-  abbrev decl_of : Decl
+  abbrev pub decl_of : Decl
   decl_of = boolean at (past_name number) first
 
-  abbrev behind : Added
+  abbrev pub behind : Added
   behind = record { next = suc number; locals = s.locals ++ decl_of ∷ []; eqns = s.eqns ++ equation decl_of right ∷ [] }
 
   later-number : s.next ≤ number
@@ -245,24 +245,24 @@ memory-steps names at b right s keeps =
     let l = free-later names s.next in
     record { later = omega (arith, l); well = λ h w. well-behind names s at (Some b) right h w (keeps h w) }
 
-abbrev single : Op2 → Span → List ℕ → List ℕ → Expr
+abbrev pub single : Op2 → Span → List ℕ → List ℕ → Expr
 single op at n v = two at op (variable at n) (last_of at v)
 
 -- a formula of one argument
 module _ (names : Names) (at : Span) (e : Expr) (s : Added) (op : Op2) (b : Bool) where
-  abbrev argued : Added
+  abbrev pub argued : Added
   argued = behind names s at None e
 
-  abbrev argument : List ℕ
+  abbrev pub argument : List ℕ
   argument = past_name (free names s.next)
 
-  abbrev memory : List ℕ
+  abbrev pub memory : List ℕ
   memory = past_name (free names argued.next)
 
-  abbrev right_single : Expr
+  abbrev pub right_single : Expr
   right_single = single op at argument memory
 
-  abbrev single_added : Added
+  abbrev pub single_added : Added
   single_added = behind names argued at (Some b) right_single
 
   single-steps : (f : Remembered) → variable_of f ≡ memory
@@ -283,25 +283,25 @@ historically-steps names at e s =
     single-steps names at e s And true (historically (argument names at e s And true) (memory names at e s And true)) refl (λ d r. (d, (at, r)))
 
 module _ (names : Names) (at : Span) (e1 e2 : Expr) (s : Added) where
-  abbrev first_added : Added
+  abbrev pub first_added : Added
   first_added = behind names s at None e1
 
-  abbrev second_added : Added
+  abbrev pub second_added : Added
   second_added = behind names first_added at None e2
 
-  abbrev holding : List ℕ
+  abbrev pub holding : List ℕ
   holding = past_name (free names s.next)
 
-  abbrev beginning : List ℕ
+  abbrev pub beginning : List ℕ
   beginning = past_name (free names first_added.next)
 
-  abbrev lasting : List ℕ
+  abbrev pub lasting : List ℕ
   lasting = past_name (free names second_added.next)
 
-  abbrev right_since : Expr
+  abbrev pub right_since : Expr
   right_since = two at Or (variable at beginning) (two at And (variable at holding) (last_of at lasting))
 
-  abbrev since_added : Added
+  abbrev pub since_added : Added
   since_added = behind names second_added at (Some false) right_since
 
   since-added-steps : Steps names s since_added
@@ -337,14 +337,14 @@ module _ (there : Formulas) (names : Names) where
   two-steps remembered steps at f (more_exprs e1 (more_exprs e2 no_expr)) s = steps e1 e2 s
   two-steps remembered steps at f (more_exprs e1 (more_exprs e2 (more_exprs e3 es))) s = stays names s
 
-  call-steps : (formula : Option Formula) (at : Span) (f : List ℕ) (es : Exprs) (s : Added) → Steps names s (formula_or_call names formula at f es s).1
+  pub call-steps : (formula : Option Formula) (at : Span) (f : List ℕ) (es : Exprs) (s : Added) → Steps names s (formula_or_call names formula at f es s).1
   call-steps None at f es s = stays names s
   call-steps (Some formula.Once) at f es s = one-steps (once_of names at) (once-steps names at) at f es s
   call-steps (Some formula.Historically) at f es s = one-steps (historically_of names at) (historically-steps names at) at f es s
   call-steps (Some formula.Since) at f es s = two-steps (since_of names at) (since-steps names at) at f es s
 
   mutual
-    expr-steps : (e : Expr) (s : Added) → Steps names s (in_expr there names e s).1
+    pub expr-steps : (e : Expr) (s : Added) → Steps names s (in_expr there names e s).1
     expr-steps (constant at c) s = stays names s
     expr-steps (variable at x) s = stays names s
     expr-steps (last_of at x) s = stays names s
@@ -370,31 +370,31 @@ module _ (there : Formulas) (names : Names) where
         let t = in_exprs there names es s in
         steps-on names s t.1 (formula_or_call names (formula_of there f) at f t.0 t.1).1 (exprs-steps es s) (call-steps (formula_of there f) at f t.0 t.1)
 
-    exprs-steps : (es : Exprs) (s : Added) → Steps names s (in_exprs there names es s).1
+    pub exprs-steps : (es : Exprs) (s : Added) → Steps names s (in_exprs there names es s).1
     exprs-steps no_expr s = stays names s
     exprs-steps (more_exprs e es) s =
         let t = (in_expr there names e s).1 in
         steps-on names s t (in_exprs there names es t).1 (expr-steps e s) (exprs-steps es t)
 
-    parts-steps : (ps : Parts) (s : Added) → Steps names s (in_parts there names ps s).1
+    pub parts-steps : (ps : Parts) (s : Added) → Steps names s (in_parts there names ps s).1
     parts-steps no_part s = stays names s
     parts-steps (more_parts c e ps) s =
         let t = (in_expr there names e s).1 in
         steps-on names s t (in_parts there names ps t).1 (expr-steps e s) (parts-steps ps t)
 
-  eqn-steps : (q : Eqn) (s : Added) → Steps names s (in_eqn there names q s).1
+  pub eqn-steps : (q : Eqn) (s : Added) → Steps names s (in_eqn there names q s).1
   eqn-steps (define at xs e) s = expr-steps e s
   eqn-steps (switch at e arms) s = expr-steps e s
   eqn-steps (reset at b e) s = expr-steps e s
   eqn-steps (automaton at qs) s = stays names s
 
-  eqns-steps : (es : Eqns) (s : Added) → Steps names s (in_eqns there names es s).1
+  pub eqns-steps : (es : Eqns) (s : Added) → Steps names s (in_eqns there names es s).1
   eqns-steps no_eqn s = stays names s
   eqns-steps (more_eqns q es) s =
       let t = (in_eqn there names q s).1 in
       steps-on names s t (in_eqns there names es t).1 (eqn-steps q s) (eqns-steps es t)
 
-  condition-steps : (e : Option Expr) (s : Added) → Steps names s (in_condition there names e s).1
+  pub condition-steps : (e : Option Expr) (s : Added) → Steps names s (in_condition there names e s).1
   condition-steps None s = stays names s
   condition-steps (Some e) s = expr-steps e s
 

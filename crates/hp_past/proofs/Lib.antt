@@ -6,3 +6,5 @@ pub mod FreeLaws
 pub mod KeptLaws
 pub mod OccurringLaws
 pub mod ExtendedLaws
+pub mod WritableLaws
+pub mod ReadableLaws

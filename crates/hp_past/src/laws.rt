@@ -1,6 +1,14 @@
 //! What holds of unfolded programs, as functions that do nothing.
-ghost use Rattle.std.specs.Prelude.{◌≡◌, ◌<◌, ◌^◌, ℕ, List, [], ◌∷◌};
+ghost use Rattle.std.specs.Prelude.{◌≡◌, ◌<◌, ◌≤◌, ◌^◌, ℕ, List, [], ◌∷◌, length};
+ghost use Rattle.hp_base.specs.Limits.{most};
+ghost use Rattle.hp_base.specs.declared.limit.What.TheVariants.{Size};
 ghost use Rattle.hp_base.specs.declared.value.Value.{Value};
+ghost use Rattle.hp_lexer.specs.Lexing.{AreTokensOf};
+ghost use Rattle.hp_lexer.specs.declared.token.Token.{Token};
+ghost use Rattle.hp_parser.specs.Lexemes.{lexemes};
+ghost use Rattle.hp_parser.specs.Programs.{IsProgram};
+ghost use Rattle.hp_print.specs.ProgramTokens.{canonical_text};
+ghost use Rattle.hp_print.specs.ReadBack.{IsReadBack};
 ghost use Rattle.hp_tree.specs.declared.program.Item.{Item};
 ghost use Rattle.hp_tree.specs.Instant.{Instant, Past, Observer, Named, parts};
 ghost use Rattle.hp_tree.specs.Programs.{Contract};
@@ -25,4 +33,10 @@ pub fn formulas_are_remembered()
     ensures past { (program : List Item) (f : List ℕ) (c : Contract) → HasContract program f c
         → (inputs : List (List Value)) (frees : List Instant) (now : Instant) (past : Past) → Reaction program f inputs frees (now ∷ past)
         → instants_of now past ≡ parts Observer (now ∷ past) }
+{}
+
+/// The canonical text of the unfolded program of a text is read back as that program, but for places, where it is no longer than a text may be.
+pub fn unfolded_programs_are_read_back()
+    ensures { (text : List ℕ) (tokens : List Token) (program : List Item) → AreTokensOf text tokens → IsProgram (lexemes text tokens) program → next_number program < 2 ^ 64
+        → length (canonical_text (unfolded program)) ≤ most Size → IsReadBack (unfolded program) (canonical_text (unfolded program)) }
 {}

@@ -12,5 +12,7 @@ mod programs;
 mod text;
 
 pub use error::PastErr;
-pub use laws::{formulas_are_remembered, unfolded_contracts_remember};
+pub use laws::{
+    formulas_are_remembered, unfolded_contracts_remember, unfolded_programs_are_read_back,
+};
 pub use programs::unfold;

@@ -4,7 +4,7 @@ use Rattle.hp_driver.specs.Past.{WritesSource, LeavesSource}
 use Rattle.hp_driver.specs.PastOutcome.{unfolded_text}
 use Rattle.hp_driver.specs.Status.{code_of}
 use Rattle.hp_driver.proofs.MachineLaws.{nothing_written}
-use Rattle.hp_driver.proofs.PastLaws.{unfolds, unfolds_memory, leaves_unfolded}
+use Rattle.hp_driver.proofs.PastLaws.{ReadsBack, unfolds, unfolds_memory, leaves_unfolded}
 use Rattle.hp_driver.proofs.past.write_unfolded.Goals as goal
 
 pub returns-in-Ok-clause-outcome : goal.returns-in-Ok-clause-outcome
@@ -12,7 +12,9 @@ returns-in-Ok-clause-outcome g c =
     let done = c.write_source.ensures.outcome in
     let status = code_of c.write_source.result in
     let text : c.as_slice.result.now ≡ unfolded_text c.args.program.now = search rules in
-    (done.0, done.1, unfolds c.args.out.now c.args.program.now done.0 status (subst (λ z. WritesSource z done.0 status) text done.2))
+    let program = c.args.program.now in
+    let back : ReadsBack c.args.out.now program = λ source is short. c.unfolded_programs_are_read_back.ensures source is.tokens program is.spelled is.read c.in-Ok.ensures.small short in
+    (done.0, done.1, unfolds c.args.out.now program back done.0 status (subst (λ z. WritesSource z done.0 status) text done.2))
 
 pub returns-in-Ok-clause-leaves : goal.returns-in-Ok-clause-leaves
 returns-in-Ok-clause-leaves g c =
