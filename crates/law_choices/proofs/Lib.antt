@@ -14,3 +14,4 @@ pub mod ChosenLemmas
 pub mod OnceLemmas
 pub mod PlacesLemmas
 mod AnsweredLemmas
+mod PartLemmas

@@ -14,3 +14,4 @@ pub mod Chosen
 pub mod Once
 pub mod Places
 pub mod Answered
+pub mod Part

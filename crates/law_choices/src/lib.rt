@@ -13,6 +13,7 @@ pub mod on_clocks;
 pub mod once;
 pub mod one_for_one;
 pub mod ordered;
+pub mod part;
 pub mod places;
 pub mod runs;
 pub mod streams;
