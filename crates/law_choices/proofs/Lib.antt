@@ -15,3 +15,4 @@ pub mod OnceLemmas
 pub mod PlacesLemmas
 mod AnsweredLemmas
 mod PartLemmas
+mod AddingLemmas

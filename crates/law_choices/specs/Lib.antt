@@ -15,3 +15,4 @@ pub mod Once
 pub mod Places
 pub mod Answered
 pub mod Part
+pub mod Adding

@@ -1,6 +1,7 @@
 //! Used by no command yet. Laws: with the values of controllable variables given, one reaction and one meaning, and the choice is the machine's. They are for programs with controllable variables.
 #![tactic(auto)]
 
+pub mod adding;
 pub mod answered;
 pub mod choosing;
 pub mod chosen;
