@@ -1,3 +1,4 @@
 pub mod Values
 pub mod Parts
+pub mod Form
 pub mod Worked

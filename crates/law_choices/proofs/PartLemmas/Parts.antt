@@ -15,7 +15,7 @@ use Rattle.law_equations.specs.Meaning.Fitting.{IsThere, is_there, is_choice, is
 use Rattle.law_equations.specs.Meaning.Reactions.{Answers, is_set, Continues, Reaction, outputs_at}
 use Rattle.law_equations.specs.Meaning.Scheduling.{clock_variables, right_reads, reads, IsDefinedBelow}
 use Rattle.law_choices.specs.Part.Part.{Renumbering, IsRenumbering, renumbered_atom, renumbered_right, renumbered_clock, renumbered, AreKept, EqnKept, ArePart, IsPart}
-use Rattle.law_choices.specs.Part.Laws.{PartLaw, RankedLaw, NoInputsLaw}
+use Rattle.law_choices.specs.Part.Laws.{PartLaw, AnsweredLaw, RankedLaw, NoInputsLaw}
 use Rattle.law_choices.proofs.PartLemmas.Values.{part_instant, part_at, part_values, part_atoms, part_holds, part_eqns, same_has, same_set}
 
 below-nat_lt : (x n : ℕ) → nat_lt x n ≡ true → x < n
@@ -247,3 +247,14 @@ ranked_law r n m part h = eqns_ranked r part.renumbering n.eqns m.eqns part.eqns
 
 pub no_inputs_law : NoInputsLaw
 no_inputs_law r n m part h = none_defined r n m part n.eqns m.eqns part.eqns h
+
+pub answered_law : AnsweredLaw
+answered_law r n m answers takes part same answered args earlier h k =
+    let a = answered args earlier (subst (λ f. AreOfKinds (takes f) args) same h) (subst (λ f. AllByRecursion (AreOfKinds (takes f)) earlier) same k) in
+    record {
+      now = part_instant r a.now;
+      past = map (part_instant r) a.past;
+      reaction = reaction r n m part answers (args ∷ earlier) (a.now ∷ a.past) a.reaction;
+      fit = all_fit r n m part takes (a.now ∷ a.past) a.fit;
+      answer = ap (λ f. answers f args earlier) same ∙ a.answer ∙ sym (outputs_same r n m part a.now);
+    }

@@ -1,6 +1,6 @@
 -- A worked part.
 use Rattle.std.proofs.Common.{◌≡◌, ℕ, zero, suc, ◌<◌, Bool, true, false, refl, arith}
-use Rattle.law_choices.specs.Part.Part.{Renumbering, ArePart}
+use Rattle.law_choices.specs.Part.Part.{Renumbering, ArePart, AreFewer}
 use Rattle.law_choices.specs.Part.Laws.{not_of, SomePartLaw}
 
 -- the first variable and the third one
@@ -45,6 +45,8 @@ some_part_law = (
   those,
   record {
     renumbering = record { below = below; back = back; forth = forth };
+    variables = AreFewer.kept_element _ (AreFewer.left_element _ (AreFewer.kept_element _ AreFewer.no_element));
+    count = refl;
     inputs = refl;
     own_inputs = own;
     outputs_kept = (refl, tt);

@@ -1,13 +1,20 @@
 -- A part of a node answers as the node does.
 -- Source: own.
-use Rattle.std.specs.Prelude.{codes, ℕ, [], ◌∷◌}
+use Rattle.std.specs.Prelude.{◌≡◌, codes, ℕ, List, [], ◌∷◌}
+use Rattle.std.specs.List.{AllByRecursion, IsDistinct}
+use Rattle.std.specs.Str.{bytes_eq}
+use Rattle.hp_base.specs.Kinds.{KindData}
 use Rattle.hp_obc.specs.declared.command.ObcOp.TheVariants.{Not}
+use Rattle.hp_obc.specs.Steps.{Names}
 use Rattle.hp_flat.specs.declared.equation.Atom.TheVariants.{Variable as Read}
 use Rattle.hp_flat.specs.declared.node.FlatTy.TheVariants as flat
 use Rattle.hp_flat.specs.Equations.{operator, FlatEqn}
 use Rattle.hp_flat.specs.Nodes.{FlatNode}
 use Rattle.law_equations.specs.Fewer.Keeping.{KeepsReactions}
-use Rattle.law_equations.specs.Meaning.Scheduling.{IsRanked, DefinesNoInput}
+use Rattle.law_equations.specs.Followed.Premises.{IsOwn, names}
+use Rattle.law_equations.specs.Followed.Programs.{Answered}
+use Rattle.law_equations.specs.Meaning.Reactions.{Answers}
+use Rattle.law_equations.specs.Meaning.Scheduling.{IsRanked, IsWithin, DefinesNoInput}
 use Rattle.law_choices.specs.Part.Part.{Renumbering, IsPart}
 
 -- Each reaction of a node in which clocks fit remains in its part.
@@ -20,6 +27,20 @@ RankedLaw = (r : Renumbering) (n m : FlatNode) → IsPart r n m → IsRanked n.e
 
 abbrev pub NoInputsLaw : Type 0
 NoInputsLaw = (r : Renumbering) (n m : FlatNode) → IsPart r n m → DefinesNoInput n → DefinesNoInput m
+
+-- The numbers in a part are those of its variables, where this is so in the node.
+abbrev pub WithinLaw : Type 0
+WithinLaw = (r : Renumbering) (n m : FlatNode) → IsPart r n m → IsWithin n → IsWithin m
+
+-- Its variables have names that differ and are no names of memories or instances, where this is so in the node.
+abbrev pub NamesLaw : Type 0
+NamesLaw =
+    (r : Renumbering) (n m : FlatNode) → IsPart r n m → IsDistinct bytes_eq (names n.variables) → AllByRecursion IsOwn (names n.variables) → IsDistinct bytes_eq (names m.variables) × AllByRecursion IsOwn (names m.variables)
+
+-- What a node answers, its part of the same name answers.
+abbrev pub AnsweredLaw : Type 0
+AnsweredLaw =
+    (r : Renumbering) (n m : FlatNode) (answers : Answers) (takes : Names (List KindData)) → IsPart r n m → m.name ≡ n.name → Answered answers takes n → Answered answers takes m
 
 -- ---- a node of which one equation is left out: its variable is the one in the middle
 

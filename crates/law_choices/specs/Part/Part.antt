@@ -1,6 +1,6 @@
 -- The part of a node that its outputs read, one by another: fewer variables, under other numbers, and the equations that define them.
 -- Source: own; the cone of influence of what is looked at, as in Clarke, Grumberg and Peled: Model Checking (1999).
-use Rattle.std.specs.Prelude.{◌≡◌, ℕ, ◌<◌, Bool, true, false, List, [], ◌∷◌, map}
+use Rattle.std.specs.Prelude.{◌≡◌, ℕ, ◌<◌, Bool, true, false, List, [], ◌∷◌, length, map}
 use Rattle.std.specs.List.{AllByRecursion}
 use Rattle.hp_flat.specs.declared.equation.Atom.{Atom}
 use Rattle.hp_flat.specs.declared.equation.Atom.TheVariants.{Variable as Read, Value as Fixed}
@@ -63,9 +63,17 @@ module _ (r : Renumbering) where
     kept_eqn : {es fs : List FlatEqn} (e : FlatEqn) → EqnKept e → ArePart es fs → ArePart (e ∷ es) (renumbered e ∷ fs)
     left_eqn : {es fs : List FlatEqn} (e : FlatEqn) → AllByRecursion (λ x. r.kept x ≡ false) e.targets → ArePart es fs → ArePart (e ∷ es) fs
 
+-- Some elements are left out of a list.
+pub data AreFewer {A : Type 0} : List A → List A → Type 0 where
+  no_element : AreFewer [] []
+  kept_element : {xs ys : List A} (x : A) → AreFewer xs ys → AreFewer (x ∷ xs) (x ∷ ys)
+  left_element : {xs ys : List A} (x : A) → AreFewer xs ys → AreFewer (x ∷ xs) ys
+
 -- The second node is a part of the first one: it has the same inputs under the same numbers, and the same outputs.
 pub record IsPart (r : Renumbering) (n m : FlatNode) : Type 0 where
   pub renumbering : IsRenumbering r
+  pub variables : AreFewer n.variables m.variables
+  pub count : r.count ≡ length m.variables
   pub inputs : m.inputs ≡ n.inputs
   pub own_inputs : (x : ℕ) → x < n.inputs → (r.kept x ≡ true) × (r.number x ≡ x)
   pub outputs_kept : AreKept r n.outputs
