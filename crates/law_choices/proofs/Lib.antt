@@ -14,3 +14,5 @@ pub mod ChosenLemmas
 pub mod OnceLemmas
 pub mod PlacesLemmas
 mod AnsweredLemmas
+mod PartLemmas
+mod AddingLemmas

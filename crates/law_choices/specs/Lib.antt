@@ -14,3 +14,5 @@ pub mod Chosen
 pub mod Once
 pub mod Places
 pub mod Answered
+pub mod Part
+pub mod Adding

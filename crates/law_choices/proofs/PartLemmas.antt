@@ -1,0 +1,4 @@
+pub mod Values
+pub mod Parts
+pub mod Form
+pub mod Worked
