@@ -4,6 +4,7 @@
 libraries.py build LANES CRATE..   proves and builds, as the gate does, each library at or below these that is not built of its sources: so many at once, those with the
                                    longest chain above them first; a program is checked. A log of each stands in /tmp/libraries/CRATE
 libraries.py program LANES CRATE   the same, and builds the program, which stands in its folder out/ then; it tells of each crate that is proved, and may be stopped and started
+libraries.py judge CRATE..         proves, builds and runs programs, and the tests of crates that have some, with the gate's own calls, over the libraries that are built
 libraries.py take CLONE            takes from another clone all libraries that are built of the same sources
 libraries.py rt WORD..             the kit's rt in the current folder, with each crate's sources summed up once, and no lock on the libraries below
 """
@@ -134,6 +135,28 @@ def build(rt, lanes, names, makes=False):
     return bool(failed)
 
 
+def judge_one(rt, crate, tests):
+    """Proves and builds a program or a crate's tests, and runs what each compiler made of it."""
+    os.makedirs(f'{crate.folder}/out', exist_ok=True)
+    with open(f'{LOGS}/{crate.name}', 'w', encoding='utf-8') as crate.out:
+        status = crate.ci(['--jobs', '1'], tests)
+    made = f'{crate.folder}/out/{crate.name}{"_tests" if tests else ""}'
+    well = not status and all([rt.run(crate, tests, end) for end in rt.BACKENDS.values() if os.path.isfile(made + end)])
+    print(f'{crate.name}{" (tests)" if tests else ""}: {"well" if well else "WRONG"}', flush=True)
+    return well
+
+
+def judge(rt, names):
+    os.makedirs(LOGS, exist_ok=True)
+    rt.rtlib.guarded()
+    rt.rtlib.Crate = rt.Crate
+    rt.Crate.cuts_libraries = True
+    rt.Crate.allowed = rt.handles_of(os.getcwd())
+    crates = [it for it in below(rt, os.getcwd(), names) if it.name in names]
+    wanted = [(it, tests) for it in crates for tests in (False, True) if (it.has_tests() if tests else it.is_program)]
+    return not all([judge_one(rt, it, tests) for it, tests in wanted])
+
+
 def take(rt, other):
     top = os.getcwd()
     with open(f'{top}/crates.txt', encoding='utf-8') as file:
@@ -154,6 +177,8 @@ def main(words):
         return build(kit(), int(words[1]), words[2:])
     if words[:1] == ['program'] and len(words) == 3:
         return build(kit(), int(words[1]), words[2:], makes=True)
+    if words[:1] == ['judge'] and len(words) > 1:
+        return judge(kit(), words[1:])
     if words[:1] == ['take'] and len(words) == 2:
         return take(kit(), words[1])
     if words[:1] == ['rt']:

@@ -8,7 +8,7 @@ ghost use Rattle.law_drawing.specs.Mirrors.Choices.{ChosenLaw, PreferredLaw};
 ghost use Rattle.law_drawing.specs.Mirrors.Drawn.{DrawnCarriesLaw, DrawnGameLaw, DrawnLaterLaw, DrawnMirrorsLaw, DrawnRightLaw, DrawnSafeLaw, ReadsLaw, SolvedLaw};
 ghost use Rattle.law_drawing.specs.Mirrors.Limits.{BitsLaw, LimitLaw};
 
-use law_drawing::carrying::nodes_are_drawn;
+use crate::carrying::nodes_are_drawn;
 use law_games::forced::choices_are_on_machines;
 
 /// Wherever the wires of a node of a ready program are typed, some numbers solve the circuit that is drawn of the node, by which registers take the memory behind the instant, and hypothesis and duty are the node's.
