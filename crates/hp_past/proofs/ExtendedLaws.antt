@@ -1,19 +1,19 @@
 -- Each contract of an unfolded program remembers its formulas.
-use Rattle.std.proofs.Common.{◌≡◌, ◌⊎◌, inl, inr, ℕ, ◌<◌, ◌≤◌, ◌^◌, ◌+◌, Bool, true, false, List, [], ◌∷◌, ◌++◌, Option, None, Some, refl, sym, ap, subst, ◌∙◌, arith}
+use Rattle.std.proofs.Common.{◌≡◌, ◌⊎◌, inl, inr, ℕ, ◌<◌, ◌≤◌, ◌^◌, Bool, true, false, List, [], ◌∷◌, ◌++◌, Option, None, Some, refl, sym, ap, ◌∙◌, arith}
 use Rattle.hp_tree.specs.declared.program.Item.{Item}
 use Rattle.hp_tree.specs.declared.program.Item.TheVariants.{TypeItem, NodeItem}
 use Rattle.hp_tree.specs.Expressions.{Expr}
-use Rattle.hp_tree.specs.Blocks.{Decl, Block, block, Eqns, Eqn, eqns_of}
+use Rattle.hp_tree.specs.Blocks.{Decl, Block, block, Eqns, eqns_of}
 use Rattle.hp_tree.specs.Meaning.{declares, some_defines}
-use Rattle.hp_tree.specs.Programs.{TypeDecl, Contract, Node}
+use Rattle.hp_tree.specs.Programs.{Contract}
 use Rattle.hp_tree.specs.Reaction.{Each}
 use Rattle.hp_past.specs.declared.formula.Formulas.{Formulas}
 use Rattle.hp_past.specs.Formulas.{formulas_of}
-use Rattle.hp_past.specs.Names.{Names, is_taken, noted, names_in_decls, names_in_eqns, names_in_block, names_in_condition, names_in_contract, names_in_node, names_in_item, names_in_program, names_of}
+use Rattle.hp_past.specs.Names.{Names, is_taken, names_in_decls, names_in_eqns, names_in_block, names_in_condition, names_in_contract, names_in_node, names_in_program, names_of}
 use Rattle.hp_past.specs.Own.{locals_of, equations_of}
-use Rattle.hp_past.specs.Unfolding.{Added, nothing_added, joined_block, in_eqns, in_parts_of, in_contract, in_optional, in_node, in_item, in_items, unfolded, number_behind, next_number}
+use Rattle.hp_past.specs.Unfolding.{Added, nothing_added, joined_block, in_eqns, in_parts_of, in_contract, in_optional, in_item, in_items, unfolded, number_behind, next_number}
 use Rattle.hp_past.specs.Remembered.{Remembered, variable_of, Keeps, Extends, ExtendsIfAny, ContractsExtend}
-use Rattle.hp_past.proofs.KeptLaws.{IsNew, KeptIn, WellAdded, Steps, keeps-behind, contract-steps}
+use Rattle.hp_past.proofs.KeptLaws.{IsNew, KeptIn, WellAdded, keeps-behind, contract-steps}
 use Rattle.hp_past.proofs.OccurringLaws.{In, in-left, in-right, noted-taken, declares-in, some-in, eqns-same}
 
 -- all names of a part are taken

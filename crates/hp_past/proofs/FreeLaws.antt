@@ -1,11 +1,10 @@
 -- New names do not occur, and none is given twice.
-use Rattle.std.proofs.Common.{◌≡◌, ℕ, zero, suc, ◌+◌, ◌<◌, ◌≤◌, ◌^◌, Bool, true, false, if◌then◌else◌, List, [], ◌∷◌, ◌++◌, length, drop, Option, None, Some, is_some, codes, refl, sym, ap, subst, ◌∙◌, arith}
-use Rattle.std.specs.Prelude.{decimal}
+use Rattle.std.proofs.Common.{◌≡◌, ℕ, zero, suc, ◌+◌, ◌<◌, ◌≤◌, ◌^◌, Bool, true, false, if◌then◌else◌, List, [], ◌∷◌, length, drop, Some, is_some, refl, sym, ap, subst, ◌∙◌, arith}
 use Rattle.std.specs.Str.{bytes_eq}
 use Rattle.std.proofs.lemmas.Fmt.{decimal_injective}
 use Rattle.std.proofs.lemmas.Slice.Eq.{bytes_eq-Decides}
-use Rattle.hp_base.specs.Known.Known.{lookup, with_entry}
-use Rattle.hp_past.specs.Names.{Names, is_taken, past_name, free_within, free, noted}
+use Rattle.hp_base.specs.Known.Known.{lookup}
+use Rattle.hp_past.specs.Names.{Names, is_taken, past_name, free_within, free}
 
 -- two numbers have two names
 pub one-number : (j k : ℕ) → j < 2 ^ 64 → k < 2 ^ 64 → past_name j ≡ past_name k → j ≡ k

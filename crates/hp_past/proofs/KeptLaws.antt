@@ -1,7 +1,6 @@
 -- What has been added to a contract remembers its formulas, whatever is added behind it.
-use Rattle.std.proofs.Common.{◌≡◌, ◌⊎◌, ◌↔◌, inl, inr, ℕ, zero, suc, ◌+◌, ◌<◌, ◌≤◌, ◌^◌, Bool, true, false, ◌||◌, if◌then◌else◌, List, [], ◌∷◌, ◌++◌, Option, None, Some, refl, sym, ap, subst, ◌∙◌, arith}
+use Rattle.std.proofs.Common.{◌≡◌, ◌⊎◌, inl, inr, ℕ, suc, ◌<◌, ◌≤◌, ◌^◌, Bool, true, false, ◌||◌, if◌then◌else◌, List, [], ◌∷◌, ◌++◌, Option, None, Some, refl, sym, ap, ◌∙◌, arith}
 use Rattle.std.specs.Str.{bytes_eq}
-use Rattle.std.proofs.lemmas.List.{append_assoc}
 use Rattle.std.proofs.lemmas.Slice.Eq.{bytes_eq-Decides}
 use Rattle.hp_base.specs.declared.span.Span.{Span}
 use Rattle.hp_base.specs.declared.ty.Const.{Const}
@@ -19,7 +18,7 @@ use Rattle.hp_tree.specs.Meaning.{defines, some_defines, declares}
 use Rattle.hp_tree.specs.Reaction.{Each}
 use Rattle.hp_past.specs.Names.{Names, is_taken, past_name, free}
 use Rattle.hp_past.specs.Unfolding.{Added, fresh, first_value, boolean, equation, with_variable, with_argument, with_memory, once_of, historically_of, since_of, with_one, with_two, formula_or_call, in_expr, in_exprs, in_parts, in_eqn, in_eqns, in_condition, in_parts_of}
-use Rattle.hp_past.specs.Own.{locals_of, equations_of}
+use Rattle.hp_past.specs.Own.{equations_of}
 use Rattle.hp_past.specs.Remembering.{last_among, right_side, defined_as, Remembers, Defines}
 use Rattle.hp_past.specs.Remembered.{Remembered, once, historically, since, variable_of, Keeps}
 use Rattle.hp_past.proofs.FreeLaws.{one-number, free-later, free-is-free}

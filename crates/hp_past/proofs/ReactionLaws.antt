@@ -1,5 +1,5 @@
 -- In a reaction of a node a variable of its contract has the value that its right side gives, over its last value.
-use Rattle.std.proofs.Common.{◌≡◌, ℕ, Bool, true, false, ◌||◌, if◌then◌else◌, List, [], ◌∷◌, map, reverse, Option, None, Some, refl, sym, ap, subst, ◌∙◌}
+use Rattle.std.proofs.Common.{◌≡◌, ℕ, Bool, true, false, ◌||◌, if◌then◌else◌, List, [], ◌∷◌, reverse, Option, None, Some, refl, sym, ap, subst, ◌∙◌}
 use Rattle.std.specs.Str.{bytes_eq}
 use Rattle.hp_base.specs.declared.span.Span.{Span}
 use Rattle.hp_base.specs.declared.value.Value.{Value}
@@ -13,9 +13,9 @@ use Rattle.hp_tree.specs.declared.program.Item.TheVariants.{TypeItem, NodeItem}
 use Rattle.hp_tree.specs.Expressions.{Expr, variable, last_of, two}
 use Rattle.hp_tree.specs.Blocks.{Decl, Block, block, Eqns, no_eqn, more_eqns, Eqn, define, switch, reset, automaton}
 use Rattle.hp_tree.specs.Programs.{TypeDecl, Contract, Node}
-use Rattle.hp_tree.specs.Operators.{Reading, real, two_of, constant_of}
+use Rattle.hp_tree.specs.Operators.{real, two_of, constant_of}
 use Rattle.hp_tree.specs.Instant.{Instant, Past, Given, Place, Named, Fresh, Equations, Head, Tail, Right, Observer, part, parts, at, own, own_with, Clock}
-use Rattle.hp_tree.specs.Meaning.{Names, Nodes, nodes, node, node_among, types_of, meaning, expr, defined, gives, defines, some_defines, inside, lasts, previous, right, scope, observer, clock_of, input_of, absent, declares}
+use Rattle.hp_tree.specs.Meaning.{Names, Nodes, nodes, node, node_among, types_of, expr, defined, gives, defines, some_defines, inside, lasts, previous, right, scope, observer, clock_of, input_of, absent, declares}
 use Rattle.hp_tree.specs.Reaction.{Meets, Reaction, Each}
 use Rattle.hp_past.specs.Past.{Once, Historically, Since}
 use Rattle.hp_past.specs.Remembering.{last_among, right_side, defined_as, Remembers, Defines, IsBoolean, IsTrueAt, Tells, HasContract}

@@ -1,5 +1,5 @@
 -- An unfolded program may be read, and its tokens may be written, where this is so of the program.
-use Rattle.std.proofs.Common.{◌≡◌, ℕ, suc, max, ◌+◌, ◌<◌, ◌≤◌, ◌^◌, Bool, true, false, if◌then◌else◌, List, [], ◌∷◌, ◌++◌, map, length, Option, None, Some, refl, sym, ap, subst, ◌∙◌, arith}
+use Rattle.std.proofs.Common.{◌≡◌, ℕ, suc, max, ◌<◌, ◌≤◌, ◌^◌, Bool, true, false, if◌then◌else◌, List, [], ◌∷◌, ◌++◌, map, length, Option, None, Some, refl, sym, ap, subst, arith}
 use Rattle.std.proofs.lemmas.List.{append-nil}
 use Rattle.hp_base.specs.Limits.{most}
 use Rattle.hp_base.specs.declared.limit.What.TheVariants.{Size}
@@ -14,22 +14,21 @@ use Rattle.hp_lexer.specs.declared.token.Keyword.{Keyword}
 use Rattle.hp_lexer.specs.declared.token.Keyword.TheVariants as key
 use Rattle.hp_lexer.specs.declared.token.Sign.TheVariants as mark
 use Rattle.hp_parser.specs.declared.mode.Mode.TheVariants.{Whole}
+use Rattle.hp_tree.specs.declared.decl.Cons.TheVariants as cons
 use Rattle.hp_tree.specs.declared.expr.Op2.{Op2}
-use Rattle.hp_tree.specs.declared.expr.Op2.TheVariants.{And, Or}
+use Rattle.hp_tree.specs.declared.expr.Op2.TheVariants.{And, Or, Imp}
 use Rattle.hp_tree.specs.declared.program.Item.{Item}
 use Rattle.hp_tree.specs.declared.program.Item.TheVariants.{TypeItem, NodeItem}
 use Rattle.hp_tree.specs.Expressions.{Expr, constant, variable, last_of, one, two, choose, pre, fby, arrow, when_is, merge, call, Exprs, no_expr, more_exprs, Parts, no_part, more_parts}
 use Rattle.hp_tree.specs.Blocks.{Decl, Block, block, Eqns, no_eqn, more_eqns, Eqn, define, switch, reset, automaton, eqns_of}
-use Rattle.hp_tree.specs.Programs.{Contract, Node}
+use Rattle.hp_tree.specs.Programs.{Contract}
 use Rattle.hp_print.specs.Levels.{level_of, level_before, level_behind}
-use Rattle.hp_print.specs.declared.level.Level.{Level}
-use Rattle.hp_print.specs.declared.level.Level.TheVariants.{Sample, Delay, Implication, Unary}
 use Rattle.hp_print.specs.Tokens.{word, sign, small, ended_by}
-use Rattle.hp_print.specs.ExpressionTokens.{expression_tokens, operand_tokens, operator_token, prefix_token, arguments_tokens, more_arguments_tokens, parts_tokens, inlined_tokens}
-use Rattle.hp_print.specs.BlockTokens.{declaration_tokens, variables_tokens, equation_tokens, equations_tokens, left_tokens, inner_tokens}
-use Rattle.hp_print.specs.ProgramTokens.{is_empty_block, whole_block_tokens, contract_block_tokens, clause_tokens, controls_tokens, contract_tokens, node_contract_tokens, item_tokens, program_tokens, canonical_text}
+use Rattle.hp_print.specs.ExpressionTokens.{expression_tokens, operand_tokens, operator_token, arguments_tokens, more_arguments_tokens, parts_tokens, inlined_tokens}
+use Rattle.hp_print.specs.BlockTokens.{declaration_tokens, parameters_tokens, variables_tokens, equation_tokens, equations_tokens, left_tokens, inner_tokens}
+use Rattle.hp_print.specs.ProgramTokens.{is_empty_block, whole_block_tokens, contract_block_tokens, clause_tokens, contract_tokens, node_contract_tokens, item_tokens, program_tokens, canonical_text}
 use Rattle.hp_print.proofs.Heights.{height, all_height, parts_height, tall, Good, GoodAll, GoodParts as GoodOperands, SomeParts}
-use Rattle.hp_print.proofs.Readable.{GoodIn, GoodLocal, Each, GoodBlock, GoodEqns, GoodEqn, nest_block, nest_eqns, nest_eqn, GoodCondition, SomeClause, GoodContract, GoodOptional, GoodNode, GoodItem, GoodProgram, count_types}
+use Rattle.hp_print.proofs.Readable.{GoodIn, GoodLocal, Each, GoodBlock, GoodEqns, GoodEqn, nest_block, nest_eqns, nest_eqn, GoodCondition, SomeClause, GoodContract, GoodOptional, GoodItem, GoodProgram, count_types}
 use Rattle.hp_print.specs.ReadBack.{IsReadBack}
 use Rattle.hp_print.proofs.FoundPrograms.{program-found}
 use Rattle.hp_print.proofs.ReadBackLaws.{spell-at, all-spelled}
@@ -41,9 +40,9 @@ use Rattle.hp_past.specs.declared.formula.Formulas.{Formulas}
 use Rattle.hp_past.specs.Formulas.{formulas_of, formula_of}
 use Rattle.hp_past.specs.Names.{Names, names_of, past_name, free}
 use Rattle.hp_past.specs.Own.{locals_of, equations_of}
-use Rattle.hp_past.specs.Unfolding.{unfolded, next_number, Added, nothing_added, boolean, equation, with_one, with_two, formula_or_call, once_of, historically_of, since_of, with_argument, fresh, with_variable, joined_block, in_expr, in_exprs, in_parts, in_eqn, in_eqns, in_condition, in_parts_of, in_contract, in_optional, in_node, in_item, in_items, number_behind}
+use Rattle.hp_past.specs.Unfolding.{unfolded, next_number, Added, nothing_added, boolean, equation, with_one, with_two, formula_or_call, once_of, historically_of, since_of, with_argument, fresh, with_variable, joined_block, in_expr, in_exprs, in_parts, in_eqn, in_eqns, in_condition, in_contract, in_optional, in_item, in_items, number_behind}
 use Rattle.hp_past.proofs.FreeLaws.{free-later}
-use Rattle.hp_past.proofs.KeptLaws.{behind, single_added, right_single, argued, first_added, second_added, since_added, right_since, Steps, expr-steps, exprs-steps, parts-steps, eqn-steps, eqns-steps, condition-steps, call-steps}
+use Rattle.hp_past.proofs.KeptLaws.{behind, single_added, right_single, argued, first_added, second_added, since_added, right_since, expr-steps, exprs-steps, parts-steps, eqns-steps, condition-steps, call-steps}
 use Rattle.hp_past.proofs.ExtendedLaws.{behind-later}
 use Rattle.hp_past.proofs.WritableLaws.{writable-front, writable-behind, name-writable, operand-writable, operand-plain, tall-low, tall-least, tall-most}
 
@@ -130,7 +129,8 @@ module _ (d nested : ℕ) (deep : 8 ≤ d) (some : 1 ≤ nested) where
           let single = single-fine at And (sign-writable mark.And) v w k l in
           let front = operand-writable (level_before Or) (variable at (past_name n)) (name-writable n h, tt) in
           let end = operand-writable (level_behind Or) inner single.1 in
-          (((tt, single.0.0), omega (arith, deep, since-low n v w)), writable-append (operand_tokens (level_before Or) (variable at (past_name n))) _ front (word-writable key.Or, end))
+          let words : Writable (expression_tokens (two at Or (variable at (past_name n)) inner)) = writable-append (operand_tokens (level_before Or) (variable at (past_name n))) (operator_token Or ∷ operand_tokens (level_behind Or) inner) front (word-writable key.Or, end) in
+          (((tt, single.0.0), omega (arith, deep, since-low n v w)), words)
 
       since-added-fine : (since_added names at e1 e2 s).next < 2 ^ 64 → FineExpr e1 → FineExpr e2 → FineAdded s → FineAdded (since_added names at e1 e2 s)
       since-added-fine h f1 f2 f =
@@ -263,18 +263,18 @@ module _ (d nested : ℕ) (deep : 8 ≤ d) (some : 1 ≤ nested) where
     abbrev In : Expr → Added → Expr × Added
     In e s = in_expr there names e s
 
-    low-part : (l : Level) (e : Expr) (m : ℕ) → tall l e (height e) ≤ m → m < d → height e < d
+    low-part : (l : _) (e : Expr) (m : ℕ) → tall l e (height e) ≤ m → m < d → height e < d
     low-part l e m h k = omega (arith, tall-least l e (height e), h, k)
 
     -- the parts of an operator with two operands, and what they become
-    module _ (before after : Level) (between : Written) (a b : Expr) (s t u : Added) (ra rb : Expr) (ua : Unfolds a s (ra, t)) (ub : Unfolds b t (rb, u)) where
+    module _ (before after : _) (between : Written) (a b : Expr) (s t u : Added) (ra rb : Expr) (ua : Unfolds a s (ra, t)) (ub : Unfolds b t (rb, u)) where
       both-low : max (tall before ra (height ra)) (tall after rb (height rb)) ≤ max (tall before a (height a)) (tall after b (height b))
       both-low = omega (arith, tall-low before a ra ua.level ua.low, tall-low after b rb ub.level ub.low)
 
       both-words : IsWritable between → Writable (operand_tokens before ra ++ (between ∷ operand_tokens after rb))
       both-words w = writable-append (operand_tokens before ra) _ (operand-writable before ra ua.words) (w, operand-writable after rb ub.words)
 
-    before-words : (before : Level) (a : Expr) (rest : List Written) → Writable (operand_tokens before a ++ rest) → Writable (expression_tokens a)
+    before-words : (before : _) (a : Expr) (rest : List Written) → Writable (operand_tokens before a ++ rest) → Writable (expression_tokens a)
     before-words before a rest w = operand-plain before a (writable-front (operand_tokens before a) rest w)
 
     mutual
@@ -283,12 +283,12 @@ module _ (d nested : ℕ) (deep : 8 ≤ d) (some : 1 ≤ nested) where
       expr-fine (variable at x) s f h = record { level = refl; low = omega arith; good = tt; words = f.1; added = λ k. k }
       expr-fine (last_of at x) s f h = record { level = refl; low = omega arith; good = tt; words = f.1; added = λ k. k }
       expr-fine (one at op a) s f h =
-          let u = expr-fine a s ((f.0.0, low-part Unary a (height (one at op a)) (omega arith) f.0.1), operand-plain Unary a f.1.1) h in
+          let u = expr-fine a s ((f.0.0, low-part (level_of (pre at a)) a (height (one at op a)) (omega arith) f.0.1), operand-plain (level_of (pre at a)) a f.1.1) h in
           record {
             level = refl;
-            low = omega (arith, tall-low Unary a (In a s).0 u.level u.low);
+            low = omega (arith, tall-low (level_of (pre at a)) a (In a s).0 u.level u.low);
             good = u.good;
-            words = (f.1.0, operand-writable Unary (In a s).0 u.words);
+            words = (f.1.0, operand-writable (level_of (pre at a)) (In a s).0 u.words);
             added = u.added;
           }
       expr-fine (two at op a b) s f h =
@@ -334,53 +334,53 @@ module _ (d nested : ℕ) (deep : 8 ≤ d) (some : 1 ≤ nested) where
             added = λ k. uc.added (ub.added (ua.added k));
           }
       expr-fine (pre at a) s f h =
-          let u = expr-fine a s ((f.0.0.1, low-part Unary a (height (pre at a)) (omega arith) f.0.1), operand-plain Unary a f.1.1) h in
+          let u = expr-fine a s ((f.0.0.1, low-part (level_of (pre at a)) a (height (pre at a)) (omega arith) f.0.1), operand-plain (level_of (pre at a)) a f.1.1) h in
           record {
             level = refl;
-            low = omega (arith, tall-low Unary a (In a s).0 u.level u.low);
+            low = omega (arith, tall-low (level_of (pre at a)) a (In a s).0 u.level u.low);
             good = (tt, u.good);
-            words = (f.1.0, operand-writable Unary (In a s).0 u.words);
+            words = (f.1.0, operand-writable (level_of (pre at a)) (In a s).0 u.words);
             added = u.added;
           }
       expr-fine (fby at a b) s f h =
           let t = (In a s).1 in
-          let tail = writable-behind (operand_tokens Implication a) _ f.1 in
+          let tail = writable-behind (operand_tokens (level_of (two at Imp a a)) a) _ f.1 in
           let steps = expr-steps there names b t in
           let l = steps.later in
           let m = height (fby at a b) in
-          let ua = expr-fine a s ((f.0.0.1, low-part Implication a m (omega arith) f.0.1), before-words Implication a _ f.1) (omega (arith, l, h)) in
-          let ub = expr-fine b t ((f.0.0.2, low-part Delay b m (omega arith) f.0.1), operand-plain Delay b tail.1) h in
+          let ua = expr-fine a s ((f.0.0.1, low-part (level_of (two at Imp a a)) a m (omega arith) f.0.1), before-words (level_of (two at Imp a a)) a _ f.1) (omega (arith, l, h)) in
+          let ub = expr-fine b t ((f.0.0.2, low-part (level_of (fby at a a)) b m (omega arith) f.0.1), operand-plain (level_of (fby at a a)) b tail.1) h in
           record {
             level = refl;
-            low = omega (arith, both-low Implication Delay (word key.Fby) a b s t (In b t).1 (In a s).0 (In b t).0 ua ub);
+            low = omega (arith, both-low (level_of (two at Imp a a)) (level_of (fby at a a)) (word key.Fby) a b s t (In b t).1 (In a s).0 (In b t).0 ua ub);
             good = (tt, ua.good, ub.good);
-            words = both-words Implication Delay (word key.Fby) a b s t (In b t).1 (In a s).0 (In b t).0 ua ub tail.0;
+            words = both-words (level_of (two at Imp a a)) (level_of (fby at a a)) (word key.Fby) a b s t (In b t).1 (In a s).0 (In b t).0 ua ub tail.0;
             added = λ k. ub.added (ua.added k);
           }
       expr-fine (arrow at a b) s f h =
           let t = (In a s).1 in
-          let tail = writable-behind (operand_tokens Sample a) _ f.1 in
+          let tail = writable-behind (operand_tokens (level_of (when_is at a cons.True [])) a) _ f.1 in
           let steps = expr-steps there names b t in
           let l = steps.later in
           let k = f.0.1 in
-          let ua = expr-fine a s ((f.0.0.1, low-part Sample a (height (arrow at a b)) (omega arith) k), before-words Sample a _ f.1) (omega (arith, l, h)) in
+          let ua = expr-fine a s ((f.0.0.1, low-part (level_of (when_is at a cons.True [])) a (height (arrow at a b)) (omega arith) k), before-words (level_of (when_is at a cons.True [])) a _ f.1) (omega (arith, l, h)) in
           let ub = expr-fine b t ((f.0.0.2, omega (arith, k)), tail.1) h in
           let lb = ub.low in
           record {
             level = refl;
-            low = omega (arith, tall-low Sample a (In a s).0 ua.level ua.low, lb);
+            low = omega (arith, tall-low (level_of (when_is at a cons.True [])) a (In a s).0 ua.level ua.low, lb);
             good = (tt, ua.good, ub.good);
-            words = writable-append (operand_tokens Sample (In a s).0) _ (operand-writable Sample (In a s).0 ua.words) (tail.0, ub.words);
+            words = writable-append (operand_tokens (level_of (when_is at a cons.True [])) (In a s).0) _ (operand-writable (level_of (when_is at a cons.True [])) (In a s).0 ua.words) (tail.0, ub.words);
             added = λ k. ub.added (ua.added k);
           }
       expr-fine (when_is at a c x) s f h =
-          let tail = writable-behind (operand_tokens Sample a) _ f.1 in
-          let u = expr-fine a s ((f.0.0.1, low-part Sample a (height (when_is at a c x)) (omega arith) f.0.1), before-words Sample a _ f.1) h in
+          let tail = writable-behind (operand_tokens (level_of (when_is at a cons.True [])) a) _ f.1 in
+          let u = expr-fine a s ((f.0.0.1, low-part (level_of (when_is at a cons.True [])) a (height (when_is at a c x)) (omega arith) f.0.1), before-words (level_of (when_is at a cons.True [])) a _ f.1) h in
           record {
             level = refl;
-            low = omega (arith, tall-low Sample a (In a s).0 u.level u.low);
+            low = omega (arith, tall-low (level_of (when_is at a cons.True [])) a (In a s).0 u.level u.low);
             good = (tt, u.good);
-            words = writable-append (operand_tokens Sample (In a s).0) _ (operand-writable Sample (In a s).0 u.words) tail;
+            words = writable-append (operand_tokens (level_of (when_is at a cons.True [])) (In a s).0) _ (operand-writable (level_of (when_is at a cons.True [])) (In a s).0 u.words) tail;
             added = u.added;
           }
       expr-fine (merge at x ps) s f h =

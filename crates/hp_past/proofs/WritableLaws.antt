@@ -1,12 +1,12 @@
 -- New names may be written, and what is written of an unfolded expression may be read.
-use Rattle.std.proofs.Common.{◌≡◌, ℕ, suc, max, ◌+◌, ◌<◌, ◌≤◌, ◌^◌, Bool, true, false, ◌||◌, ◌&&◌, nat_eq, if◌then◌else◌, get_or, length, List, [], ◌∷◌, ◌++◌, map, codes, Option, None, Some, refl, sym, ap, subst, ◌∙◌, arith}
+use Rattle.std.proofs.Common.{◌/◌, ◌%◌, ◌≡◌, ℕ, suc, ◌+◌, ◌<◌, ◌≤◌, ◌^◌, Bool, true, false, ◌&&◌, nat_eq, if◌then◌else◌, get_or, List, [], ◌∷◌, ◌++◌, codes, refl, sym, ap, subst, ◌∙◌, arith}
 use Rattle.std.specs.Fmt.{decimal}
 use Rattle.std.specs.List.{list_all}
 use Rattle.std.proofs.lemmas.Fmt.{decimal_by_steps, length-decimal-le}
 use Rattle.std.proofs.lemmas.List.{length-append}
 use Rattle.std.proofs.lemmas.Bool.{and_parts, and_from}
 use Rattle.std.proofs.lemmas.Bool.Decides.{nat_tests}
-use Rattle.hp_base.specs.Bytes.{is_small, is_capital, is_digit, is_word_byte}
+use Rattle.hp_base.specs.Bytes.{is_word_byte}
 use Rattle.hp_lexer.specs.Spelling.{keyword_text}
 use Rattle.hp_lexer.specs.Written.{Written, IsWritable}
 use Rattle.hp_lexer.specs.declared.token.Keyword.{Keyword}
@@ -14,7 +14,6 @@ use Rattle.hp_lexer.specs.declared.token.Keyword.TheVariants as key
 use Rattle.hp_lexer.specs.declared.token.Sign.TheVariants as mark
 use Rattle.hp_tree.specs.Expressions.{Expr}
 use Rattle.hp_print.specs.Levels.{is_looser, level_of}
-use Rattle.hp_print.specs.declared.level.Level.{Level}
 use Rattle.hp_print.specs.Tokens.{sign, small}
 use Rattle.hp_print.specs.ExpressionTokens.{in_parentheses, expression_tokens, operand_tokens}
 use Rattle.hp_print.proofs.Heights.{tall, height}
@@ -114,14 +113,14 @@ name-writable k h =
 
 -- ---- operands
 
-pub operand-writable : (l : Level) (e : Expr) → Writable (expression_tokens e) → Writable (operand_tokens l e)
+pub operand-writable : (l : _) (e : Expr) → Writable (expression_tokens e) → Writable (operand_tokens l e)
 operand-writable l e w = by (is_looser (level_of e) l)
   where
     by : (b : Bool) → Writable (if b then in_parentheses (expression_tokens e) else expression_tokens e)
     by true = (sign-writable mark.Open, writable-append (expression_tokens e) (sign mark.Close ∷ []) w (sign-writable mark.Close, tt))
     by false = w
 
-pub operand-plain : (l : Level) (e : Expr) → Writable (operand_tokens l e) → Writable (expression_tokens e)
+pub operand-plain : (l : _) (e : Expr) → Writable (operand_tokens l e) → Writable (expression_tokens e)
 operand-plain l e = by (is_looser (level_of e) l)
   where
     by : (b : Bool) → Writable (if b then in_parentheses (expression_tokens e) else expression_tokens e) → Writable (expression_tokens e)
@@ -129,21 +128,21 @@ operand-plain l e = by (is_looser (level_of e) l)
     by false h = h
 
 -- an operand of the same level that needs no more levels
-pub tall-low : (l : Level) (e r : Expr) → level_of r ≡ level_of e → height r ≤ height e → tall l r (height r) ≤ tall l e (height e)
+pub tall-low : (l : _) (e r : Expr) → level_of r ≡ level_of e → height r ≤ height e → tall l r (height r) ≤ tall l e (height e)
 tall-low l e r same low = subst (λ k. (if is_looser k l then suc (height r) else height r) ≤ tall l e (height e)) (sym same) (by (is_looser (level_of e) l))
   where
     by : (b : Bool) → (if b then suc (height r) else height r) ≤ (if b then suc (height e) else height e)
     by true = omega (arith, low)
     by false = low
 
-pub tall-least : (l : Level) (e : Expr) (h : ℕ) → h ≤ tall l e h
+pub tall-least : (l : _) (e : Expr) (h : ℕ) → h ≤ tall l e h
 tall-least l e h = by (is_looser (level_of e) l)
   where
     by : (b : Bool) → h ≤ (if b then suc h else h)
     by true = omega arith
     by false = omega arith
 
-pub tall-most : (l : Level) (e : Expr) (h : ℕ) → tall l e h ≤ suc h
+pub tall-most : (l : _) (e : Expr) (h : ℕ) → tall l e h ≤ suc h
 tall-most l e h = by (is_looser (level_of e) l)
   where
     by : (b : Bool) → (if b then suc h else h) ≤ suc h

@@ -7,7 +7,7 @@ use Rattle.hp_tree.specs.declared.program.Item.{Item}
 use Rattle.hp_tree.specs.declared.program.Item.TheVariants.{TypeItem, NodeItem}
 use Rattle.hp_tree.specs.Expressions.{variable, last_of, two}
 use Rattle.hp_tree.specs.Blocks.{Decl, Block}
-use Rattle.hp_tree.specs.Programs.{Contract, Node}
+use Rattle.hp_tree.specs.Programs.{Contract}
 use Rattle.hp_tree.specs.Instant.{Instant, Past, Observer, part, parts, own}
 use Rattle.hp_tree.specs.Reaction.{Each}
 use Rattle.hp_past.specs.Own.{locals_of}

@@ -12,7 +12,7 @@ use Rattle.hp_tree.specs.declared.expr.Op2.TheVariants.{And, Or}
 use Rattle.hp_tree.specs.declared.program.Item.{Item}
 use Rattle.hp_tree.specs.declared.program.Item.TheVariants.{TypeItem, NodeItem}
 use Rattle.hp_tree.specs.Expressions.{Expr, constant, variable, last_of, one, two, choose, pre, fby, arrow, when_is, merge, call, Exprs, no_expr, more_exprs, Parts, no_part, more_parts}
-use Rattle.hp_tree.specs.Blocks.{Decl, Block, block, Eqns, no_eqn, more_eqns, Eqn, define, switch, reset, automaton, eqns_of, list_of_eqns}
+use Rattle.hp_tree.specs.Blocks.{Decl, Block, block, Eqns, no_eqn, more_eqns, Eqn, define, switch, reset, automaton, eqns_of}
 use Rattle.hp_tree.specs.Programs.{Contract, Node}
 use Rattle.hp_past.specs.declared.formula.Formula.{Formula}
 use Rattle.hp_past.specs.declared.formula.Formula.TheVariants.{Once, Historically, Since}
