@@ -1,6 +1,10 @@
 -- Sets of lemmas that functions name.
 use Rattle.hp_tree.proofs.Lists.{nodes-at, nodes-at_part}
 use Rattle.hp_tree.proofs.BlockLists.{lines-at_eqn, lines-at_arm, lines-at_state}
+use Rattle.std.proofs.lemmas.List.{append_assoc}
+use Rattle.hp_watch.proofs.WalkLaws.{events-next, events-end}
+
+pub ruleset events = (events-next, events-end)
 
 -- an element of a list is no larger than the list
-pub ruleset sizes = (nodes-at, nodes-at_part, lines-at_eqn, lines-at_arm, lines-at_state)
+pub ruleset walks = (nodes-at, nodes-at_part, lines-at_eqn, lines-at_arm, lines-at_state, append_assoc)
