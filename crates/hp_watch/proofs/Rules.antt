@@ -2,9 +2,20 @@
 use Rattle.hp_tree.proofs.Lists.{nodes-at, nodes-at_part}
 use Rattle.hp_tree.proofs.BlockLists.{lines-at_eqn, lines-at_arm, lines-at_state}
 use Rattle.std.proofs.lemmas.List.{append_assoc}
+use Rattle.hp_watch.proofs.LiftLaws.{each-next, tests-next, lifted-next, either-next, either-end, bits-next, bits-more, width-next, width-here, width-end}
 use Rattle.hp_watch.proofs.WalkLaws.{events-next, events-end}
 
 pub ruleset events = (events-next, events-end)
 
 -- an element of a list is no larger than the list
 pub ruleset walks = (nodes-at, nodes-at_part, lines-at_eqn, lines-at_arm, lines-at_state, append_assoc)
+
+pub ruleset eachwise = (each-next, tests-next)
+
+pub ruleset lifting = lifted-next
+
+pub ruleset eithers = (either-next, either-end)
+
+pub ruleset spelling = (bits-next, bits-more)
+
+pub ruleset widths = (width-next, width-here, width-end)
