@@ -1,3 +1,5 @@
-pub mod Rules
 pub mod WalkLaws
 pub mod LiftLaws
+pub mod EmbedLaws
+pub mod ObserveLaws
+pub mod Rules

@@ -34,7 +34,7 @@ next-each t value (suc k) n =
     let here = next-operator Truth Eq (Read value ∷ Fixed (E t k) ∷ []) (with_each (with_test t value) k n) in
     omega (arith, before, here)
 
-range-suc : (a n : ℕ) → range_with_len a (suc n) ≡ range_with_len a n ++ (a + n) ∷ []
+pub range-suc : (a n : ℕ) → range_with_len a (suc n) ≡ range_with_len a n ++ (a + n) ∷ []
 range-suc a zero = let same : a ≡ a + 0 = omega arith in ap (λ b. b ∷ []) same
 range-suc a (suc n) = let same : (a + 1) + n ≡ a + suc n = omega arith in ap (λ xs. a ∷ xs) (range-suc (a + 1) n ∙ ap (λ b. range_with_len (a + 1) n ++ b ∷ []) same)
 

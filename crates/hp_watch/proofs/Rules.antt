@@ -2,6 +2,9 @@
 use Rattle.hp_tree.proofs.Lists.{nodes-at, nodes-at_part}
 use Rattle.hp_tree.proofs.BlockLists.{lines-at_eqn, lines-at_arm, lines-at_state}
 use Rattle.std.proofs.lemmas.List.{append_assoc}
+use Rattle.std.proofs.lemmas.List.{map_more}
+use Rattle.hp_watch.proofs.EmbedLaws.{all-next, all-end, clock-next, clock-end, variables-next, variables-end, inputs-next, inputs-end, moved-next, moved-end}
+use Rattle.hp_watch.proofs.ObserveLaws.{inputs_for-next, inputs_for-end, handed-next, handed-end, decls-next, decls-end, items-next, items-end, seen-more}
 use Rattle.hp_watch.proofs.LiftLaws.{each-next, tests-next, lifted-next, either-next, either-end, bits-next, bits-more, width-next, width-here, width-end}
 use Rattle.hp_watch.proofs.WalkLaws.{events-next, events-end}
 
@@ -19,3 +22,9 @@ pub ruleset eithers = (either-next, either-end)
 pub ruleset spelling = (bits-next, bits-more)
 
 pub ruleset widths = (width-next, width-here, width-end)
+
+pub ruleset moves = (map_more, all-next, all-end, clock-next, clock-end)
+
+pub ruleset embeddings = (variables-next, variables-end, inputs-next, inputs-end, moved-next, moved-end)
+
+pub ruleset observings = (inputs_for-next, inputs_for-end, handed-next, handed-end, decls-next, decls-end, items-next, items-end, seen-more, append_assoc)

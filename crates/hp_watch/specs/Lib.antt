@@ -1,3 +1,5 @@
 pub mod Walk
 pub mod Adding
 pub mod Lifting
+pub mod Embedding
+pub mod Observing

@@ -2,11 +2,15 @@
 #![tactic(auto)]
 
 mod adding;
+mod embedding;
 mod error;
 mod lifting;
+mod observer;
 mod walk;
 
 pub use adding::{add_copy, type_at, some_value};
 pub use error::WatchErr;
 pub use lifting::{add_bits, lift};
+pub use embedding::{Site, embed};
+pub use observer::observers;
 pub use walk::{events_of, walk_block, walk_contract};
