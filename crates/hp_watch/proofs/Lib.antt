@@ -2,4 +2,6 @@ pub mod WalkLaws
 pub mod LiftLaws
 pub mod EmbedLaws
 pub mod ObserveLaws
+pub mod PlaceLaws
+pub mod GrowLaws
 pub mod Rules

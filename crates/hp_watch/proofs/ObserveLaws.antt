@@ -7,7 +7,8 @@ use Rattle.hp_tree.specs.declared.block.Eqn as code_eqn
 use Rattle.hp_tree.specs.BlockView.{eqn_seen}
 use Rattle.hp_tree.specs.Blocks.{Decl, Block, block, Eqn, eqns_of, list_of_eqns}
 use Rattle.hp_tree.proofs.BlockLists.{list_of_eqns-eqns_of}
-use Rattle.hp_watch.specs.Observing.{declared, input_name, inputs_for, handed_on, all_handed_on, with_lines, item_of, observers}
+use Rattle.hp_tree.specs.Programs.{Contract, Node}
+use Rattle.hp_watch.specs.Observing.{declared, assumed, enforced, equation, condition_of, lines_of, input_name, inputs_for, handed_on, all_handed_on, with_lines, item_of, observers}
 use Rattle.hp_watch.proofs.WalkLaws.{drop-next}
 
 pub inputs_for-next : (into ds : List Decl) (i : ℕ) (d : Decl) → i < length ds → d ≡ get_or ds i d → (into ++ declared (input_name i) d.ty d.span ∷ []) ++ inputs_for (i + 1) (drop (i + 1) ds) ≡ into ++ inputs_for i (drop i ds)
@@ -40,3 +41,12 @@ seen-more es e = map-append eqn_seen es (e ∷ [])
 
 pub lined : (b : Block) (ds more : List Decl) (es lines : List Eqn) → block ds (eqns_of es) ≡ b → block (ds ++ more) (eqns_of (es ++ lines)) ≡ with_lines b more lines
 lined b ds more es lines e = ap (λ xs. block (ds ++ more) (eqns_of (xs ++ lines))) (sym (list_of_eqns-eqns_of es)) ∙ ap (λ z. with_lines z more lines) e
+
+pub lines-added : (into e1 e2 e3 : List Eqn) (assume enforce : Eqn) (n : Node) (c : Contract) → e1 ≡ into ++ assume ∷ [] → e2 ≡ e1 ++ enforce ∷ [] → e3 ≡ e2 ++ all_handed_on 0 n.outputs
+    → assume ≡ equation assumed c.span (condition_of c.assume c.span) → enforce ≡ equation enforced c.span (condition_of c.enforce c.span) → e3 ≡ into ++ lines_of n c
+lines-added into e1 e2 e3 assume enforce n c is_first is_second is_third is_assume is_enforce =
+    let rest = all_handed_on 0 n.outputs in
+    is_third
+    ∙ ap (λ z. z ++ rest) (is_second ∙ ap (λ z. z ++ enforce ∷ []) is_first)
+    ∙ append_assoc (into ++ assume ∷ []) (enforce ∷ []) rest ∙ append_assoc into (assume ∷ []) (enforce ∷ rest)
+    ∙ ap₂ (λ a e. into ++ a ∷ e ∷ rest) is_assume is_enforce

@@ -7,10 +7,9 @@ mod error;
 mod lifting;
 mod observer;
 mod walk;
+mod watching;
 
-pub use adding::{add_copy, type_at, some_value};
+pub use adding::add_copy;
 pub use error::WatchErr;
-pub use lifting::{add_bits, lift};
-pub use embedding::{Site, embed};
 pub use observer::observers;
-pub use walk::{events_of, walk_block, walk_contract};
+pub use watching::{Observer, Observers, Watched, watch};

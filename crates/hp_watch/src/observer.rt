@@ -159,7 +159,8 @@ fn add_lines(
     add_eqn(assume, eqns)?;
     let enforce = said_eqn(alloc, ENFORCED, &contract.enforce, contract.span)?;
     add_eqn(enforce, eqns)?;
-    add_handed_on(alloc, &node.outputs, eqns)
+    add_handed_on(alloc, &node.outputs, eqns)?;
+    Ok(())
 }
 
 /// Adds copies of declarations.

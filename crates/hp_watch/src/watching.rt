@@ -2,6 +2,7 @@
 ghost use Rattle.std.specs.Prelude.{◌≡◌, ◌≢◌, ◌++◌, ◌∷◌, [], length, map, IfErr, IfOk, OnOk, MatchOption, MatchResult};
 ghost use Rattle.std.specs.List.{flat_map, range_with_len};
 ghost use Rattle.hp_flat.specs.EquationView.{right_seen};
+ghost use Rattle.hp_watch.specs.Growing.{IsLarger};
 ghost use Rattle.hp_watch.specs.Embedding.{embedded, shift_of, site_seen};
 ghost use Rattle.hp_watch.specs.Walk.{events_from, in_block, in_contract, walk_contract};
 ghost use Rattle.hp_watch.specs.Watching as made;
@@ -136,13 +137,15 @@ fn add_event(
 }
 
 /// Adds the free places of the equation with this number.
-#[tactic(auto, using(crate::proofs::Rules::places))]
 fn add_at(node: &FlatNode, number: usize, free: &mut Vec<Free>) -> Result<(), AllocError>
     ensures { OnOk result (free.new.items ≡ free.old.items ++ made.free_at node.now number) }
 {
     match node.eqns.get(number) {
         None => Ok(()),
-        Some(eqn) => add_event(node, number, eqn, free),
+        Some(eqn) => {
+            add_event(node, number, eqn, free)?;
+            Ok(())
+        }
     }
 }
 
@@ -355,8 +358,7 @@ fn add_called(
     node: &mut FlatNode,
     shifts: &mut Vec<Option<Shift>>,
 ) -> Result<(), AllocError>
-    ensures node { OnOk result (node.new ≡ (made.with_called_at (observers_seen observers.now) number (made.placed_as node.old shifts.old.items)).node) }
-    ensures shifts { OnOk result (shifts.new.items ≡ (made.with_called_at (observers_seen observers.now) number (made.placed_as node.old shifts.old.items)).shifts) }
+    ensures { OnOk result (made.placed_as node.new shifts.new.items ≡ made.with_called_at (observers_seen observers.now) number (made.placed_as node.old shifts.old.items)) }
 {
     let Some(eqn) = node.eqns.get(number) else {
         shifts.push(None)?;
@@ -378,8 +380,7 @@ fn add_all_called(
     eqns: usize,
     node: &mut FlatNode,
 ) -> Result<Vec<Option<Shift>>, AllocError>
-    ensures node { OnOk result (node.new ≡ (made.placed (observers_seen observers.now) eqns node.old).node) }
-    ensures shifts { IfOk result (λ shifts. shifts.items ≡ (made.placed (observers_seen observers.now) eqns node.old).shifts) }
+    ensures { IfOk result (λ shifts. made.placed_as node.new shifts.items ≡ made.placed (observers_seen observers.now) eqns node.old) }
 {
     let mut shifts = Vec::new(alloc);
     for number in 0..eqns {
@@ -417,7 +418,6 @@ fn add_contract(
 }
 
 /// Adds the free places of a comparison or a call; behind the outputs of a call stand those of the contract of the node that is called.
-#[tactic(auto, using(crate::proofs::Rules::places))]
 fn add_placed(
     observers: &Observers<'_>,
     node: &FlatNode,
@@ -431,7 +431,9 @@ fn add_placed(
         return Ok(());
     };
     add_event(node, number, eqn, free)?;
-    add_contract(observers, eqn, shift_at(shifts, number), free)
+    let shift = shift_at(shifts, number);
+    add_contract(observers, eqn, shift, free)?;
+    Ok(())
 }
 
 /// Adds the free places of comparisons and calls, in this order.
@@ -591,9 +593,8 @@ fn unwatched(alloc: Global, node: FlatNode) -> Watched
     }
 }
 
-/// Adds to the clocked equations of a node the observers of its contract and of those of the nodes that it calls, and what has the bits of its free places. It is said of
-/// these, in order, which are early.
-pub fn watch(
+/// A node that is watched.
+fn watched(
     alloc: Global,
     types: &[ObcType],
     node: &Node,
@@ -615,4 +616,21 @@ pub fn watch(
     }
     add_places(alloc, types, &free, is_early, &mut watched)?;
     Ok(watched)
+}
+
+/// Adds to the clocked equations of a node the observers of its contract and of those of the nodes that it calls, and what has the bits of its free places. It is said of
+/// these, in order, which are early.
+pub fn watch(
+    alloc: Global,
+    types: &[ObcType],
+    node: &Node,
+    is_early: &[bool],
+    flat: FlatNode,
+    observers: &Observers<'_>,
+) -> Result<Watched, WatchErr>
+    ensures watched { MatchResult result (λ w. IsWatched types.now (observers_seen observers.now) node.now is_early.now flat (watched_seen w)) (λ e. e ≡ WatchErr.Misfit → ¬ Fits (observers_seen observers.now) node.now is_early.now flat) }
+    ensures larger { IfOk result (λ w. IsLarger flat (watched_seen w)) }
+{
+    let w = watched(alloc, types, node, is_early, flat, observers)?;
+    Ok(w)
 }
