@@ -1,5 +1,5 @@
 use Rattle.std.proofs.Common.{◌≡◌, None, Some, slice_get, rules}
-use Rattle.hp_watch.proofs.PlaceLaws.{none-free, some-free}
+use Rattle.hp_watch.proofs.SurveyLaws.{none-free, some-free}
 use Rattle.hp_watch.proofs.watching.add_at.Goals as goal
 
 pub returns-in-None : goal.returns-in-None

@@ -1,6 +1,6 @@
 use Rattle.std.proofs.Common.{◌≡◌, None, Some, slice_get, rules}
 use Rattle.hp_watch.specs.Watching.{observers_seen, placed_as}
-use Rattle.hp_watch.proofs.PlaceLaws.{none-placed, some-placed}
+use Rattle.hp_watch.proofs.SurveyLaws.{none-placed, some-placed}
 use Rattle.hp_watch.proofs.watching.add_placed.Goals as goal
 
 pub returns-in_default : goal.returns-in_default
