@@ -594,7 +594,7 @@ fn unwatched(alloc: Global, node: FlatNode) -> Watched
 }
 
 /// A node that is watched.
-fn watched(
+fn watch_all(
     alloc: Global,
     types: &[ObcType],
     node: &Node,
@@ -631,6 +631,6 @@ pub fn watch(
     ensures watched { MatchResult result (λ w. IsWatched types.now (observers_seen observers.now) node.now is_early.now flat (watched_seen w)) (λ e. e ≡ WatchErr.Misfit → ¬ Fits (observers_seen observers.now) node.now is_early.now flat) }
     ensures larger { IfOk result (λ w. IsLarger flat (watched_seen w)) }
 {
-    let w = watched(alloc, types, node, is_early, flat, observers)?;
+    let w = watch_all(alloc, types, node, is_early, flat, observers)?;
     Ok(w)
 }

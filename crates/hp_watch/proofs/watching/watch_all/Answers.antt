@@ -1,7 +1,7 @@
 use Rattle.std.proofs.Common.{◌≡◌, length, sym, ap, ◌∙◌, rules}
 use Rattle.hp_watch.specs.Watching.{observers_seen, watched_seen, with_places, Watched, unwatched, walked}
 use Rattle.hp_watch.proofs.SurveyLaws.{watched-all}
-use Rattle.hp_watch.proofs.watching.watched.Goals as goal
+use Rattle.hp_watch.proofs.watching.watch_all.Goals as goal
 
 pub returns : goal.returns
 returns c =
