@@ -4,9 +4,7 @@ ghost use Rattle.hp_tree.specs.BlockView.{eqn_seen};
 ghost use Rattle.hp_watch.specs.Observing as made;
 
 use hp_base::{Name, Span, Ty};
-use hp_tree::{
-    Block, Const, Contract, Decl, Eqn, Expr, ExprKind, Item, Node, Program, copy_decls,
-};
+use hp_tree::{Block, Const, Contract, Decl, Eqn, Expr, ExprKind, Item, Node, Program, copy_decls};
 use itoa::Buffer;
 use std::alloc::{AllocError, Global};
 
@@ -102,12 +100,7 @@ fn equation(alloc: Global, name: Name, span: Span, right: Expr) -> Result<Eqn, A
 }
 
 /// The equation of what is assumed or enforced.
-fn said_eqn(
-    alloc: Global,
-    name: &[u8],
-    said: &Option<Expr>,
-    span: Span,
-) -> Result<Eqn, AllocError>
+fn said_eqn(alloc: Global, name: &[u8], said: &Option<Expr>, span: Span) -> Result<Eqn, AllocError>
     requires { length name.now ≤ 8 }
     ensures { IfOk result (λ eqn. eqn_seen eqn ≡ made.equation name.now span (made.condition_of said.now span)) }
 {

@@ -140,13 +140,11 @@ fn add_event(
 fn add_at(node: &FlatNode, number: usize, free: &mut Vec<Free>) -> Result<(), AllocError>
     ensures { OnOk result (free.new.items ≡ free.old.items ++ made.free_at node.now number) }
 {
-    match node.eqns.get(number) {
-        None => Ok(()),
-        Some(eqn) => {
-            add_event(node, number, eqn, free)?;
-            Ok(())
-        }
-    }
+    let Some(eqn) = node.eqns.get(number) else {
+        return Ok(());
+    };
+    add_event(node, number, eqn, free)?;
+    Ok(())
 }
 
 /// Adds the free places of equations, in this order.
