@@ -1,4 +1,3 @@
-pub mod Walk
 pub mod Spots
 pub mod Found
 pub mod Laws

@@ -19,7 +19,7 @@ use Rattle.hp_flat.specs.Equations.{Right, register, FlatEqn}
 use Rattle.law_automata.specs.Lowered.Standing.{Along}
 use Rattle.law_equations.specs.Flattened.Flatten.{obc_one, obc_two}
 use Rattle.law_equations.specs.Made.Making.{with_variable, flat_type, constant_value, Known, Sketch, Site, Sight, Layer, Seen, Standing, Body, Inner, next, with_eqn, with_new, with_outputs, named_value, value_of, new_variable, flag_at, block_flag, new_flag, tested, merged_variable, copy_of, atom_of, bind, bind_all, bind_outputs, link_all, output_left, others, given_by, own_name, own_names, with_own, keeps_name, over, remember, remember_all, enter_path, on_site, cons_number, signed}
-use Rattle.law_choices.specs.Places.Walk.{compares, is_comparison, is_event}
+use Rattle.hp_watch.specs.Walk.{compares, is_comparison, is_event}
 use Rattle.law_choices.specs.Places.Spots.{Spot}
 use Rattle.law_choices.specs.Places.Laws.{events, IsEventOf}
 

@@ -4,7 +4,7 @@ use Rattle.std.specs.Prelude.{◌+◌, Bool, true, false, if◌then◌else◌, d
 use Rattle.hp_tree.specs.declared.block.Trans.{Trans}
 use Rattle.hp_tree.specs.Expressions.{Expr, constant, variable, last_of, one, two, choose, pre, fby, arrow, when_is, merge, call, Exprs, no_expr, more_exprs, Parts, no_part, more_parts}
 use Rattle.hp_tree.specs.Blocks.{Block, block, Eqns, no_eqn, more_eqns, Eqn, define, switch, reset, automaton, Arms, no_arm, more_arms, States, no_state, more_states}
-use Rattle.law_choices.specs.Places.Walk.{compares, Walked, in_front, in_expr, in_exprs, in_parts, in_conditions, in_block, in_eqns, in_eqn, in_arms, in_states, walk, walk_all, walk_parts, walk_conditions, walk_block, walk_eqns, walk_eqn, walk_arms, walk_states}
+use Rattle.hp_watch.specs.Walk.{compares, Walked, in_front, in_expr, in_exprs, in_parts, in_conditions, in_block, in_eqns, in_eqn, in_arms, in_states, walk, walk_all, walk_parts, walk_conditions, walk_block, walk_eqns, walk_eqn, walk_arms, walk_states}
 
 module _ {X : Type 0} where
   abbrev none : List X

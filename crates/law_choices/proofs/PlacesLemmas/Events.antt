@@ -17,7 +17,7 @@ use Rattle.law_automata.specs.Lowered.Standing.{Along}
 use Rattle.law_equations.specs.Flattened.Flatten.{Prefix, below, constant_in, is_false, obc_one, obc_two}
 use Rattle.law_equations.specs.Made.Making.{Known, Sketch, Site, Sight, Made, Standing, Body, Inner, next, with_outputs, value_of, type_of_value, constant_value, type_one, type_two, type_at, first_value, mux_at, register_at, flag_at, fby_at, arrow_at, by_constant, tested, or_new, part_at, merged_variable, on_site, off_site, cons_number, outputs_of, numbers_from, called_at, first_output, copy_of, atom_of, bind_all, bind_outputs, link_all, hidden, over, names_of_arms, names_of_block, names_of_eqns, each_once, in_block, with_flag, restart_site, base_site, unknown, no_entry, nothing_made, own_names, declared, remember_all, block_layer, enter_path, path_for, signed, sketch_expr, sketch_parts, sketch_exprs, sketch_right, sketch_block, sketch_eqns, sketch_eqn, sketch_arms, sketch_node}
 use Rattle.law_equations.specs.Made.Laws.{unplaced}
-use Rattle.law_choices.specs.Places.Walk.{compares, is_event}
+use Rattle.hp_watch.specs.Walk.{compares, is_event}
 use Rattle.law_choices.specs.Places.Spots.{Spot, compared, called, call_spot, compared_spots, spots, spots_of_all, spots_of_parts, spots_of_block, spots_of_eqns, spots_of_eqn, spots_of_arms, spots_of_node}
 use Rattle.law_choices.specs.Places.Laws.{events, IsEventOf, KnowsOutputs, EventsLaw}
 use Rattle.law_choices.proofs.PlacesLemmas.Adding.{Adds, adds-two, adds-more, adds-none, adds-quiet, adds-event, quiet-one, compares-same, adds-value, adds-flag, adds-tested, adds-merged, adds-bind-all, adds-bind-outputs, adds-links, adds-names, adds-outputs, adds-lasts, adds-path, adds-signed}

@@ -7,7 +7,7 @@ use Rattle.hp_tree.specs.Expressions.{Expr, constant, variable, last_of, one, tw
 use Rattle.hp_tree.specs.Instant.{Head, Tail, First, Second, Third, Args}
 use Rattle.hp_automata.specs.Renaming.{renamed, renamed_exprs, renamed_parts}
 use Rattle.law_equations.specs.Flattened.Flatten.{Prefix, below}
-use Rattle.law_choices.specs.Places.Walk.{compares, Walked, in_front, behind, walk, walk_all, walk_parts}
+use Rattle.hp_watch.specs.Walk.{compares, Walked, in_front, behind, walk, walk_all, walk_parts}
 use Rattle.law_choices.specs.Places.Spots.{Spot, compared, call_spot, compared_spots, spots, spots_of_all, spots_of_parts}
 use Rattle.law_choices.specs.Places.Found.{Both, both_compared, found, found_in_all, found_in_parts}
 

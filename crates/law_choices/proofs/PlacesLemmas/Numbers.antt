@@ -8,7 +8,7 @@ use Rattle.hp_flat.specs.Equations.{FlatEqn}
 use Rattle.hp_automata.specs.Lowering.{Enumerations, lowered_node}
 use Rattle.law_automata.specs.Lowered.Standing.{Along}
 use Rattle.law_equations.specs.Made.Making.{Known}
-use Rattle.law_choices.specs.Places.Walk.{is_event, events_from, in_block, walk_block}
+use Rattle.hp_watch.specs.Walk.{is_event, events_from, in_block, walk_block}
 use Rattle.law_choices.specs.Places.Spots.{Spot, compared, spots_of_node}
 use Rattle.law_choices.specs.Places.Found.{found_in_node}
 use Rattle.law_choices.specs.Places.Laws.{events, IsEventOf, IsNumberOf, KnowsOutputs, AreMadeOf, FoundLaw, CountLaw}

@@ -5,7 +5,7 @@ use Rattle.hp_tree.specs.declared.block.Trans.{Trans}
 use Rattle.hp_tree.specs.Expressions.{Expr, constant, variable, last_of, one, two, choose, pre, fby, arrow, when_is, merge, call, Exprs, no_expr, more_exprs, Parts, no_part, more_parts}
 use Rattle.hp_tree.specs.Blocks.{Block, block, Eqns, no_eqn, more_eqns, Eqn, define, switch, reset, automaton, Arms, no_arm, more_arms, States, no_state, more_states}
 use Rattle.law_automata.specs.Lowered.Standing.{Along}
-use Rattle.law_choices.specs.Places.Walk.{compares, Walked, in_front, walk, walk_all, walk_parts, walk_conditions, walk_block, walk_eqns, walk_eqn, walk_arms, walk_states}
+use Rattle.hp_watch.specs.Walk.{compares, Walked, in_front, walk, walk_all, walk_parts, walk_conditions, walk_block, walk_eqns, walk_eqn, walk_arms, walk_states}
 
 module _ {X Y : Type 0} (P : X → Y → Type 0) where
   along-both : (xs vs : List X) (ys ws : List Y) → Along P xs ys → Along P vs ws → Along P (xs ++ vs) (ys ++ ws)

@@ -16,7 +16,7 @@ use Rattle.hp_automata.specs.Names.{is_name, missing}
 use Rattle.hp_automata.specs.Renaming.{renamed}
 use Rattle.hp_automata.specs.Lowering.{Types, Enumerations, Frame, some_constant, type_of, link, number, pending_of, handed, value_handed, chosen, choices, joined, idle_value, idle, from_eqn, on_word, state_switch, state_eqns, own_next, stays, frame_eqns, kept, all_kept}
 use Rattle.law_equations.specs.Flattened.Flatten.{Prefix, below}
-use Rattle.law_choices.specs.Places.Walk.{walk, walk_conditions}
+use Rattle.hp_watch.specs.Walk.{walk, walk_conditions}
 use Rattle.law_choices.specs.Places.Spots.{Spot, compared, spots, spots_of_block, spots_of_eqns, spots_of_eqn}
 use Rattle.law_choices.specs.Places.Found.{behind, behind_state, at_body, at_condition, found_in_conditions, found}
 use Rattle.law_choices.proofs.PlacesLemmas.Expressions.{made, made-append, Takes, takes-two, expr-takes}

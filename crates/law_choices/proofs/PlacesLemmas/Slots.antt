@@ -16,7 +16,7 @@ use Rattle.hp_tree.specs.ExpressionTypes.{Scope, typed_in, scope_of, type_of}
 use Rattle.hp_tree.specs.Instant.{Body, Named, Equations, Head, Tail, Right, Test, Arms as ArmsOf, States as StatesOf, Until, Unless, First, Second, Third, Args, Instance, Place}
 use Rattle.hp_meaning.specs.Contract.Slots.{Slot, register, free, input, control, FreePlace, free_among, shape_of, is_int, slots, slots_of_all, slots_of_parts, slots_of_conditions, slots_of_block, slots_of_equations, slots_of_equation, slots_of_arms, slots_of_states}
 use Rattle.law_equations.specs.Flattened.Flatten.{Prefix, below}
-use Rattle.law_choices.specs.Places.Walk.{compares}
+use Rattle.hp_watch.specs.Walk.{compares}
 use Rattle.law_choices.specs.Places.Spots.{compared}
 use Rattle.law_choices.specs.Places.Found.{Both, behind, behind_state, at_body, at_states, at_condition, both_compared, found, found_in_all, found_in_parts, found_in_conditions, found_in_block, found_in_eqns, found_in_eqn, found_in_arms, found_in_states, found_in_body}
 use Rattle.law_choices.specs.Places.Laws.{places_of, own_places, IsPartOf, SlotsLaw}

@@ -20,7 +20,7 @@ use Rattle.hp_tables.specs.Defining.Names.{names_of_states}
 use Rattle.hp_automata.specs.Names.{once}
 use Rattle.law_automata.specs.Lowered.Standing.{Relation, Along, BothThere, InArm, behind as row, ExprStands, ExprsStand, PartsStand, BlockStands, EqnsStand, EqnStands, ArmsStand, StatesStand, BodyStands, NodeStands, either_is, stands_among}
 use Rattle.law_equations.specs.Flattened.Flatten.{Prefix, below}
-use Rattle.law_choices.specs.Places.Walk.{compares}
+use Rattle.hp_watch.specs.Walk.{compares}
 use Rattle.law_choices.specs.Places.Spots.{Spot, compared}
 use Rattle.law_choices.specs.Places.Found.{Both, behind, behind_state, at_body, at_states, at_condition, both_compared, found, found_in_all, found_in_parts, found_in_conditions, found_in_block, found_in_eqns, found_in_eqn, found_in_arms, found_in_states, found_in_body, found_in_node}
 use Rattle.law_choices.specs.Places.Laws.{places_of}

@@ -13,7 +13,7 @@ use Rattle.hp_automata.specs.Names.{once}
 use Rattle.hp_automata.specs.Renaming.{renamed}
 use Rattle.hp_automata.specs.Lowering.{Types, Enumerations, Frame, declaring, inner, frame, pending_of, stays, choices, idle, frame_eqns, joined, all_kept, same_name, types_of, lowered_block, lowered_eqns, lowered_eqn, lowered_arms, lowered_states, lowered_body, lowered_node}
 use Rattle.law_equations.specs.Flattened.Flatten.{Prefix, below}
-use Rattle.law_choices.specs.Places.Walk.{Walked, behind as later, before, walk, walk_conditions, walk_block, walk_eqns, walk_eqn, walk_arms, walk_states}
+use Rattle.hp_watch.specs.Walk.{Walked, behind as later, before, walk, walk_conditions, walk_block, walk_eqns, walk_eqn, walk_arms, walk_states}
 use Rattle.law_choices.specs.Places.Spots.{Spot, spots, spots_of_block, spots_of_eqn, spots_of_arms, spots_of_node}
 use Rattle.law_choices.specs.Places.Found.{Both, behind, behind_state, at_states, at_body, found, found_in_conditions, found_in_block, found_in_eqns, found_in_eqn, found_in_arms, found_in_states, found_in_body, found_in_node}
 use Rattle.law_choices.specs.Places.Laws.{WalkLaw}

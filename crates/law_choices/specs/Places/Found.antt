@@ -10,7 +10,7 @@ use Rattle.hp_tree.specs.Instant.{Body, Equations, Head, Tail, Right, Test, Arms
 use Rattle.hp_tables.specs.Defining.Names.{names_of_states}
 use Rattle.hp_automata.specs.Names.{once}
 use Rattle.law_equations.specs.Flattened.Flatten.{Prefix, below}
-use Rattle.law_choices.specs.Places.Walk.{compares}
+use Rattle.hp_watch.specs.Walk.{compares}
 use Rattle.law_choices.specs.Places.Spots.{Spot, compared, call_spot}
 
 -- what stands behind so many in a row

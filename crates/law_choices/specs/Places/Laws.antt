@@ -13,7 +13,7 @@ use Rattle.law_automata.specs.Lowered.Standing.{Along}
 use Rattle.law_equations.specs.Flattened.Flatten.{Prefix, obc_two}
 use Rattle.law_equations.specs.Made.Making.{Known, outputs_of, sketch_node}
 use Rattle.law_equations.specs.Made.Laws.{unplaced}
-use Rattle.law_choices.specs.Places.Walk.{is_event, events_from, in_block, walk_block}
+use Rattle.hp_watch.specs.Walk.{is_event, events_from, in_block, walk_block}
 use Rattle.law_choices.specs.Places.Spots.{Spot, compared, called, spots_of_node}
 use Rattle.law_choices.specs.Places.Found.{Both, found_in_block, found_in_node}
 

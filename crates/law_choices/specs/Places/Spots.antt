@@ -7,7 +7,7 @@ use Rattle.hp_tree.specs.Blocks.{Block, block, Eqns, no_eqn, more_eqns, Eqn, def
 use Rattle.hp_tree.specs.Programs.{Node}
 use Rattle.hp_tree.specs.Instant.{Body, Named, Equations, Head, Tail, Right, Test, Arms as ArmsOf, First, Second, Third, Args, Instance, Place}
 use Rattle.law_equations.specs.Flattened.Flatten.{Prefix, below}
-use Rattle.law_choices.specs.Places.Walk.{compares}
+use Rattle.hp_watch.specs.Walk.{compares}
 
 -- the place of a comparison, and the places of the outputs of a call
 pub data Spot : Type 0 where

@@ -74,6 +74,10 @@ abbrev mutual
   in_parts no_part = 0
   in_parts (more_parts c e ps) = in_expr e + in_parts ps
 
+-- of an operator on two expressions
+abbrev pub in_two : Op2 → Expr → Expr → ℕ
+in_two o a b = in_expr a + in_expr b + (if compares o then 1 else 0)
+
 abbrev pub in_conditions : List Trans → ℕ
 in_conditions [] = 0
 in_conditions (t ∷ ts) = in_expr t.cond + in_conditions ts
@@ -100,6 +104,10 @@ abbrev mutual
   pub in_states : States → ℕ
   in_states no_state = 0
   in_states (more_states x b until unless s qs) = in_conditions unless + for_a_state + in_conditions until + in_block b + in_states qs
+
+-- of the conditions of a state, and of what else is compared for it
+abbrev pub in_transitions : State → ℕ
+in_transitions q = in_conditions q.unless + for_a_state + in_conditions q.until
 
 abbrev pub in_state : State → ℕ
 in_state q = in_conditions q.unless + for_a_state + in_conditions q.until + in_block q.body
@@ -163,6 +171,10 @@ module _ {X : Type 0} where
   abbrev pub both : Expr → Expr → List X → Walked X
   both a b es = let x = walk a es in behind x.0 (walk b x.1)
 
+  -- an operator on two expressions
+  abbrev pub walk_two : Op2 → Expr → Expr → List X → Walked X
+  walk_two o a b es = let y = both a b es in if compares o then in_front y else y
+
   abbrev pub walk_conditions : List Trans → List X → Walked X
   walk_conditions [] es = ([], es)
   walk_conditions (t ∷ ts) es = let x = walk t.cond es in behind x.0 (walk_conditions ts x.1)
@@ -196,6 +208,13 @@ module _ {X : Type 0} where
   -- the body of a `reset`, and before it in the order of making its condition
   abbrev pub walk_reset : Block → Expr → List X → Walked X
   walk_reset b e es = let x = walk e es in before x.0 (walk_block b x.1)
+
+  -- the strong conditions of a state, and behind what else is compared for it its weak ones
+  abbrev pub walk_strong : State → List X → Walked X
+  walk_strong q es = walk_conditions q.unless es
+
+  abbrev pub walk_weak : State → List X → Walked X
+  walk_weak q es = walk_conditions q.until (drop for_a_state (walk_strong q es).1)
 
   -- a state: its body, its weak conditions, and its strong ones
   abbrev pub walk_state : State → List X → Walked X
