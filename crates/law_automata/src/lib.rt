@@ -1,4 +1,4 @@
-//! Laws of `hp_automata`: removing automata keeps reactions, values, clocks and ranks. Used by `law_wellmade`, `law_history`, `law_drawing`, `law_mirror`, `law_choices`.
+//! Laws of `hp_automata`: removing automata keeps reactions, values, clocks and ranks. Used by `law_wellmade`, `law_history`, `law_drawing`, `law_choices`.
 #![tactic(auto)]
 
 pub mod classed;

@@ -5,8 +5,8 @@
 
 ghost use Rattle.law_choices.specs.Chosen.Laws.{ComesLaw, MachineNilLaw, NilChoicesLaw, SeenAlikeLaw, SeenChoicesLaw};
 
+use law_drawing::mirrors::machine_choices_are_kept;
 use law_games::forced::choices_are_on_machines;
-use law_mirror::mirrors::machine_choices_are_kept;
 
 /// With early values of their types some instant comes after each history.
 pub fn typed_early_values_come()

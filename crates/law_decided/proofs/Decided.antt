@@ -11,8 +11,8 @@ use Rattle.hp_meaning.specs.Contract.Game.{Forced, Safe}
 use Rattle.hp_meaning.specs.Contract.Guarantee.{AllSafe}
 use Rattle.law_games.specs.ReadyGames.Laws.{Stands}
 use Rattle.law_games.proofs.ReadyGamesLemmas.Ordered.{text_order}
-use Rattle.law_mirror.proofs.MirrorsLemmas.Apart.{onto, one_more}
-use Rattle.law_mirror.specs.Mirrors.Drawn.{DrawnGameLaw, DrawnSafeLaw}
+use Rattle.law_drawing.proofs.MirrorsLemmas.Apart.{onto, one_more}
+use Rattle.law_drawing.specs.Mirrors.Drawn.{DrawnGameLaw, DrawnSafeLaw}
 use Rattle.hp_cert.specs.declared.checking.Proved.{Proved}
 use Rattle.hp_cert.specs.declared.checking.Proved.TheVariants as proved
 use Rattle.hp_verdicts.specs.Decided.{KeptItem, Holds, IsVerdict, verdict_of}

@@ -12,8 +12,8 @@ use Rattle.hp_tree.specs.Programs.{Node}
 use Rattle.hp_meaning.specs.Contract.Guarantee.{AllSafe}
 use Rattle.law_games.specs.ReadyGames.Laws.{Stands, IsInOrder}
 use Rattle.law_games.proofs.ReadyGamesLemmas.Ordered.{text_order, all_stand}
-use Rattle.law_mirror.proofs.MirrorsLemmas.Apart.{one_more}
-use Rattle.law_mirror.specs.Mirrors.Drawn.{DrawnGameLaw, DrawnSafeLaw}
+use Rattle.law_drawing.proofs.MirrorsLemmas.Apart.{one_more}
+use Rattle.law_drawing.specs.Mirrors.Drawn.{DrawnGameLaw, DrawnSafeLaw}
 use Rattle.hp_graph.specs.Graphs.{IsCycle}
 use Rattle.hp_circuit.specs.Reading.{edges_of}
 use Rattle.hp_circuit.specs.declared.error.CircuitErr.TheVariants as circuit_error
@@ -21,8 +21,8 @@ use Rattle.hp_drawing.specs.DrawnNodes.{drawn_node}
 use Rattle.hp_drawing.specs.Told.{told_of}
 use Rattle.law_drawing.specs.Form.Laws.{FormLaw}
 use Rattle.law_drawing.specs.NoCircle.Laws.{NoCircleLaw}
-use Rattle.law_mirror.specs.Mirrors.Assumptions.{AssumesControl, AssumeLaw}
-use Rattle.law_mirror.specs.Mirrors.Limits.{IsOver, LimitLaw}
+use Rattle.law_drawing.specs.Mirrors.Assumptions.{AssumesControl, AssumeLaw}
+use Rattle.law_drawing.specs.Mirrors.Limits.{IsOver, LimitLaw}
 use Rattle.hp_abstract.specs.Machines.{LacksMachine, IsRefused, assumption_by, assumption_of}
 use Rattle.hp_abstract.specs.declared.error.AbsErr.TheVariants as abstract_error
 use Rattle.hp_verdicts.specs.Decided.{KeptItem, AreKept, RefusesMachine, RefusesContract}

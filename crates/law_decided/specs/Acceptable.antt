@@ -6,8 +6,8 @@ use Rattle.hp_tree.specs.declared.program.Item.{Item}
 use Rattle.hp_tree.specs.declared.program.Item.TheVariants.{NodeItem}
 use Rattle.hp_tree.specs.Programs.{Node}
 use Rattle.hp_meaning.specs.Contract.Game.{Safe}
-use Rattle.law_mirror.specs.Mirrors.Assumptions.{AssumesControl}
-use Rattle.law_mirror.specs.Mirrors.Limits.{IsOver}
+use Rattle.law_drawing.specs.Mirrors.Assumptions.{AssumesControl}
+use Rattle.law_drawing.specs.Mirrors.Limits.{IsOver}
 
 -- The contract of the node can be decided: its assumption reads no controllable variable at its own instant, and its bits pass no limit.
 pub record IsDecidable (program : List Item) (n : Node) : Type 0 where

@@ -6,8 +6,8 @@ use Rattle.hp_tree.specs.declared.program.Item.{Item}
 use Rattle.hp_tree.specs.Meaning.{node_among}
 use Rattle.hp_tree.specs.Programs.{Node}
 use Rattle.hp_meaning.specs.Contract.Guarantee.{AllSafe}
-use Rattle.law_mirror.specs.Mirrors.Assumptions.{AssumesControl}
-use Rattle.law_mirror.specs.Mirrors.Limits.{IsOver}
+use Rattle.law_drawing.specs.Mirrors.Assumptions.{AssumesControl}
+use Rattle.law_drawing.specs.Mirrors.Limits.{IsOver}
 use Rattle.hp_cert.specs.declared.checking.Proved.{Proved}
 use Rattle.hp_verdicts.specs.Decided.{AreKept, Refuses, RefusesMachine, IsProof, verdict_of}
 use Rattle.hp_verdicts.specs.Verified.{Shows}

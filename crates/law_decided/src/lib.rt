@@ -8,13 +8,13 @@ ghost use Rattle.law_decided.specs.Outcomes.{OutcomesLaw};
 ghost use Rattle.law_decided.specs.Promised.{MachineLaw, RunLaw};
 
 use law_drawing::form::drawn_circuits_are_circuits;
+use law_drawing::mirrors::{
+    assumptions_read_controls, drawn_games_are_kept, limits_are_passed_by_nodes,
+};
 use law_drawing::no_circle::ready_nodes_have_no_circle;
 use law_games::guaranteed::runs_keep_contracts;
 use law_games::ready_games::programs_of_texts_are_in_order;
 use law_history::streams::machines_run_the_nodes_of_texts;
-use law_mirror::mirrors::{
-    assumptions_read_controls, drawn_games_are_kept, limits_are_passed_by_nodes,
-};
 
 /// Where the contract of a node is found to be kept, no violation is ever forced in its game; where a violation is found to be forced within so many instants it is, and within no fewer.
 pub fn decided_contracts_are_so()

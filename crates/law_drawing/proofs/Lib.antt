@@ -3,3 +3,9 @@ pub mod SteeredLemmas
 pub mod DrawableLemmas
 pub mod FormLemmas
 pub mod NoCircleLemmas
+pub mod MirroringLemmas
+pub mod CarriedLemmas
+pub mod InshapeLemmas
+pub mod EarlyLemmas
+pub mod ReachedLemmas
+pub mod MirrorsLemmas

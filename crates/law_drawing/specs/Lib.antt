@@ -3,3 +3,9 @@ pub mod Steered
 pub mod Drawable
 pub mod Form
 pub mod NoCircle
+pub mod Mirroring
+pub mod Carried
+pub mod Inshape
+pub mod Early
+pub mod Reached
+pub mod Mirrors

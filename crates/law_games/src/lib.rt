@@ -1,4 +1,4 @@
-//! Laws of contracts: the game of a contract is the game of a machine that mirrors its node. Used by `law_drawing`, `law_mirror`, `law_choices`, `law_decided`.
+//! Laws of contracts: the game of a contract is the game of a machine that mirrors its node. Used by `law_drawing`, `law_choices`, `law_decided`.
 #![tactic(auto)]
 
 pub mod abstracted;

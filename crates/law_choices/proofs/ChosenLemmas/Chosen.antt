@@ -27,7 +27,7 @@ use Rattle.law_games.specs.ReadyGames.FittingHistories.{AllFitting, IsFitting}
 use Rattle.law_games.proofs.ReadyGamesLemmas.Settled.{class, found, ranked, settled}
 use Rattle.law_games.proofs.ReadyGamesLemmas.Histories.{twin}
 use Rattle.law_games.specs.Forced.Laws.{MachineChoicesLaw}
-use Rattle.law_mirror.specs.Mirrors.Choices.{PreferredLaw}
+use Rattle.law_drawing.specs.Mirrors.Choices.{PreferredLaw}
 use Rattle.law_games.proofs.ForcedLemmas.EachCall.{all_each}
 use Rattle.law_games.proofs.ForcedLemmas.FittedNodes.{callee_of, node_fits}
 use Rattle.law_games.proofs.ForcedLemmas.Games.{instants}

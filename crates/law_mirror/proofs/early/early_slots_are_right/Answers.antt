@@ -1,5 +1,0 @@
-use Rattle.law_mirror.proofs.EarlyLemmas.Right.{node-right}
-use Rattle.law_mirror.proofs.early.early_slots_are_right.Goals as goal
-
-pub returns : goal.returns
-returns c = node-right

@@ -1,5 +1,0 @@
-use Rattle.law_mirror.proofs.EarlyLemmas.Nodes.{node-flagged}
-use Rattle.law_mirror.proofs.early.slots_are_flagged.Goals as goal
-
-pub returns : goal.returns
-returns c = node-flagged

@@ -1,8 +1,0 @@
-use Rattle.law_mirror.proofs.MirroringLemmas.Ready.{carried_game, carried_safe}
-use Rattle.law_mirror.proofs.mirroring.carried_games_are_kept.Goals as goal
-
-pub returns-clause-forced : goal.returns-clause-forced
-returns-clause-forced c = carried_game
-
-pub returns-clause-safe : goal.returns-clause-safe
-returns-clause-safe c = carried_safe

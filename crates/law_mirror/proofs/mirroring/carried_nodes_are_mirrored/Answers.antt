@@ -1,9 +1,0 @@
-use Rattle.law_mirror.proofs.MirroringLemmas.Carried.{carried}
-use Rattle.law_mirror.proofs.MirroringLemmas.Numbered.{numbered}
-use Rattle.law_mirror.proofs.mirroring.carried_nodes_are_mirrored.Goals as goal
-
-pub returns-clause-mirrors : goal.returns-clause-mirrors
-returns-clause-mirrors c = carried
-
-pub returns-clause-numbered : goal.returns-clause-numbered
-returns-clause-numbered c = numbered

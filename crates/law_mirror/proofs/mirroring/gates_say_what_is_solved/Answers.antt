@@ -1,8 +1,0 @@
-use Rattle.law_mirror.proofs.MirroringLemmas.Gates.{gates, valuations}
-use Rattle.law_mirror.proofs.mirroring.gates_say_what_is_solved.Goals as goal
-
-pub returns-clause-gates : goal.returns-clause-gates
-returns-clause-gates c = gates
-
-pub returns-clause-valuations : goal.returns-clause-valuations
-returns-clause-valuations c = valuations

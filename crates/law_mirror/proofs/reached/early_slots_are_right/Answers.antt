@@ -1,5 +1,0 @@
-use Rattle.law_mirror.proofs.ReachedLemmas.Right.{slots-right, places-right}
-use Rattle.law_mirror.proofs.reached.early_slots_are_right.Goals as goal
-
-pub returns : goal.returns
-returns c = record { slots = slots-right; places = places-right }
