@@ -1,1 +1,3 @@
 pub mod HeadingLaws
+mod AmongLaws
+mod JoiningLaws

@@ -1,2 +1,4 @@
+pub mod Among
 pub mod Chosen
 pub mod Errors
+pub mod Joining

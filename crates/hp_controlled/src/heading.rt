@@ -39,7 +39,7 @@ fn is_var(var: &Var, decl: &Decl) -> bool
 }
 
 /// Whether the variables of a machine are those that a node declares.
-fn are_vars(vars: &[Var], decls: &[Decl]) -> bool
+pub fn are_vars(vars: &[Var], decls: &[Decl]) -> bool
     ensures { IsTrue result → (vars.now ≡ vars_of decls.now) }
 {
     if vars.len() != decls.len() {
@@ -64,7 +64,7 @@ fn is_truth(var: &Var) -> bool
 }
 
 /// Whether two variables are truth values.
-fn are_truths(vars: &[Var]) -> bool
+pub fn are_truths(vars: &[Var]) -> bool
     ensures { IsTrue result → (assume : List ℕ) × (enforce : List ℕ) × (vars.now ≡ truth assume ∷ truth enforce ∷ []) }
 {
     match vars {

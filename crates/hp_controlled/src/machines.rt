@@ -10,7 +10,7 @@ use hp_complete::flatten;
 use hp_flat::FlatNode;
 use hp_form::formed;
 use hp_machines::obc_types;
-use hp_obc::{Machine, Obc};
+use hp_obc::{Machine, Obc, ObcType};
 use hp_tables::declarations::numbers_of;
 use hp_tree::{Item, Node, Program};
 use hp_watch::{Observer, Observers, observers};
@@ -105,12 +105,12 @@ fn machines_of(
     Ok(machines)
 }
 
-/// The machines of a program with its clocks written and without inlined calls, whose contracts are kept: for each node, in order, its machine, and for one that has a
-/// contract also those of its controller, before it, and of what is assumed and enforced, behind it.
-pub fn controlled_machines(alloc: Global, program: &Program) -> Result<Obc, ControlledErr>
-    ensures { IfOk result (AreControlledMachines program.now) }
-{
-    let types = obc_types(alloc, &program.items)?;
+/// The machines of a program, over its types: their form is not looked at yet.
+pub fn chosen_machines(
+    alloc: Global,
+    program: &Program,
+    types: &[ObcType],
+) -> Result<Vec<Machine>, ControlledErr> {
     let low = lowered(alloc, program)?;
     let flats = flatten(alloc, &low)?;
     let nodes = nodes_of(alloc, program)?;
@@ -120,8 +120,18 @@ pub fn controlled_machines(alloc: Global, program: &Program) -> Result<Obc, Cont
         all,
         names: numbers_of(alloc, &names)?,
     };
-    let context = Context::new(program, &types, &observers);
+    let context = Context::new(program, types, &observers);
     let machines = machines_of(alloc, context, &nodes, flats)?;
+    Ok(machines)
+}
+
+/// The machines of a program with its clocks written and without inlined calls, whose contracts are kept: for each node, in order, its machine, and for one that has a
+/// contract also those of its controller, before it, and of what is assumed and enforced, behind it.
+pub fn controlled_machines(alloc: Global, program: &Program) -> Result<Obc, ControlledErr>
+    ensures { IfOk result (AreControlledMachines program.now) }
+{
+    let types = obc_types(alloc, &program.items)?;
+    let machines = chosen_machines(alloc, program, &types)?;
     let file = formed(alloc, types, machines)?;
     Ok(file)
 }

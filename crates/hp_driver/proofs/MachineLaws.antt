@@ -10,6 +10,7 @@ use Rattle.hp_io.proofs.FaultLaws.{Rose-behind}
 use Rattle.hp_io.specs.Files.{Files}
 use Rattle.hp_io.specs.Told.{Grows}
 use Rattle.hp_io.specs.declared.console.Event.{Event}
+use Rattle.hp_controlled.specs.Joining.{AreWithContracts}
 use Rattle.hp_machines.specs.Machined.{AreMachinesOf}
 use Rattle.hp_exec.specs.Answers.{Executes, IsPassed}
 use Rattle.hp_exec.specs.Bounds.{longest_chain, instance_count}
@@ -34,7 +35,7 @@ use Rattle.hp_driver.specs.Executing.{executing}
 use Rattle.hp_driver.specs.Follows.{ExecOf, MachinesOutcome, OrderedRun, OrderedCompile, RefusedText, RefusedMachine}
 use Rattle.hp_driver.specs.Leaves.{Leaves, IsPrinted, ReadRose, WriteRose}
 use Rattle.hp_driver.specs.Leaving.{WritesText, WritesMachines, OrderedLeaves, RoseInWrite}
-use Rattle.hp_driver.specs.Outcome.{Outcome, Gives, GivesMoreThan, IsHeld, AreCompiled, AreAskedFor, IsMachine, IsAskedFor}
+use Rattle.hp_driver.specs.Outcome.{Outcome, Gives, GivesMoreThan, IsHeld, AreCompiled, AreWritten, AreAskedFor, IsMachine, IsAskedFor}
 use Rattle.hp_driver.specs.Ran.{Ran, Reports, ReportsOrNot}
 use Rattle.hp_driver.specs.Systems.{of_node, of_machine}
 use Rattle.hp_driver.specs.declared.words.Task.{Task}
@@ -137,17 +138,25 @@ module _ (ordered : List Item) (o : Obc) (m : AreMachinesOf ordered o) where
   pub of_program : (node : List ℕ) (log : List Event) (line : List ℕ) (status : ℕ) → MachinesOutcome o node log line status → OrderedRun node ordered log line status
   of_program node log line status f words files file program held e none kept w = f words files (AreAskedFor.of_program w (compiled_of files file program held e none kept))
 
-  -- they are written
+-- they are written, alone or among those of contracts
+module _ (ordered : List Item) (o own : Obc) (m : AreMachinesOf ordered own) (others : (o ≡ own) ⊎ AreWithContracts ordered own o) where
+  abbrev written_of : (files : Option Files) (file : List ℕ) (program : List Item) (held : IsHeld files file program) → held.clocked ≡ ordered → has_controls program ≡ false → AreKeptInGames held.clocked → AreWritten files file o
+  written_of files file program held e none kept = record {
+    own = own;
+    compiled = compiled_of ordered own m files file program held e none kept;
+    others = subst (λ (z : List Item). (o ≡ own) ⊎ AreWithContracts z own o) (sym e) others;
+  }
+
   pub written : (out : List ℕ) (status : ℕ) → (status ≡ 0) ⊎ (status ≡ 5) ⊎ (status ≡ 6) → OrderedCompile out ordered [] status
-  written out status (inl h) words files file program held e none kept w = subst (Outcome words files [] []) (sym h) (Outcome.compiled w (compiled_of files file program held e none kept))
-  written out status (inr (inl h)) words files file program held e none kept w = subst (Outcome words files [] []) (sym h) (Outcome.not_written w (compiled_of files file program held e none kept))
+  written out status (inl h) words files file program held e none kept w = subst (Outcome words files [] []) (sym h) (Outcome.compiled w (written_of files file program held e none kept))
+  written out status (inr (inl h)) words files file program held e none kept w = subst (Outcome words files [] []) (sym h) (Outcome.not_written w (written_of files file program held e none kept))
   written out status (inr (inr h)) words files file program held e none kept w = subst (Outcome words files [] []) (sym h) Outcome.no_memory
 
   pub leaves : (out : List ℕ) (before after : Option Files) (status : ℕ) → WritesMachines o out before after status → OrderedLeaves out ordered before after status
   leaves out before after status (WritesMachines.nothing same) words file program held e none kept w = Leaves.as_they_were same (λ y v h. omega (arith, h))
-  leaves out before after status (WritesMachines.whole printed all) words file program held e none kept w = Leaves.written w (compiled_of before file program held e none kept) printed all
-  leaves out before after status (WritesMachines.part why printed others this) words file program held e none kept w =
-      Leaves.in_part why w (compiled_of before file program held e none kept) printed others this
+  leaves out before after status (WritesMachines.whole printed all) words file program held e none kept w = Leaves.written w (written_of before file program held e none kept) printed all
+  leaves out before after status (WritesMachines.part why printed others_same this) words file program held e none kept w =
+      Leaves.in_part why w (written_of before file program held e none kept) printed others_same this
 
 -- there is no memory
 pub run_memory : (node : List ℕ) (ordered : List Item) → OrderedRun node ordered [] [] 6

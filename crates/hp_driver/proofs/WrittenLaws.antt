@@ -1,22 +1,29 @@
 -- The text which `compile` writes does what its program does.
-use Rattle.std.proofs.Common.{◌≡◌, ℕ, List, sym, ap, subst, ◌∙◌}
-use Rattle.std.specs.Prelude.{Some}
+use Rattle.std.proofs.Common.{◌≡◌, ◌⊎◌, ℕ, Bool, true, false, List, [], None, Some, inl, inr, refl, sym, ap, subst, ◌∙◌}
+use Rattle.std.specs.Prelude.{Option, IsTrue}
 use Rattle.std.specs.List.{flat_map}
 use Rattle.hp_base.specs.declared.value.Value.{Value}
 use Rattle.hp_lines.specs.Lines.{line_of}
-use Rattle.hp_obc.specs.Form.{machine_named}
-use Rattle.hp_obc.specs.Machines.{Machine, Obc}
+use Rattle.hp_io.specs.Files.{Files}
+use Rattle.hp_controlled.specs.Among.{FormLaw, call_earlier}
+use Rattle.hp_controlled.specs.Joining.{AreWithContracts, SameLaw}
+use Rattle.hp_machines.specs.Making.{AreMade}
+use Rattle.hp_machines.specs.NotBuilt.{HasNoMachines}
+use Rattle.hp_obc.specs.Form.{HasObcForm, machine_named}
+use Rattle.hp_obc.specs.Kinded.{kinds_in}
+use Rattle.hp_obc.specs.Machines.{Machine, Obc, ObcType}
 use Rattle.hp_obc.specs.Steps.{machine_behaviour, run}
 use Rattle.hp_obctext.proofs.Answering.{same_machines}
 use Rattle.hp_tree.specs.Reaction.{IsRun}
 use Rattle.hp_tree.specs.declared.program.Item.{Item}
-use Rattle.law_history.specs.Streams.Texts.{RunsNode, TextLaw}
+use Rattle.law_history.specs.Streams.Texts.{BuiltLaw, RunsNode, TextLaw}
 use Rattle.law_decided.specs.Promised.{RunLaw}
 use Rattle.hp_driver.specs.Answers.{IsAnswer}
-use Rattle.hp_driver.specs.Systems.{of_node, of_machine, inputs_of}
+use Rattle.hp_driver.specs.Outcome.{AreCompiled, AreWritten}
+use Rattle.hp_driver.specs.Systems.{System, of_node, of_machine, inputs_of, outputs_of}
 use Rattle.hp_driver.specs.Values.{inputs_until, first_bad}
 use Rattle.hp_driver.specs.Written.{AgreesWith, WrittenLaw}
-use Rattle.hp_driver.proofs.HistoryLaws.{Keeping, keeping, runs_node, inputs_same, outputs_same, fitting, as_node}
+use Rattle.hp_driver.proofs.HistoryLaws.{Keeping, accepted_program, keeping, runs_node, inputs_same, outputs_same, fitting, as_node}
 
 -- a node has one run
 one_run : (program : List Item) (f : List ℕ) (inputs first second : List (List Value)) → IsRun program f inputs first → IsRun program f inputs second → first ≡ second
@@ -40,9 +47,76 @@ module _ (program : List Item) (o : Obc) (node : List ℕ) (m : Machine) (named 
     answers = λ lines bytes. (as_node program o node m named r keeps lines bytes, as_machine lines bytes);
   }
 
-pub written : TextLaw → RunLaw → WrittenLaw
-written law run_law files file o read text node m compiled printed stands named =
+-- ---- a machine that does the same in two files
+
+module _ (a b : Obc) (node : List ℕ) (types : a.types ≡ b.types) (named : machine_named a.machines node ≡ machine_named b.machines node) (does : machine_behaviour a node ≡ machine_behaviour b node) where
+  pub same_inputs : inputs_of (of_machine a node) ≡ inputs_of (of_machine b node)
+  same_inputs j = elim (named j) [ None ↦ [] | Some m ↦ kinds_in (types j) m.inputs ]
+
+  same_outputs : outputs_of (of_machine a node) ≡ outputs_of (of_machine b node)
+  same_outputs j = elim (named j) [ None ↦ [] | Some m ↦ kinds_in (types j) m.outputs ]
+
+  pub same_answer : (lines : List (List ℕ)) (bytes : List ℕ) → IsAnswer (of_machine a node) lines bytes → IsAnswer (of_machine b node) lines bytes
+  same_answer lines bytes x = record {
+    outputs = x.outputs;
+    run = x.run ∙ (λ j. run (does j) (inputs_until (same_inputs j) 1 lines));
+    said = x.said ∙ ap (λ ks. flat_map (line_of ks) x.outputs) same_outputs;
+  }
+
+module _ (a b : Obc) (node : List ℕ) (types : a.types ≡ b.types) (named : machine_named a.machines node ≡ machine_named b.machines node) (does : machine_behaviour a node ≡ machine_behaviour b node) where
+  agrees_too : (other : System) → AgreesWith (of_machine b node) other → AgreesWith (of_machine a node) other
+  agrees_too other h = record {
+    refuses = λ lines. ap (λ ks. first_bad ks 1 lines) (same_inputs a b node types named does) ∙ h.refuses lines;
+    answers = λ lines bytes. (
+      λ x. (h.answers lines bytes).0 (same_answer a b node types named does lines bytes x),
+      λ x. same_answer b a node (sym types) (sym named) (sym does) lines bytes ((h.answers lines bytes).1 x),
+    );
+  }
+
+-- ---- the own machines of a program among those of its contracts
+
+-- the own machines call own ones before them
+calls_own : BuiltLaw → FormLaw → (files : Option Files) (file : List ℕ) (own : Obc) → AreCompiled files file own → IsTrue (call_earlier [] own.machines)
+calls_own built form_law files file own compiled = by (call_earlier [] own.machines) refl
+  where
+    by : (b : Bool) → call_earlier [] own.machines ≡ b → IsTrue (call_earlier [] own.machines)
+    by true e = e
+    by false e =
+        let held = compiled.held in
+        let machines = compiled.machines in
+        let formless : HasObcForm own.types own.machines → ⊥ = λ form. (let calls = form_law own.types own.machines form.1 in cc) in
+        let none = subst (λ (ts : List ObcType). HasObcForm ts own.machines → ⊥) machines.types formless in
+        let made = subst (λ (ts : List ObcType). AreMade ts machines.nodes own.machines) machines.types machines.made in
+        absurd (built held.text held.judged.program_of.tokens compiled.program held.clocked held.ranks (accepted_program files file compiled.program held compiled.uncontrolled)
+        (HasNoMachines.formless machines.nodes own.machines (record { flat = machines.flat; made = machines.equations }) made none))
+
+-- what the own machine of a node does in a text of machines
+pub record DoesThere (o own : Obc) (node : List ℕ) (m : Machine) : Type 0 where
+  pub types : o.types ≡ own.types
+  pub named : machine_named o.machines node ≡ Some m
+  pub does : machine_behaviour o node ≡ machine_behaviour own node
+
+does_there : BuiltLaw → FormLaw → SameLaw → (files : Option Files) (file : List ℕ) (o : Obc) (written : AreWritten files file o) (node : List ℕ) (m : Machine) → machine_named written.own.machines node ≡ Some m
+    → DoesThere o written.own node m
+does_there built form_law same_law files file o written node m named = by written.others
+  where
+    by : (o ≡ written.own) ⊎ AreWithContracts written.compiled.held.clocked written.own o → DoesThere o written.own node m
+    by (inl e) = record {
+      types = ap (λ (z : Obc). z.types) e;
+      named = ap (λ (z : Obc). machine_named z.machines node) e ∙ named;
+      does = ap (λ (z : Obc). machine_behaviour z node) e;
+    }
+    by (inr w) =
+        let same = same_law written.compiled.held.clocked written.own o w (calls_own built form_law files file written.own written.compiled) node m named in
+        record { types = w.types; named = same.0; does = same.1 }
+
+pub written_agrees : TextLaw → RunLaw → BuiltLaw → FormLaw → SameLaw → WrittenLaw
+written_agrees law run_law built form_law same_law files file o read text node m written printed stands named =
     let same : read ≡ o = same_machines text stands.file_is read o stands.spelled stands.machines (printed.stands stands.within) in
-    let there : machine_named o.machines node ≡ Some m = subst (λ (z : Obc). machine_named z.machines node ≡ Some m) same named in
+    let own = written.own in
+    let compiled = written.compiled in
+    let there = does_there built form_law same_law files file o written node m named in
     let program = compiled.held.clocked in
-    subst (λ z. AgreesWith (of_machine z node) (of_node program node)) (sym same) (agrees program o node m there (runs_node law files file o compiled node m there) (keeping run_law files file o compiled node))
+    let by_itself = agrees program own node m named (runs_node law files file own compiled node m named) (keeping run_law files file own compiled node) in
+    let among = agrees_too o own node there.types (there.named ∙ sym named) there.does (of_node program node) by_itself in
+    (ap (λ (z : Obc). machine_named z.machines node) same ∙ there.named, subst (λ z. AgreesWith (of_machine z node) (of_node program node)) (sym same) among)

@@ -15,7 +15,7 @@ use Rattle.hp_obctext.specs.Words.{printed}
 use Rattle.law_decided.specs.Outcomes.{IsProofInGame}
 use Rattle.hp_driver.specs.Command.{IsCompileOf, IsPastOf, IsProveOf, IsOver, Writes}
 use Rattle.hp_driver.specs.Controls.{has_controls}
-use Rattle.hp_driver.specs.Outcome.{AreCompiled, AreChosen, HasContract}
+use Rattle.hp_driver.specs.Outcome.{AreWritten, AreChosen, HasContract}
 use Rattle.hp_driver.specs.PastOutcome.{HoldsProgram, unfolded_text}
 
 -- the canonical text of machines; where it is no longer than a text of machines may be, it is read as these machines
@@ -29,10 +29,10 @@ module _ (words : List (List ℕ)) (before after : Option Files) where
     -- no file is changed, and the call is not one that did what `compile`, `past` or `prove` is for
     as_they_were : {status : ℕ} → after ≡ before → ((out : List ℕ) → Writes words out → status ≢ 0) → Leaves status
     -- the file that is named holds the machines of the program
-    written : {file out text : List ℕ} {o : Obc} → IsCompileOf words file out → AreCompiled before file o → IsPrinted o text →
+    written : {file out text : List ℕ} {o : Obc} → IsCompileOf words file out → AreWritten before file o → IsPrinted o text →
         after ≡ option_map (λ held. map.insert held out text) before → Leaves 0
     -- the write failed: the file that is named holds what it held, or the first bytes of their text, and no other is changed
-    in_part : {file out text : List ℕ} {o : Obc} {status : ℕ} → (status ≡ 5) ⊎ (status ≡ 6) → IsCompileOf words file out → AreCompiled before file o → IsPrinted o text →
+    in_part : {file out text : List ℕ} {o : Obc} {status : ℕ} → (status ≡ 5) ⊎ (status ≡ 6) → IsCompileOf words file out → AreWritten before file o → IsPrinted o text →
         BothTold before after (λ b a. SameElsewhere b a out) → BothTold before after (λ b a. SameOrPrefix b a out text) → Leaves status
     -- the same of the machines of a program with controllable variables
     chosen_written : {file out text : List ℕ} {o : Obc} → IsCompileOf words file out → (chosen : AreChosen before file o) → has_controls chosen.program ≡ true → IsPrinted o text →

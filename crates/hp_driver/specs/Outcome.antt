@@ -15,6 +15,7 @@ use Rattle.hp_driver.specs.Answers.{IsAnswer}
 use Rattle.hp_driver.specs.Systems.{System, of_node, of_machine, that_tells, inputs_of}
 use Rattle.hp_driver.specs.declared.telling.Ending.TheVariants as ending
 use Rattle.hp_controlled.specs.Chosen.{AreControlledMachines, IsChosen, IsToldBy}
+use Rattle.hp_controlled.specs.Joining.{AreWithContracts}
 use Rattle.hp_io.specs.Events.{put_events}
 use Rattle.hp_compile.specs.Arranged.{IsArranged, IsArrangeable}
 use Rattle.hp_compile.specs.Judged.{IsJudged}
@@ -84,6 +85,12 @@ pub record AreCompiled (files : Option Files) (file : List ℕ) (o : Obc) : Type
   pub uncontrolled : has_controls program ≡ false
   pub kept : AreKeptInGames held.clocked
   pub machines : AreMachinesOf held.clocked o
+
+-- the machines of such a program as they are written: those of its nodes alone, or between them those of its contracts too. That they are ever left out is not said here; no program has shown it
+pub record AreWritten (files : Option Files) (file : List ℕ) (o : Obc) : Type 0 where
+  pub own : Obc
+  pub compiled : AreCompiled files file own
+  pub others : (o ≡ own) ⊎ AreWithContracts compiled.held.clocked own o
 
 -- machines of the program that the file holds, of which each contract is kept; some node of it chooses the values of its controllable variables, or it is asked what contracts assume and enforce
 pub record AreChosen (files : Option Files) (file : List ℕ) (o : Obc) : Type 0 where
@@ -207,10 +214,10 @@ module _ (words : List (List ℕ)) (files : Option Files) where
     no_machine : {node : List ℕ} {o : Obc} → AreAskedFor words files node o → machine_named o.machines node ≡ None → Outcome [] (no_node_line node) 1
     -- the machine of this name, of a text of machines, passes a limit: that on the machines on a chain of instances comes first, and then that on all instances
     too_large : {file node : List ℕ} {o : Obc} (limit : Limit) → IsExecOf words file node → AreMachines files file o → IsPassed o node limit → Outcome [] (executor_line limit) 1
-    -- the machines of the program were written
-    compiled : {file out : List ℕ} {o : Obc} → IsCompileOf words file out → AreCompiled files file o → Outcome [] [] 0
+    -- the machines of the program were written, which has no controllable variables
+    compiled : {file out : List ℕ} {o : Obc} → IsCompileOf words file out → AreWritten files file o → Outcome [] [] 0
     -- they could not be written
-    not_written : {file out : List ℕ} {o : Obc} → IsCompileOf words file out → AreCompiled files file o → Outcome [] [] 5
+    not_written : {file out : List ℕ} {o : Obc} → IsCompileOf words file out → AreWritten files file o → Outcome [] [] 5
     -- the machines of a program with controllable variables were written
     chosen_compiled : {file out : List ℕ} {o : Obc} → IsCompileOf words file out → (chosen : AreChosen files file o) → has_controls chosen.program ≡ true → Outcome [] [] 0
     -- they could not be written

@@ -2,16 +2,20 @@
 ghost use Rattle.hp_driver.specs.GoodCalls.{PlainLaw, ProvedLaw};
 ghost use Rattle.hp_driver.specs.Written.{WrittenLaw};
 
+use hp_controlled::{machines_do_the_same_among_others, own_machines_do_the_same};
 use law_decided::machines_keep_contracts;
-use law_history::streams::machines_run_the_nodes_of_texts;
+use law_history::streams::{machines_of_texts_are_built, machines_run_the_nodes_of_texts};
 use law_wellmade::lettered::names_are_spelled;
 
-/// `exec` says of the text that `compile` writes what `run` says of its program.
+/// `exec` says of the text that `compile` writes what `run` says of its program, also where machines of contracts stand in it.
 pub fn written_machines_agree_with_nodes()
     ensures { WrittenLaw }
 {
     machines_run_the_nodes_of_texts();
     machines_keep_contracts();
+    machines_of_texts_are_built();
+    machines_do_the_same_among_others();
+    own_machines_do_the_same();
 }
 
 /// Of the contracts of a program without contracts nothing is asked, that a call over it be one of which nothing is wrong.

@@ -7,6 +7,7 @@ ghost use Rattle.hp_io.specs.Told.{Grows};
 ghost use Rattle.hp_driver.specs.Command.{accepted_text};
 ghost use Rattle.hp_compile.specs.Judged.{IsJudged};
 ghost use Rattle.hp_driver.specs.Controls.{has_controls, own_controls, some_variable};
+ghost use Rattle.hp_verdicts.specs.Decided.{has_contract, own_contract};
 ghost use Rattle.hp_tree.specs.Meaning.{controls_of};
 ghost use Rattle.hp_driver.specs.Follows.{OutcomeOf, DecidedOutcome, ProgramOutcome, OrderedRun, OrderedCompile, Accepts, IsArrangedText, IsPlainText};
 ghost use Rattle.hp_driver.specs.Leaving.{WritesText, WritesMachines, OrderedLeaves, DecidedLeaves, ProgramLeaves, LeavesBy, RoseInWrite};
@@ -23,6 +24,7 @@ use crate::status::Status;
 use crate::words::Task;
 use hp_cause::Ordered;
 use hp_compile::{arrange, judge};
+use hp_controlled::{ControlledErr, machines_with_contracts};
 use hp_io::{Console, Folder, Sink, WriteErr};
 use hp_machines::{MachineErr, machines};
 use hp_obc::Obc;
@@ -89,6 +91,27 @@ fn has_controls(program: &Program) -> bool
 {
     for item in &program.items {
         if has_own_controls(item) {
+            return true;
+        }
+    }
+    false
+}
+
+fn has_own_contract(item: &Item) -> bool
+    ensures { result ≡ own_contract item.now }
+{
+    match item {
+        Item::TypeItem(_) => false,
+        Item::NodeItem(node) => node.contract.is_some(),
+    }
+}
+
+/// Whether a node of the program has a contract.
+fn has_contract(program: &Program) -> bool
+    ensures { result ≡ has_contract program.now }
+{
+    for item in &program.items {
+        if has_own_contract(item) {
             return true;
         }
     }
@@ -287,8 +310,8 @@ pub(crate) fn write_machines<F: Folder>(
     }
 }
 
-/// Writes the machines of an ordered program to a file.
-fn compile_ordered<F: Folder, E: Sink>(
+/// Writes the machines of the nodes of an ordered program to a file.
+fn compile_plain<F: Folder, E: Sink>(
     alloc: Global,
     ordered: Ordered,
     out: &str,
@@ -309,6 +332,49 @@ fn compile_ordered<F: Folder, E: Sink>(
         Err(MachineErr::NotBuilt) => unreachable!(),
         Err(MachineErr::OutOfMemory) => Status::NoMemory,
     }
+}
+
+/// Writes the machines of an ordered program to a file, with those of its contracts, or without them where they are not built. No program has shown that.
+fn compile_contracts<F: Folder, E: Sink>(
+    alloc: Global,
+    ordered: Ordered,
+    out: &str,
+    files: &mut F,
+    diag: &mut E,
+) -> Status
+    requires { IsPlainText ordered.program }
+    ensures outcome { (line : List ℕ) × Grows (E.took diag.old) (E.took diag.new) line × OrderedCompile out.now ordered.program line (code_of result) }
+    ensures leaves { OrderedLeaves out.now ordered.program (F.files files.old) (F.files files.new) (code_of result) }
+    ensures status { code_of result ≢ 4 }
+    ensures reads { NothingRead (F.reads files.old) (F.reads files.new) }
+    ensures writes { WriteOrPutFaults out.now (code_of result) (F.write_faults files.old) (F.write_faults files.new) (E.faults diag.old) (E.faults diag.new) }
+{
+    match machines_with_contracts(alloc, &ordered.program) {
+        Ok(machines) => write_machines(alloc, &machines, out, files),
+        Err(ControlledErr::NotBuilt) => compile_plain(alloc, ordered, out, files, diag),
+        Err(ControlledErr::OutOfMemory) => Status::NoMemory,
+    }
+}
+
+/// Writes the machines of an ordered program to a file: those of its nodes, and of its contracts, if it has any.
+fn compile_ordered<F: Folder, E: Sink>(
+    alloc: Global,
+    ordered: Ordered,
+    out: &str,
+    files: &mut F,
+    diag: &mut E,
+) -> Status
+    requires { IsPlainText ordered.program }
+    ensures outcome { (line : List ℕ) × Grows (E.took diag.old) (E.took diag.new) line × OrderedCompile out.now ordered.program line (code_of result) }
+    ensures leaves { OrderedLeaves out.now ordered.program (F.files files.old) (F.files files.new) (code_of result) }
+    ensures status { code_of result ≢ 4 }
+    ensures reads { NothingRead (F.reads files.old) (F.reads files.new) }
+    ensures writes { WriteOrPutFaults out.now (code_of result) (F.write_faults files.old) (F.write_faults files.new) (E.faults diag.old) (E.faults diag.new) }
+{
+    if has_contract(&ordered.program) {
+        return compile_contracts(alloc, ordered, out, files, diag);
+    }
+    compile_plain(alloc, ordered, out, files, diag)
 }
 
 /// Writes the machines of a program to a file, if its contracts are kept.
