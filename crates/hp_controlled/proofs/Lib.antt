@@ -1,1 +1,5 @@
 pub mod HeadingLaws
+pub mod ReachLaws
+pub mod ChainLaws
+pub mod PartLaws
+pub mod Rules

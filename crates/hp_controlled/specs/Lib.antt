@@ -1,2 +1,4 @@
 pub mod Chosen
 pub mod Errors
+pub mod Parts
+pub mod Reaching
