@@ -2,3 +2,5 @@ pub mod Among
 pub mod Chosen
 pub mod Errors
 pub mod Joining
+pub mod Parts
+pub mod Reaching
