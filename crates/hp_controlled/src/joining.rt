@@ -192,7 +192,7 @@ fn put_item(
 }
 
 /// The own machines of the nodes of some items, and between them those of contracts, as they stand in the others.
-fn joined(
+fn put_items(
     alloc: Global,
     items: &[Item],
     own: Vec<Machine>,
@@ -265,7 +265,7 @@ fn all_machines(
 {
     let own = own_machines(alloc, program, types)?;
     let chosen = chosen_machines(alloc, program, types)?;
-    let all = joined(alloc, &program.items, own, chosen)?;
+    let all = put_items(alloc, &program.items, own, chosen)?;
     Ok(all)
 }
 

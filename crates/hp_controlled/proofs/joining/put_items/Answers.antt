@@ -1,7 +1,7 @@
 use Rattle.std.proofs.Common.{◌≡◌, length, arith}
 use Rattle.std.specs.Vec.Iter.{into_iter_items}
 use Rattle.hp_controlled.proofs.JoiningLaws.{all_items, nothing_left}
-use Rattle.hp_controlled.proofs.joining.joined.Goals as goal
+use Rattle.hp_controlled.proofs.joining.put_items.Goals as goal
 
 pub returns-in-None : goal.returns-in-None
 returns-in-None c =
