@@ -11,3 +11,4 @@ pub mod Steps
 pub mod Games
 pub mod Choices
 pub mod OnMachines
+pub mod Twins

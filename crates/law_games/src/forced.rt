@@ -3,6 +3,7 @@
 //! The functions here do nothing: each is a law, which its contract states.
 #![tactic(auto)]
 
+ghost use Rattle.law_games.specs.Forced.Twins.{AlongLaw, FirstLaw, LongerLaw, PlayedChoiceLaw, PlaysLaw, SomeTwinLaw, TwinChoicesLaw, TwinsLaw};
 ghost use Rattle.law_games.specs.Forced.Laws.{ChoicesLaw, ForcedAtFirstLaw, ForcedLaw, GameLaw, GrantedLaw, HistoriesLaw, InstantsLaw, LaterLaw, MachineChoicesLaw, NextLaw, PermittedLaw, SafeAtFirstLaw, SafeGameLaw, SafeLaw};
 
 use crate::mirror::choices_are_kept;
@@ -35,6 +36,20 @@ pub fn choices_are_on_memories()
 /// And what a machine that mirrors the node may choose, whose choice is the greatest permitted one.
 pub fn choices_are_on_machines()
     ensures { MachineChoicesLaw }
+{
+    choices_are_kept();
+}
+
+/// A machine that mirrors the node goes along with the game. Beside each history of the game stands one without Nil, of the same inputs, given values and choices. At the bits that any such one leaves, and the codes of what is given, the machine's next registers are the bits of the longer one; it supposes and owes what the instant does, and chooses what is chosen. So a machine that plays along from its first state chooses the greatest permitted values at each instant.
+pub fn machines_go_along()
+    ensures twins { TwinsLaw }
+    ensures some { SomeTwinLaw }
+    ensures longer { LongerLaw }
+    ensures first { FirstLaw }
+    ensures chosen { TwinChoicesLaw }
+    ensures along { AlongLaw }
+    ensures plays { PlaysLaw }
+    ensures played { PlayedChoiceLaw }
 {
     choices_are_kept();
 }

@@ -43,8 +43,10 @@ use Rattle.law_games.proofs.AbstractedLemmas.Unmarked.{same_hypothesis, same_dut
 use Rattle.law_games.proofs.AbstractedLemmas.GivenKept.{given_with_nil, given_filled}
 use Rattle.law_games.specs.ReadyGames.Laws.{Stands, IsInOrder}
 use Rattle.law_games.proofs.ReadyGamesLemmas.Settled.{class, apart, firsts, called, ranked, settled, shaped}
-use Rattle.law_games.proofs.ReadyGamesLemmas.Histories.{among_is, marked_wires, onto, back, twin}
+use Rattle.law_games.proofs.ReadyGamesLemmas.Histories.{Twins as HistoryTwins, among_is, marked_wires, onto, back, twin}
+use Rattle.law_games.specs.ReadyGames.FittingHistories.{AllFitting}
 use Rattle.law_games.specs.Forced.Laws.{FittingPermitted, ChoicesLaw}
+use Rattle.law_games.specs.Forced.Twins.{ChoosesAsMemory}
 use Rattle.law_games.proofs.ForcedLemmas.Games.{may_choose}
 
 -- The same of histories without Nil.
@@ -206,6 +208,35 @@ module _ (program after : List Item) (ranks : List (List ℕ)) (o : IsInOrder pr
 
 -- ---- the law
 
+-- the greatest permitted choice, where the same is permitted
+chosen_same : (after earlier : List Item) (n : Node) (h : Past) (mem : Instant) (inputs : List Value) (early : Instant) (c : Choice) → IsChoiceOf after n c
+    → ((c : Choice) → IsChoiceOf after n c → Permitted after n h inputs early c ↔ PermittedFrom after earlier n mem (map marked inputs) early c)
+    → IsChosen after n h inputs early c ↔ IsChosenFrom after earlier n mem (map marked inputs) early c
+chosen_same after earlier n h mem inputs early c is both = (
+  λ x.
+      record {
+        greatest = λ d isd P. let r = x.greatest d isd ((both d isd).1 P) in ((both c is).0 r.0, r.1);
+        else_preferred = λ no. x.else_preferred (λ d isd P. no d isd ((both d isd).0 P));
+      },
+  λ x.
+      record {
+        fits = is;
+        greatest = λ d isd P. let r = x.greatest d isd ((both d isd).0 P) in ((both c is).1 r.0, r.1);
+        else_preferred = λ no. x.else_preferred (λ d isd P. no d isd ((both d isd).1 P));
+      },
+)
+
+-- what may be chosen after each history beside which such a one stands
+pub each_choice : (program after : List Item) (ranks : List (List ℕ)) (o : IsInOrder program after ranks) (earlier : List Item) (n : Node) (st : Stands after earlier n) (m : Machine) → Mirrors after earlier n m
+    → (h h' : Past) → AllFitting after earlier n h → AllFilled after earlier n h' → HistoryTwins program after ranks o earlier n st h h' → ChoosesAsMemory after earlier n h h'
+each_choice program after ranks o earlier n st m M h h' a u t inputs early fit typed =
+    let both : (c : Choice) → IsChoiceOf after n c → Permitted after n h inputs early c ↔ PermittedFrom after earlier n (memory after n h') (map marked inputs) early c =
+    λ c is.
+    let p = may_choose program after ranks o earlier n st h inputs early c a fit is typed in
+    let q = same_permitted program after ranks o earlier n st m M h h' (map marked inputs) early c t u is in
+    ((λ P. q.0 (p.0 P)), (λ P. p.1 (q.1 P))) in
+    (both, λ c is. chosen_same after earlier n h (memory after n h') inputs early c is both)
+
 pub choices : ChoicesLaw
 choices program after ranks o earlier n st m M h a =
     let b = twin program after ranks o earlier n st h a in (
@@ -214,29 +245,7 @@ choices program after ranks o earlier n st m M h a =
         b.1.0,
         (
           all_under (types_of after) (class program after ranks o earlier n st).0 earlier n (class program after ranks o earlier n st).1 h b.0 b.1.1.1,
-          λ inputs early fit typed.
-              let both : (c : Choice) → IsChoiceOf after n c → Permitted after n h inputs early c ↔ PermittedFrom after earlier n (memory after n b.0) (map marked inputs) early c =
-              λ c is.
-              let p = may_choose program after ranks o earlier n st h inputs early c a fit is typed in
-              let q = same_permitted program after ranks o earlier n st m M h b.0 (map marked inputs) early c b.1.1 b.1.0 is in
-              ((λ P. q.0 (p.0 P)), (λ P. p.1 (q.1 P))) in
-              (both, λ c is. chosen_same (memory after n b.0) inputs early c is both),
+          each_choice program after ranks o earlier n st m M h b.0 a b.1.0 b.1.1,
         ),
       ),
-    )
-  where
-    chosen_same : (mem : Instant) (inputs : List Value) (early : Instant) (c : Choice) → IsChoiceOf after n c → ((c : Choice) → IsChoiceOf after n c → Permitted after n h inputs early c ↔ PermittedFrom after earlier n mem (map marked inputs) early c)
-        → IsChosen after n h inputs early c ↔ IsChosenFrom after earlier n mem (map marked inputs) early c
-    chosen_same mem inputs early c is both = (
-      λ x.
-          record {
-            greatest = λ d isd P. let r = x.greatest d isd ((both d isd).1 P) in ((both c is).0 r.0, r.1);
-            else_preferred = λ no. x.else_preferred (λ d isd P. no d isd ((both d isd).0 P));
-          },
-      λ x.
-          record {
-            fits = is;
-            greatest = λ d isd P. let r = x.greatest d isd ((both d isd).0 P) in ((both c is).1 r.0, r.1);
-            else_preferred = λ no. x.else_preferred (λ d isd P. no d isd ((both d isd).1 P));
-          },
     )

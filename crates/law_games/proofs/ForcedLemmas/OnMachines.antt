@@ -1,7 +1,7 @@
 -- What may be chosen after a history of the game is what a machine that mirrors the node may choose.
 use Rattle.std.proofs.Common.{◌≡◌, ◌⊎◌, inl, inr, List, [], ◌∷◌, map, refl, subst}
 use Rattle.std.proofs.lemmas.List.Elements.{All-nil, All-cons}
-use Rattle.std.specs.Prelude.{All, Option, None, Some}
+use Rattle.std.specs.Prelude.{ℕ, All, Option, None, Some, length}
 use Rattle.hp_base.specs.declared.ty.Ty.{Ty}
 use Rattle.hp_base.specs.declared.ty.Ty.TheVariants as ty
 use Rattle.hp_base.specs.declared.value.Value.{Value}
@@ -9,20 +9,24 @@ use Rattle.hp_base.specs.declared.value.Value.TheVariants.{B, E, I}
 use Rattle.hp_tree.specs.declared.program.Item.{Item}
 use Rattle.hp_tree.specs.Programs.{TypeDecl, Contract, Node}
 use Rattle.hp_tree.specs.Operators.{marked}
-use Rattle.hp_tree.specs.Instant.{Inputs, Controls, Body, Step, Place, Instant, Clock}
+use Rattle.hp_tree.specs.Instant.{Inputs, Controls, Body, Step, Place, Instant, Past, Clock}
 use Rattle.hp_tree.specs.Meaning.{types_of}
 use Rattle.hp_tree.specs.Values.{IsOf}
 use Rattle.law_games.proofs.WiretypedLemmas.Givens.{inputs_fit}
 use Rattle.hp_meaning.specs.Contract.FreePlaces.{FreeClocks, by_step, free_in_contract, free_in_block, IsAbstractOf, IsEarly}
 use Rattle.hp_meaning.specs.Contract.Game.{Choice}
+use Rattle.hp_boolx.specs.Machine.{Machine}
 use Rattle.hp_meaning.specs.Contract.Memory.{memory}
 use Rattle.hp_meaning.specs.Contract.Slots.{Slot, register, free, input, control, free_among, slots_of_node}
-use Rattle.law_games.specs.Mirror.Choices.{SameMemoryPermittedLaw, SameMemoryChoiceLaw}
+use Rattle.law_games.specs.Mirror.Choices.{BitsInOrder, SameMemoryPermittedLaw, SameMemoryChoiceLaw}
+use Rattle.law_games.specs.Mirror.FilledHistories.{AllFilled}
 use Rattle.law_games.specs.Mirror.Histories.{EarlyFits}
-use Rattle.law_games.specs.Mirror.Mirrored.{given_with}
+use Rattle.law_games.specs.Mirror.Mirrored.{given_with, Mirrors}
 use Rattle.law_games.specs.Mirror.Memories.{SlotsFit}
 use Rattle.law_games.proofs.ReadyGamesLemmas.Settled.{class, settled}
+use Rattle.law_games.specs.ReadyGames.Laws.{Stands, IsInOrder}
 use Rattle.law_games.specs.Forced.Laws.{MachineChoicesLaw}
+use Rattle.law_games.specs.Forced.Twins.{ChoosesAsMemory, ChoosesAsMachine}
 use Rattle.law_games.proofs.ForcedLemmas.Choices.{memory_shaped, choices}
 
 -- ---- early places
@@ -66,25 +70,22 @@ module _ (types : List TypeDecl) (P : Place → Type 0) (root early : Instant) (
 
 -- ---- the law
 
+-- What may be chosen at the memory that a history leaves is what the machine may choose at its bits.
+pub machine_choices : SameMemoryPermittedLaw → SameMemoryChoiceLaw → (program after : List Item) (ranks : List (List ℕ)) (o : IsInOrder program after ranks) (earlier : List Item) (n : Node) (st : Stands after earlier n) (m : Machine) (M : Mirrors after earlier n m)
+    → BitsInOrder after n m.prefer → length m.prefer ≡ m.control → (h h' : Past) → AllFilled after earlier n h' → ChoosesAsMemory after earlier n h h' → ChoosesAsMachine after earlier n m M h h'
+machine_choices permitted chosen program after ranks o earlier n st m M O long h h' u memories inputs early fit slots c is =
+    let S = settled program after ranks o earlier n st in
+    let cl = class program after ranks o earlier n st in
+    let typed : EarlyFits after n early =
+    early_fits (types_of after) (IsEarly after n) (given_with (map marked inputs) early c) early (early_given after n (map marked inputs) early c) (slots_of_node after n) (slots c) in
+    let both = memories inputs early fit typed in
+    let shape = memory_shaped program after ranks o earlier n st m M h' u in
+    let wires = inputs_fit (types_of after) n.inputs inputs fit in
+    let p = permitted after cl.0 earlier n m S M (memory after n h') (map marked inputs) early c shape wires (slots c) is in
+    let q = chosen after cl.0 earlier n m S M O long (memory after n h') (map marked inputs) early c shape wires slots is in
+    (((λ z. p.0 ((both.0 c is).0 z)), (λ z. (both.0 c is).1 (p.1 z))), ((λ z. q.0 ((both.1 c is).0 z)), (λ z. (both.1 c is).1 (q.1 z))))
+
 pub on_machines : SameMemoryPermittedLaw → SameMemoryChoiceLaw → MachineChoicesLaw
 on_machines permitted chosen program after ranks o earlier n st m M O long h a =
-    let x = choices program after ranks o earlier n st m M h a in (
-      x.0,
-      (
-        x.1.0,
-        (
-          x.1.1.0,
-          λ inputs early fit slots c is.
-              let S = settled program after ranks o earlier n st in
-              let cl = class program after ranks o earlier n st in
-              let typed : EarlyFits after n early =
-              early_fits (types_of after) (IsEarly after n) (given_with (map marked inputs) early c) early (early_given after n (map marked inputs) early c) (slots_of_node after n) (slots c) in
-              let both = x.1.1.1 inputs early fit typed in
-              let shape = memory_shaped program after ranks o earlier n st m M x.0 x.1.0 in
-              let wires = inputs_fit (types_of after) n.inputs inputs fit in
-              let p = permitted after cl.0 earlier n m S M (memory after n x.0) (map marked inputs) early c shape wires (slots c) is in
-              let q = chosen after cl.0 earlier n m S M O long (memory after n x.0) (map marked inputs) early c shape wires slots is in
-              (((λ z. p.0 ((both.0 c is).0 z)), (λ z. (both.0 c is).1 (p.1 z))), ((λ z. q.0 ((both.1 c is).0 z)), (λ z. (both.1 c is).1 (q.1 z)))),
-        ),
-      ),
-    )
+    let x = choices program after ranks o earlier n st m M h a in
+    (x.0, (x.1.0, (x.1.1.0, machine_choices permitted chosen program after ranks o earlier n st m M O long h x.0 x.1.0 x.1.1.1)))

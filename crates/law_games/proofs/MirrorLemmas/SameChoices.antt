@@ -47,7 +47,7 @@ module _ (program : List Item) (class : Classing) (earlier : List Item) (n : Nod
   long_codes ps i vs bs e h = same_codes program class earlier n m S M ps i vs bs e h
 
   -- the bits of a choice do not look at anything else
-  own_bits : (inputs : List Value) (others : Instant) (c : Choice) → codes_at tys choice_places (given_with inputs others c) ≡ choice_bits program n c
+  pub own_bits : (inputs : List Value) (others : Instant) (c : Choice) → codes_at tys choice_places (given_with inputs others c) ≡ choice_bits program n c
   own_bits inputs others c =
       long_codes choice_places (given_with inputs others c) (values_at choice_places (given_with [] nothing c)) (choice_bits program n c) (same_choice program earlier n M.is_early S.found S.apart inputs [] others nothing c) (codes_of_values tys choice_places (given_with [] nothing c))
 

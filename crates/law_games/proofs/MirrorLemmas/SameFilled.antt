@@ -42,14 +42,14 @@ module _ (program : List Item) (class : Classing) (earlier : List Item) (n : Nod
   start = zero_at (registers program n)
 
   -- what a history leaves
-  abbrev left : Past → Instant
+  abbrev pub left : Past → Instant
   left h = remembers_in types (callee_wires types earlier) n start h
 
-  abbrev Shaped : Instant → Type 0
+  abbrev pub Shaped : Instant → Type 0
   Shaped mem = InShape types earlier n start mem
 
   -- what is shown of wires
-  abbrev shown : Past → List Value → Instant → Choice → Instant → Instant
+  abbrev pub shown : Past → List Value → Instant → Choice → Instant → Instant
   shown h inputs others c W = instant_of types earlier n inputs (read_with program n (left h) others c) W
 
   -- ---- wires after a history
@@ -60,7 +60,7 @@ module _ (program : List Item) (class : Classing) (earlier : List Item) (n : Nod
     pub leaves_it : left (shown h inputs others c W ∷ h) ≡ leaves program earlier n (left h) inputs c others W
     pub shaped : Shaped (left (shown h inputs others c W ∷ h))
 
-  goes : (h : Past) (inputs : List Value) (early : Instant) (others : Instant) (c : Choice) (W : Instant) → IsInstant program earlier n (left h) inputs early c others W → Goes h inputs others c W
+  pub goes : (h : Past) (inputs : List Value) (early : Instant) (others : Instant) (c : Choice) (W : Instant) → IsInstant program earlier n (left h) inputs early c others W → Goes h inputs others c W
   goes h inputs early others c W I =
       let w = is_wiring types class earlier n inputs start (steered_by others (at_controls c)) h W (is_read program class earlier n m S M (left h) inputs others c W I.wires) I.wires.typed I.fills I.wires.solves in
       record {
@@ -70,11 +70,11 @@ module _ (program : List Item) (class : Classing) (earlier : List Item) (n : Nod
       }
 
   -- the wires of an instant
-  abbrev Wires : Past → List Value → Instant → Choice → Instant → Instant → Type 0
+  abbrev pub Wires : Past → List Value → Instant → Choice → Instant → Instant → Type 0
   Wires h inputs early c others now =
       (W : Instant) × IsInstant program earlier n (left h) inputs early c others W × (shown h inputs others c W ≡ now)
 
-  wires_of : (h : Past) (inputs : List Value) (early : Instant) (c : Choice) (now : Instant) → Shaped (left h) → IsChoiceOf program n c → (x : IsFilled program earlier n h inputs early c now) → Wires h inputs early c x.others now
+  pub wires_of : (h : Past) (inputs : List Value) (early : Instant) (c : Choice) (now : Instant) → Shaped (left h) → IsChoiceOf program n c → (x : IsFilled program earlier n h inputs early c now) → Wires h inputs early c x.others now
   wires_of h inputs early c now sh is x =
       let w = wiring program class earlier n m S M (left h) inputs x.others c sh x.values is x.given in
       let I : IsInstant program earlier n (left h) inputs early c x.others w.0 = record { wires = w.1; fits = x.fits; fills = x.fills; agrees = x.agrees } in
@@ -126,11 +126,11 @@ module _ (program : List Item) (class : Classing) (earlier : List Item) (n : Nod
 
   -- ---- the memory of contracts
 
-  memory_is : (h : Past) → left h ≡ memory program n h
+  pub memory_is : (h : Past) → left h ≡ memory program n h
   memory_is h = memory_same program class earlier n start h S.accepted S.found
 
   -- histories leave registers in shape
-  all_shaped : Shaped (memory program n []) → (h : Past) → AllFilled program earlier n h → Shaped (left h)
+  pub all_shaped : Shaped (memory program n []) → (h : Past) → AllFilled program earlier n h → Shaped (left h)
   all_shaped first [] a = subst Shaped (sym (memory_is [])) first
   all_shaped first (now ∷ h) a =
       let sh = all_shaped first h a.0 in

@@ -101,11 +101,11 @@ module _ (program after : List Item) (ranks : List (List ℕ)) (o : IsInOrder pr
       ∙ among_is (types_of after) st.0 earlier n (apart program after ranks o earlier n st) inputs g now
 
   -- a history of fitting instants, and one without Nil that agrees with it
-  abbrev Twins : Past → Past → Type 0
+  abbrev pub Twins : Past → Past → Type 0
   Twins h h' = Each (AbstractFits (types_of after) true (class program after ranks o earlier n st).0 earlier n) h × PastsAgree (types_of after) (own_marks (types_of after) (class program after ranks o earlier n st).0 earlier n) h h'
 
   -- one instant more
-  longer : (h h' : Past) (inputs : List Value) (others : Instant) (c : Choice) (now now' : Instant) → Twins h h' → AreWires (types_of after) n.inputs inputs → GivenFits (types_of after) earlier n (steered_by others (at_controls c))
+  pub longer : (h h' : Past) (inputs : List Value) (others : Instant) (c : Choice) (now now' : Instant) → Twins h h' → AreWires (types_of after) n.inputs inputs → GivenFits (types_of after) earlier n (steered_by others (at_controls c))
       → FillsNode (types_of after) (callee_wires (types_of after) earlier) n start (steered_by others (at_controls c))
       → ((p : Place) → now p ≡ abstract_meaning after n.name inputs (record { past = h; free = steered_by others (at_controls c) }) now p)
       → ((p : Place) → now' p ≡ filled_instant after earlier n inputs h' (steered_by others (at_controls c)) now' p)
@@ -131,10 +131,10 @@ module _ (program after : List Item) (ranks : List (List ℕ)) (o : IsInOrder pr
 
   -- what is supposed and owed is the same
   module _ (h h' : Past) (now now' : Instant) (t : Twins (now ∷ h) (now' ∷ h')) where
-    same_hyp : hypothesis n now' ≡ hypothesis n now
+    pub same_hyp : hypothesis n now' ≡ hypothesis n now
     same_hyp = let cl = class program after ranks o earlier n st in same_hypothesis (types_of after) cl.0 earlier n cl.1 now now' t.1.0
 
-    same_owed : duty n now' ≡ duty n now
+    pub same_owed : duty n now' ≡ duty n now
     same_owed = let cl = class program after ranks o earlier n st in same_duty (types_of after) cl.0 earlier n cl.1 now now' t.1.0
 
   pub onto : (k : ℕ) (h h' : Past) → Twins h h' → FittingForced after earlier n k h → FilledForced after earlier n k h'
