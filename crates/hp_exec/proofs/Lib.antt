@@ -40,3 +40,5 @@ pub mod CalledLaws
 pub mod WholeLaws
 mod FlatKinds
 mod KindedLaws
+mod InKind
+mod UnchangedLaws
