@@ -3,7 +3,7 @@ use Rattle.std.proofs.Common.{◌≡◌, ◌↔◌, ℕ, List, [], ◌∷◌, ma
 use Rattle.hp_base.specs.declared.value.Value.{Value}
 use Rattle.hp_tree.specs.declared.program.Item.{Item}
 use Rattle.hp_tree.specs.Programs.{Node}
-use Rattle.hp_tree.specs.Instant.{Place, Instant, Past}
+use Rattle.hp_tree.specs.Instant.{Instant, Past}
 use Rattle.hp_tree.specs.Operators.{marked}
 use Rattle.hp_tree.specs.Meaning.{types_of}
 use Rattle.hp_meaning.specs.Causal.OneReaction.{OneInstant}
@@ -72,6 +72,7 @@ module _ (program after : List Item) (ranks : List (List ℕ)) (o : IsInOrder pr
 
   module _ (m : Machine) (M : Mirrors after earlier n m) where
     goes_along : (h h' : Past) (inputs : List Value) (given : Instant) (c : Choice) (now filled : Instant) → AreTwins after earlier n h h' → IsTwin after earlier n h h' inputs given c now filled → GoesAlong after earlier n m M h' inputs given c now filled
+    unfolding filled_by
     goes_along h h' inputs given c now filled t x =
         let cl = class program after ranks o earlier n st in
         let S = settled program after ranks o earlier n st in

@@ -1,6 +1,6 @@
 -- The game of a contract, played along on a Boolean machine: beside a history of the game stands one without Nil, of the same inputs, given values and choices, and the machine's registers hold the bits that this one leaves.
 -- Source: own. A machine that is run goes from state to state by what it is given; so the law is one of each such history, and not of some.
-use Rattle.std.specs.Prelude.{◌≡◌, ◌↔◌, ⊤, ⊥, List, [], ◌∷◌, map, length}
+use Rattle.std.specs.Prelude.{◌≡◌, ◌↔◌, ⊤, List, [], ◌∷◌, map, length}
 use Rattle.hp_base.specs.declared.value.Value.{Value}
 use Rattle.hp_tree.specs.declared.program.Item.{Item}
 use Rattle.hp_tree.specs.Programs.{Node}
