@@ -135,7 +135,10 @@ placed-next natives machines places new place i m below at first native more pla
     (placed (place ∷ rest) (subst (λ ms. ArePlaces natives ms (place ∷ rest)) (sym (drop_at machines i m below at))
     (first, native, subst (λ n. ArePlaces natives (drop n machines) rest) (sym further) are)))
 
-pub placed-all : (natives machines : List Machine) (places : List (Option ℕ)) (i : ℕ) → i ≡ length machines → PlacedTo natives machines places i → ArePlaces natives machines places
+placed-all : (natives machines : List Machine) (places : List (Option ℕ)) (i : ℕ) → i ≡ length machines → PlacedTo natives machines places i → ArePlaces natives machines places
 placed-all natives machines places i e placed =
     subst (ArePlaces natives machines) (append-nil places)
     (placed [] (subst (λ ms. ArePlaces natives ms []) (sym (ap (λ n. drop n machines) e ∙ drop_all machines)) tt))
+
+pub placed-among : (natives machines others : List Machine) (places : List (Option ℕ)) (i : ℕ) → machines ≡ others → i ≡ length machines → PlacedTo natives machines places i → ArePlaces natives others places
+placed-among natives machines others places i same e placed = subst (λ ms. ArePlaces natives ms places) same (placed-all natives machines places i e placed)

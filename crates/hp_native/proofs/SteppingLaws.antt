@@ -82,6 +82,6 @@ still_native h old new inputs goes many fits is =
     }
 
 -- what holds of a value holds of it where it is kept
-pub kept_so : {A : Type 0} (P : A → Type 0) (o : Option A) (x : A) → IfSome o (λ y. y ≡ x) → P x → IfSome o P
-kept_so P None x h p = tt
-kept_so P (Some y) x h p = subst P (sym h) p
+pub kept_so : {A : Type 0} (o : Option A) (x : A) (P : A → Type 0) → IfSome o (λ y. y ≡ x) → P x → IfSome o P
+kept_so None x P h p = tt
+kept_so (Some y) x P h p = subst P (sym h) p
