@@ -7,12 +7,12 @@ use Rattle.hp_obc.specs.Machines.{Obc}
 use Rattle.hp_obc.specs.Steps.{Behaviour, Stepped, machine_behaviour}
 use Rattle.hp_obc.specs.Kinded.{machine_keeps}
 use Rattle.hp_exec.specs.Answers.{Executes}
-use Rattle.hp_exec.specs.Executors.{Executor, Runs, IsKinded, layout, flow, flow_with, with_memory, kept, stepped, answered, stepped_with, answered_with}
+use Rattle.hp_exec.specs.Executors.{Executor, Runs, layout, flow, flow_with, with_memory, kept, stepped, answered, stepped_with, answered_with}
 use Rattle.hp_exec.specs.Hooked.{Hooking, Fits, ChangesNothingInKind, hooked_behaviour}
 use Rattle.hp_exec.specs.Layouts.{flattened}
 use Rattle.hp_exec.specs.Mirrors.{Follows}
-use Rattle.hp_exec.proofs.KindedLaws.{step_by, step_kinded, step_kinds}
-use Rattle.hp_exec.proofs.StepLaws.{other_runs, other_hooked, step_outputs, step_kept}
+use Rattle.hp_exec.proofs.KindedLaws.{step_by}
+use Rattle.hp_exec.proofs.StepLaws.{other_runs, other_hooked, step_kept}
 use Rattle.hp_native.specs.Stepping.{GoesNatively}
 
 -- an executor from its making on
@@ -56,12 +56,6 @@ module _ (h : Hooking) (t : ℕ) (e : Executor) (inputs : List Value) (goes : Go
 module _ (old new : Executor) (b : Behaviour) (inputs : List Value) (many : length inputs ≡ length old.signature.inputs) (is : new ≡ stepped old inputs) where
   pub runs_after : Runs old b → Runs new b
   runs_after h = other_runs old new (stepped old inputs).values b is (h.steps old.values inputs h.long many).as_long h
-
-  pub kinded_after : Runs old b → IsKinded old b → AreOfKinds (kinds_of old.signature.inputs) inputs → IsKinded new b
-  kinded_after h kinded fits = step_kinded old new b inputs kinded (ap (λ (e : Executor). e.signature) is) (step_kept old b inputs many new is h) fits
-
-  pub kinds_after : (outputs : List Value) → outputs ≡ answered old inputs → Runs old b → IsKinded old b → AreOfKinds (kinds_of old.signature.inputs) inputs → AreOfKinds (kinds_of old.signature.outputs) outputs
-  kinds_after outputs gives h kinded fits = step_kinds old b inputs outputs kinded (step_outputs old b inputs many outputs gives h) fits
 
 -- a hook that changes nothing in kind changes nothing of what comes behind a step
 pub still_native : (h : Hooking) (old new : Executor) (inputs : List Value) (goes : GoesNatively h old) → length inputs ≡ length old.signature.inputs → AreOfKinds (kinds_of old.signature.inputs) inputs → new ≡ stepped old inputs → GoesNatively h new
