@@ -1,0 +1,6 @@
+mod SameLaws
+mod NativeLaws
+mod OrderLaws
+mod LinkLaws
+mod SteppingLaws
+pub mod Rules
