@@ -2,6 +2,7 @@
 #![tactic(auto)]
 
 mod certificate;
+mod checkpoint;
 mod choosing;
 mod diagnostic;
 mod execution;
@@ -12,6 +13,7 @@ mod past;
 mod refuse;
 mod report;
 mod run;
+mod runnable;
 mod source;
 mod status;
 mod sweep;
