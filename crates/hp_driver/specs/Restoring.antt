@@ -2,6 +2,7 @@
 use Rattle.std.specs.Prelude.{◌≡◌, ◌≢◌, ◌⊎◌, ℕ, true, List, [], ◌∷◌, ◌++◌, Option, None, Some, Result, Ok, Err}
 use Rattle.hp_base.specs.Limits.{most}
 use Rattle.hp_base.specs.declared.limit.What.TheVariants.{Text}
+use Rattle.hp_exec.specs.Answers.{Executes}
 use Rattle.hp_exec.specs.Executors.{Executor, Runs, IsKindedBy, kept}
 use Rattle.hp_exec.specs.Signatures.{signature_of}
 use Rattle.hp_io.specs.Faults.{Faults, Rose}
@@ -80,10 +81,10 @@ pub data NotRestored (files : Option Files) (o : Obc) (node mem : List ℕ) : Li
 abbrev pub NotRestoredFrom : Obc → List ℕ → List ℕ → List ℕ → ℕ → Type 0
 NotRestoredFrom o node text line status = (files : Option Files) (mem : List ℕ) → Gives files mem text → NotRestored files o node mem line status
 
--- it is that after a reset, or the one of the checkpoint in a file
-abbrev pub IsBegun : Option Files → Obc → List ℕ → Option (List ℕ) → Memory → Type 0
-IsBegun files o node None memory = memory ≡ (machine_behaviour o node).reset
-IsBegun files o node (Some mem) memory = (text : List ℕ) × Gives files mem text × IsCheckpointOf o node memory text
+-- the memory of an executor is that after a reset, or the one of the checkpoint in a file
+abbrev pub IsBegun : Option Files → Obc → List ℕ → Option (List ℕ) → Executor → Type 0
+IsBegun files o node None e = Executes o node e
+IsBegun files o node (Some mem) e = (text : List ℕ) × Gives files mem text × IsCheckpointOf o node (kept e) text
 
 abbrev pub NotBegun : Option Files → Obc → List ℕ → Option (List ℕ) → List ℕ → ℕ → Type 0
 NotBegun files o node from line status = (mem : List ℕ) × (from ≡ Some mem) × NotRestored files o node mem line status

@@ -65,7 +65,8 @@ fn restore_text<E: Sink>(
     ensures stands { OnOk result (StandsFor machines.now node.now exec.new) }
     ensures memory { OnOk result (IsCheckpointOf machines.now node.now (kept exec.new) text.now) }
     ensures told { (line : List ℕ) × Grows (E.took diag.old) (E.took diag.new) line × Ends (NotRestoredFrom machines.now node.now text.now) result line }
-    ensures status { IfErr result (λ status. (code_of status ≢ 0) × (code_of status ≢ 4)) }
+    ensures fails { IfErr result (λ status. code_of status ≢ 0) }
+    ensures status { IfErr result (λ status. code_of status ≢ 4) }
     ensures faults { PutFaults (ending result) (E.faults diag.old) (E.faults diag.new) }
 {
     let Ok(mut values) = Vec::from_slice(alloc, exec.memory()) else {
@@ -94,7 +95,7 @@ fn restore<F: Folder, E: Sink>(
     ensures stands { OnOk result (StandsFor machines.now node.now exec.new) }
     ensures memory { OnOk result ((text : List ℕ) × Gives (F.files files.old) mem.now text × IsCheckpointOf machines.now node.now (kept exec.new) text) }
     ensures told { (line : List ℕ) × Grows (E.took diag.old) (E.took diag.new) line × Ends (NotRestored (F.files files.old) machines.now node.now mem.now) result line }
-    ensures status { IfErr result (λ status. code_of status ≢ 0) }
+    ensures fails { IfErr result (λ status. code_of status ≢ 0) }
     ensures faults { PutFaults (ending result) (E.faults diag.old) (E.faults diag.new) }
     ensures files { F.files files.new ≡ F.files files.old }
     ensures reads { ReadFaults mem.now (ending result) (F.reads files.old) (F.reads files.new) }
@@ -118,12 +119,12 @@ fn begin<F: Folder, E: Sink>(
     files: &mut F,
     diag: &mut E,
 ) -> Result<(), Status>
-    requires { Executes machines.now segment.entry.node.now exec.old }
+    requires { Executes machines.now segment.node.now exec.old }
     ensures stands { OnOk result (StandsFor machines.now segment.entry.node.now exec.new) }
-    ensures memory { OnOk result (IsBegun (F.files files.old) machines.now segment.entry.node.now (option_copied segment.entry.from) (kept exec.new)) }
+    ensures memory { OnOk result (IsBegun (F.files files.old) machines.now segment.entry.node.now (option_copied segment.entry.from) exec.new) }
     ensures told { (line : List ℕ) × Grows (E.took diag.old) (E.took diag.new) line
         × Ends (NotBegun (F.files files.old) machines.now segment.entry.node.now (option_copied segment.entry.from)) result line }
-    ensures status { IfErr result (λ status. code_of status ≢ 0) }
+    ensures fails { IfErr result (λ status. code_of status ≢ 0) }
     ensures faults { PutFaults (ending result) (E.faults diag.old) (E.faults diag.new) }
     ensures files { F.files files.new ≡ F.files files.old }
     ensures gave { ReadsFrom (option_copied segment.entry.from) (F.reads files.old).gave (F.reads files.new).gave }
@@ -164,7 +165,7 @@ fn run_and_save<F: Folder, C: Console, E: Sink>(
     diag: &mut E,
 ) -> Status
     requires form { TypesForm machines.now.types }
-    requires stands { StandsFor machines.now segment.entry.node.now exec }
+    requires stands { StandsFor machines.now segment.node.now exec }
     ensures outcome { Happened (C.events console.old) (C.events console.new) (C.left console.old) (C.left console.new) (E.took diag.old) (E.took diag.new)
         (λ log line. KeepsRun machines.now segment.entry.node.now exec segment.entry.out.now (F.files files.old) (F.files files.new) log line (code_of result)) }
     ensures reads { NothingRead (F.reads files.old) (F.reads files.new) }
@@ -196,7 +197,7 @@ fn run_from<F: Folder, C: Console, E: Sink>(
     diag: &mut E,
 ) -> Status
     requires form { TypesForm runnable.machines.types }
-    requires runs { Executes runnable.machines segment.entry.node.now runnable.exec }
+    requires runs { Executes runnable.machines segment.node.now runnable.exec }
     ensures outcome { Happened (C.events console.old) (C.events console.new) (C.left console.old) (C.left console.new) (E.took diag.old) (E.took diag.new)
         (λ log line. SegmentOfMachines runnable.machines segment.entry.node.now (option_copied segment.entry.from) segment.entry.out.now (F.files files.old) (F.files files.new) log line (code_of result)) }
     ensures gave { ReadsFrom (option_copied segment.entry.from) (F.reads files.old).gave (F.reads files.new).gave }

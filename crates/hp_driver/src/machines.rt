@@ -68,6 +68,7 @@ pub(crate) fn report_machine<E: Sink>(
     error: ExecErr,
 ) -> Status
     ensures told { (line : List ℕ) × Grows (E.took diag.old) (E.took diag.new) line × RefusedMachine node.now error line (code_of result) }
+    ensures fails { code_of result ≢ 0 }
     ensures status { code_of result ≢ 4 }
     ensures faults { PutFaults (code_of result) (E.faults diag.old) (E.faults diag.new) }
 {

@@ -53,7 +53,8 @@ fn plain_runnable<E: Sink>(
     ensures runs { IfOk result (λ r. Executes r.machines node.now r.exec) }
     ensures machines { IfOk result (λ r. AreMachinesOf ordered.program r.machines) }
     ensures told { (line : List ℕ) × Grows (E.took diag.old) (E.took diag.new) line × Ends (OrderedRun node.now ordered.program []) result line }
-    ensures status { IfErr result (λ status. (code_of status ≢ 0) × (code_of status ≢ 4)) }
+    ensures fails { IfErr result (λ status. code_of status ≢ 0) }
+    ensures status { IfErr result (λ status. code_of status ≢ 4) }
     ensures faults { PutFaults (ending result) (E.faults diag.old) (E.faults diag.new) }
 {
     // A law: nothing is in the way of the machines.
@@ -81,7 +82,8 @@ fn chosen_runnable<E: Sink>(
     ensures machines { IfOk result (λ r. r.machines ≡ machines) }
     ensures chosen { IfOk result (λ r. IsChosen name.now machines node.now) }
     ensures told { (line : List ℕ) × Grows (E.took diag.old) (E.took diag.new) line × Ends (NodeRun machines node.now name.now []) result line }
-    ensures status { IfErr result (λ status. (code_of status ≢ 0) × (code_of status ≢ 4)) }
+    ensures fails { IfErr result (λ status. code_of status ≢ 0) }
+    ensures status { IfErr result (λ status. code_of status ≢ 4) }
     ensures faults { PutFaults (ending result) (E.faults diag.old) (E.faults diag.new) }
 {
     if !is_chosen(&machines, name, node) {
@@ -104,7 +106,8 @@ fn choosing_runnable<E: Sink>(
     ensures machines { IfOk result (λ r. AreControlledMachines ordered.now r.machines) }
     ensures chosen { IfOk result (λ r. (n : programs.Node) × (node_among ordered.now node.now ≡ Some n) × IsChosen node.now r.machines n) }
     ensures told { (line : List ℕ) × Grows (E.took diag.old) (E.took diag.new) line × Ends (ChoosingRun node.now ordered.now []) result line }
-    ensures status { IfErr result (λ status. (code_of status ≢ 0) × (code_of status ≢ 4)) }
+    ensures fails { IfErr result (λ status. code_of status ≢ 0) }
+    ensures status { IfErr result (λ status. code_of status ≢ 4) }
     ensures faults { PutFaults (ending result) (E.faults diag.old) (E.faults diag.new) }
 {
     let Some(found) = node_named(ordered, node) else {
@@ -131,7 +134,8 @@ fn decided_runnable<E: Sink>(
     ensures are { IfOk result (λ r. RunDecided node.now program.now ordered.program r.machines) }
     ensures told { (line : List ℕ) × Grows (E.took diag.old) (E.took diag.new) line
         × Ends (DecidedOutcome (Task.Run node.entry) program.now ordered.program []) result line }
-    ensures status { IfErr result (λ status. (code_of status ≢ 0) × (code_of status ≢ 4)) }
+    ensures fails { IfErr result (λ status. code_of status ≢ 0) }
+    ensures status { IfErr result (λ status. code_of status ≢ 4) }
     ensures faults { PutFaults (ending result) (E.faults diag.old) (E.faults diag.new) }
 {
     // A law: what is found of contracts says so of their games.
@@ -157,7 +161,8 @@ fn program_runnable<E: Sink>(
     ensures form { IfOk result (λ r. TypesForm r.machines.types) }
     ensures are { IfOk result (λ r. RunProgram node.now program.now r.machines) }
     ensures told { (line : List ℕ) × Grows (E.took diag.old) (E.took diag.new) line × Ends (ProgramOutcome (Task.Run node.entry) program.now []) result line }
-    ensures status { IfErr result (λ status. (code_of status ≢ 0) × (code_of status ≢ 4)) }
+    ensures fails { IfErr result (λ status. code_of status ≢ 0) }
+    ensures status { IfErr result (λ status. code_of status ≢ 4) }
     ensures faults { PutFaults (ending result) (E.faults diag.old) (E.faults diag.new) }
 {
     match arrange(alloc, program) {
@@ -177,7 +182,8 @@ pub(crate) fn runnable_of<E: Sink>(
     ensures form { IfOk result (λ r. TypesForm r.machines.types) }
     ensures are { IfOk result (λ r. RunText node.now text.now r.machines) }
     ensures told { (line : List ℕ) × Grows (E.took diag.old) (E.took diag.new) line × Ends (OutcomeOf (Task.Run node.entry) text.now []) result line }
-    ensures status { IfErr result (λ status. (code_of status ≢ 0) × (code_of status ≢ 4)) }
+    ensures fails { IfErr result (λ status. code_of status ≢ 0) }
+    ensures status { IfErr result (λ status. code_of status ≢ 4) }
     ensures faults { PutFaults (ending result) (E.faults diag.old) (E.faults diag.new) }
 {
     match judge(alloc, text) {

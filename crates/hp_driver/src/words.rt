@@ -256,7 +256,7 @@ pub(crate) fn command_of<'a>(
     alloc: Global,
     words: &'a [String],
 ) -> Result<Option<Command<'a>>, AllocError>
-    requires { IsNoSegment (map string_bytes words.entry.now) }
+    requires { IsNoSegment (map string_bytes words.now) }
     ensures { IfOk result (λ found. MatchOption found (IsNoFileCommand (map string_bytes words.entry.now)) (λ command. Spells (map string_bytes words.entry.now) command)) }
 {
     if let Some((file, node)) = command_with_two(alloc, "exec", words)? {
