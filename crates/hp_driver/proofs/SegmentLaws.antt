@@ -92,9 +92,6 @@ module _ (o : Obc) (node : List ℕ) (e : Executor) (h : StandsFor o node e) whe
 
   -- behind lines that it takes
   module _ (behind : Executor) (lines : List (List ℕ)) (said : List ℕ) (takes : Takes executing e 1 lines said behind) where
-    inputs : List (List Value)
-    inputs = inputs_until (kinds_of e.signature.inputs) 1 lines
-
     same : behind ≡ steps_through step_of e (inputs_until (kinds_of e.signature.inputs) 1 lines)
     same = left_by_lines e behind lines said takes
 
@@ -192,7 +189,7 @@ module _ (files : Option Files) (file node mem : List ℕ) (from : Option (List 
   not_restored line status NotRestored.no_memory = Stops.not_run Outcome.no_memory
   not_restored line status NotRestored.unread = Stops.unread_checkpoint asked there
   not_restored line status (NotRestored.too_long long) = Stops.long_checkpoint asked there long
-  not_restored line status (NotRestored.refused cause gives refuses) = Stops.checkpoint_refused cause asked there gives refuses
+  not_restored line status (NotRestored.refused text cause gives refuses) = Stops.checkpoint_refused text cause asked there gives refuses
   not_restored line status (NotRestored.line_failed l b rest r) = Stops.line_failed line b rest (not_restored (line ++ b ∷ rest) _ r)
 
 pub not_begun : (before after : Option Files) (node : List ℕ) (from : Option (List ℕ)) (out : List ℕ) (o : Obc) → IsMachine node o → (line : List ℕ) (status : ℕ) → NotBegun before o node from line status → status ≢ 0 → after ≡ before →

@@ -74,7 +74,7 @@ pub data NotRestored (files : Option Files) (o : Obc) (node mem : List ℕ) : Li
   no_memory : NotRestored files o node mem [] 6
   unread : NotRestored files o node mem [] 4
   too_long : GivesMoreThan files mem (most Text) → NotRestored files o node mem (too_long_line Text) 1
-  refused : {text : List ℕ} (cause : MemErr) → Gives files mem text → RefusesCheckpoint o node text cause → NotRestored files o node mem (checkpoint_line cause) 9
+  refused : (text : List ℕ) (cause : MemErr) → Gives files mem text → RefusesCheckpoint o node text cause → NotRestored files o node mem (checkpoint_line cause) 9
   line_failed : {status : ℕ} (line : List ℕ) (b : ℕ) (rest : List ℕ) → NotRestored files o node mem (line ++ b ∷ rest) status → NotRestored files o node mem line 5
 
 -- whatever file holds the text

@@ -1,5 +1,5 @@
 -- What `save` and `resume` do, and why: a row for each cause.
-use Rattle.std.specs.Prelude.{◌≡◌, ◌≢◌, ℕ, true, List, [], ◌∷◌, ◌++◌, codes, Option, None, Some}
+use Rattle.std.specs.Prelude.{◌≡◌, ◌≢◌, ℕ, true, false, List, [], ◌∷◌, ◌++◌, codes, Option, None, Some}
 use Rattle.hp_base.specs.Limits.{most}
 use Rattle.hp_base.specs.declared.limit.What.TheVariants.{Text}
 use Rattle.hp_controlled.specs.Chosen.{IsChosen}
@@ -70,7 +70,7 @@ module _ (files : Option Files) (file node : List ℕ) (from : Option (List ℕ)
     -- the text of the checkpoint is longer than it may be
     long_checkpoint : {mem : List ℕ} {o : Obc} → from ≡ Some mem → IsRunnable files file node o → GivesMoreThan files mem (most Text) → Stops [] (too_long_line Text) 1
     -- the checkpoint is refused, by the first test that it fails
-    checkpoint_refused : {mem text : List ℕ} {o : Obc} (cause : MemErr) → from ≡ Some mem → IsRunnable files file node o → Gives files mem text → RefusesCheckpoint o node text cause →
+    checkpoint_refused : {mem : List ℕ} {o : Obc} (text : List ℕ) (cause : MemErr) → from ≡ Some mem → IsRunnable files file node o → Gives files mem text → RefusesCheckpoint o node text cause →
         Stops [] (checkpoint_line cause) 9
     -- the trace ended
     traced : {o : Obc} {memory : Memory} {s : System} {log : List Event} {line : List ℕ} {status : ℕ} → Begins files file node o from memory s → Traced s log line status → Stops log line status
@@ -79,7 +79,7 @@ module _ (files : Option Files) (file node : List ℕ) (from : Option (List ℕ)
 
 -- The memory behind the lines that were heard, from one of the machine of a name on.
 abbrev pub memory_after : Obc → List ℕ → Memory → List Event → Memory
-memory_after o node memory log = memory_behind (machine_behaviour o node) memory (inputs_until (inputs_of (of_machine o node)) 1 (lines_of true (heard log)))
+memory_after o node kept log = memory_behind (machine_behaviour o node) kept (inputs_until (inputs_of (of_machine o node)) 1 (lines_of true (heard log)))
 
 -- What happens, and what becomes of the files.
 module _ (before after : Option Files) (file node : List ℕ) (from : Option (List ℕ)) (out : List ℕ) where

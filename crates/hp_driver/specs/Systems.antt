@@ -31,24 +31,24 @@ abbrev pub inputs_of : System → List KindData
 inputs_of (of_node program node) = input_kinds program node
 inputs_of (of_machine o node) = machine_kinds (λ (m : Machine). m.inputs) o node
 inputs_of (that_tells ending o node) = machine_kinds (λ (m : Machine). m.inputs) o node
-inputs_of (from_memory o node memory) = machine_kinds (λ (m : Machine). m.inputs) o node
+inputs_of (from_memory o node kept) = machine_kinds (λ (m : Machine). m.inputs) o node
 
 abbrev pub outputs_of : System → List KindData
 outputs_of (of_node program node) = output_kinds program node
 outputs_of (of_machine o node) = machine_kinds (λ (m : Machine). m.outputs) o node
 outputs_of (that_tells ending o node) = machine_kinds (λ (m : Machine). m.outputs) o node
-outputs_of (from_memory o node memory) = machine_kinds (λ (m : Machine). m.outputs) o node
+outputs_of (from_memory o node kept) = machine_kinds (λ (m : Machine). m.outputs) o node
 
 -- the line of some outputs
 abbrev pub line_in : System → List Value → List ℕ
 line_in (of_node program node) outputs = line_of (output_kinds program node) outputs
 line_in (of_machine o node) outputs = line_of (machine_kinds (λ (m : Machine). m.outputs) o node) outputs
 line_in (that_tells ending o node) outputs = told_line ending (machine_kinds (λ (m : Machine). m.outputs) o node) outputs
-line_in (from_memory o node memory) outputs = line_of (machine_kinds (λ (m : Machine). m.outputs) o node) outputs
+line_in (from_memory o node kept) outputs = line_of (machine_kinds (λ (m : Machine). m.outputs) o node) outputs
 
 -- Over these inputs it gives these outputs, some for each instant: those of the node's one run, in each reaction of which each instance keeps its contract, at every depth; or of the steps from a reset, or from the memory, on.
 abbrev pub Gives : System → List (List Value) → List (List Value) → Type 0
 Gives (of_node program node) inputs outputs = IsRun program node inputs outputs × KeepsContracts program node inputs
 Gives (of_machine o node) inputs outputs = outputs ≡ run (machine_behaviour o node) inputs
 Gives (that_tells ending o node) inputs outputs = outputs ≡ run (machine_behaviour o node) inputs
-Gives (from_memory o node memory) inputs outputs = outputs ≡ outputs_from (machine_behaviour o node) memory inputs
+Gives (from_memory o node kept) inputs outputs = outputs ≡ outputs_from (machine_behaviour o node) kept inputs
