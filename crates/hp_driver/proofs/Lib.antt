@@ -27,3 +27,5 @@ pub mod ContractCalls
 pub mod PastCalls
 pub mod WrittenCertificates
 pub mod StatusLaws
+pub mod CheckpointLaws
+pub mod SegmentLaws

@@ -20,7 +20,7 @@ use Rattle.hp_obctext.specs.declared.memory.error.MemErr.TheVariants as error
 use Rattle.law_decided.specs.Promised.{RunLaw}
 use Rattle.law_history.specs.Streams.Texts.{TextLaw}
 use Rattle.hp_driver.specs.Checkpoints.{IsCheckpointOf, RefusesCheckpoint, memory_behind}
-use Rattle.hp_driver.specs.Command.{IsRunOf, IsSegmentOf}
+use Rattle.hp_driver.specs.Command.{IsNoSegment, IsRunOf, IsSegmentOf}
 use Rattle.hp_driver.specs.Course.{Takes}
 use Rattle.hp_driver.specs.Executing.{HasBehaviour, executing, step_of}
 use Rattle.hp_driver.specs.Given.{Gives}
@@ -219,3 +219,9 @@ segment_leaves words before after file node from out w log line status (SegmentR
 pub segment_call : (words : List (List ℕ)) (before after : Option Files) (file node : List ℕ) (from : Option (List ℕ)) (out : List ℕ) → IsSegmentOf words file node from out →
     (log : List Event) (line : List ℕ) (status : ℕ) → SegmentRun before after file node from out log line status → CallOutcome words before after log line status
 segment_call words before after file node from out w log line status r = CallOutcome.segment (record { file = file; node = node; from = from; out = out; asked = w; ran = r })
+
+-- what happens where the words ask for no such run
+pub command_outcome : (words : List (List ℕ)) (before after : Option Files) (log : List Event) (line : List ℕ) (status : ℕ) → IsNoSegment words → CallOutcome words before after log line status → Outcome words before log line status
+command_outcome words before after log line status none CallOutcome.no_memory = Outcome.no_memory
+command_outcome words before after log line status none (CallOutcome.command other outcome) = outcome
+command_outcome words before after log line status none (CallOutcome.segment s) = absurd (none s.file s.node s.from s.out s.asked)

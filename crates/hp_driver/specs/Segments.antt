@@ -13,7 +13,7 @@ use Rattle.hp_tree.specs.Programs.{Node}
 use Rattle.hp_driver.specs.Answers.{IsAnswer}
 use Rattle.hp_driver.specs.BadLines.{bad_line_line}
 use Rattle.hp_driver.specs.Checkpoints.{IsCheckpointOf, RefusesCheckpoint, memory_behind}
-use Rattle.hp_driver.specs.Command.{IsSegmentOf}
+use Rattle.hp_driver.specs.Command.{IsNoSegment, IsSegmentOf}
 use Rattle.hp_driver.specs.Controls.{has_controls}
 use Rattle.hp_driver.specs.Diagnostics.{checkpoint_line, too_long_line}
 use Rattle.hp_driver.specs.Given.{Gives, GivesMoreThan}
@@ -99,7 +99,9 @@ pub record SegmentOutcome (words : List (List ℕ)) (before after : Option Files
   pub asked : IsSegmentOf words file node from out
   pub ran : SegmentRun before after file node from out log line status
 
--- What a call does, and why: that of a command which leaves no checkpoint, or that of one which does.
-pub data CallOutcome (words : List (List ℕ)) (before after : Option Files) (log : List Event) (line : List ℕ) (status : ℕ) : Type 0 where
-  command : Outcome words before log line status → CallOutcome words before after log line status
-  segment : SegmentOutcome words before after log line status → CallOutcome words before after log line status
+-- What a call does, and why: a row for each cause, of the commands that leave no checkpoint and of those that do.
+pub data CallOutcome (words : List (List ℕ)) (before after : Option Files) : List Event → List ℕ → ℕ → Type 0 where
+  -- there was no memory for the words
+  no_memory : CallOutcome words before after [] [] 6
+  command : {log : List Event} {line : List ℕ} {status : ℕ} → IsNoSegment words → Outcome words before log line status → CallOutcome words before after log line status
+  segment : {log : List Event} {line : List ℕ} {status : ℕ} → SegmentOutcome words before after log line status → CallOutcome words before after log line status

@@ -3,7 +3,6 @@ use Rattle.std.specs.String.{string_bytes}
 use Rattle.std.proofs.lemmas.Option.{MatchOption-at_some}
 use Rattle.hp_io.proofs.ToldLaws.{Grows-nil}
 use Rattle.hp_driver.specs.Leaves.{Leaves}
-use Rattle.hp_driver.specs.Outcome.{Outcome}
 use Rattle.hp_driver.specs.Segments.{CallOutcome}
 use Rattle.hp_driver.proofs.RanLaws.{heard_nothing}
 use Rattle.hp_driver.proofs.ReadingLaws.{read_none}
@@ -13,7 +12,7 @@ pub returns-in_default : goal.returns-in_default
 returns-in_default g c =
     let words = map string_bytes c.args.words.now in
     record {
-      outcome = ([], [], Grows-nil (g.C.Console.events c.args.console.now), heard_nothing (g.C.Console.left c.args.console.now), Grows-nil (g.E.Sink.took c.args.diag.now), CallOutcome.command Outcome.no_memory);
+      outcome = ([], [], Grows-nil (g.C.Console.events c.args.console.now), heard_nothing (g.C.Console.left c.args.console.now), Grows-nil (g.E.Sink.took c.args.diag.now), CallOutcome.no_memory);
       leaves = Leaves.as_they_were refl (λ out w h. omega (arith, h));
       readings = read_none words (g.F.Folder.reads c.args.files.now).gave;
       reads = (search rules, search rules);

@@ -5,7 +5,6 @@ use Rattle.hp_io.proofs.FaultLaws.{AllSame-refl}
 use Rattle.hp_io.proofs.ToldLaws.{Grows-nil}
 use Rattle.hp_driver.specs.Command.{IsSweepOf}
 use Rattle.hp_driver.specs.Leaves.{Leaves}
-use Rattle.hp_driver.specs.Outcome.{Outcome}
 use Rattle.hp_driver.specs.Segments.{CallOutcome}
 use Rattle.hp_driver.specs.Status.{code_of}
 use Rattle.hp_driver.proofs.MachineLaws.{sweep_leaves}
@@ -17,7 +16,7 @@ pub returns-in_default : goal.returns-in_default
 returns-in_default g c =
     let words = map string_bytes c.args.words.now in
     record {
-      outcome = ([], [], Grows-nil (g.C.Console.events c.args.console.now), heard_nothing (g.C.Console.left c.args.console.now), Grows-nil (g.E.Sink.took c.args.diag.now), CallOutcome.command Outcome.no_memory);
+      outcome = ([], [], Grows-nil (g.C.Console.events c.args.console.now), heard_nothing (g.C.Console.left c.args.console.now), Grows-nil (g.E.Sink.took c.args.diag.now), CallOutcome.no_memory);
       leaves = Leaves.as_they_were refl (λ out w h. omega (arith, h));
       readings = read_none words (g.F.Folder.reads c.args.files.now).gave;
       reads = (search rules, search rules);
@@ -34,7 +33,7 @@ returns-in-Some g c =
     let ran = c.run_sweep.ensures.outcome in
     let faults = c.run_sweep.ensures.puts in
     record {
-      outcome = (ran.0, ran.1, ran.2, ran.3, ran.4, CallOutcome.command (ran.5 words files w));
+      outcome = (ran.0, ran.1, ran.2, ran.3, ran.4, CallOutcome.command c.requires (ran.5 words files w));
       leaves = sweep_leaves words sweep.tasks sweep.instants files status w;
       readings = read_none words (g.F.Folder.reads c.args.files.now).gave;
       reads = (λ h. absurd (c.run_sweep.ensures.status h), λ h. (AllSame-refl (g.F.Folder.reads c.args.files.now).faults, c.run_sweep.ensures.takes));
