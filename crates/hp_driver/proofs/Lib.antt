@@ -29,3 +29,4 @@ pub mod WrittenCertificates
 pub mod StatusLaws
 pub mod CheckpointLaws
 pub mod SegmentLaws
+pub mod JoinedLaws

@@ -2,11 +2,17 @@
 use Rattle.std.proofs.Common.{◌≡◌, ◌≢◌, ℕ, ◌⊎◌, inl, inr, true, List, [], ◌∷◌, ◌++◌, length, None, Some, refl, sym, ap, subst, ◌∙◌, arith}
 use Rattle.std.specs.Prelude.{Option, IsSome, is_some, Ok, Err, Result}
 use Rattle.hp_base.specs.Kinds.{AreOfKinds, kinds_of}
+use Rattle.hp_base.specs.Limits.{most}
+use Rattle.hp_base.specs.declared.limit.What.TheVariants.{Size}
 use Rattle.hp_base.specs.declared.value.Value.{Value}
 use Rattle.hp_exec.specs.Answers.{Executes}
 use Rattle.hp_exec.specs.Executors.{Executor, Runs, IsKindedBy, kept}
 use Rattle.hp_exec.specs.Layouts.{flattened, flat_kinds}
+use Rattle.hp_io.specs.Faults.{Faults, Rose}
 use Rattle.hp_io.specs.Files.{Files}
+use Rattle.hp_io.specs.Reads.{Reading}
+use Rattle.hp_io.specs.Told.{Grows}
+use Rattle.hp_io.proofs.ToldLaws.{Grows-trans}
 use Rattle.hp_io.specs.declared.console.Event.{Event}
 use Rattle.hp_obc.specs.Form.{TypesForm, machine_named}
 use Rattle.hp_obc.specs.Kinded.{machine_keeps}
@@ -20,16 +26,18 @@ use Rattle.hp_obctext.specs.declared.memory.error.MemErr.TheVariants as error
 use Rattle.law_decided.specs.Promised.{RunLaw}
 use Rattle.law_history.specs.Streams.Texts.{TextLaw}
 use Rattle.hp_driver.specs.Checkpoints.{IsCheckpointOf, RefusesCheckpoint, memory_behind}
-use Rattle.hp_driver.specs.Command.{IsNoSegment, IsRunOf, IsSegmentOf}
+use Rattle.hp_driver.specs.Command.{IsNoSegment, IsOver, IsOverSource, IsRunOf, IsSegmentOf, ReadsFirst, ReadsSource, Writes}
 use Rattle.hp_driver.specs.Course.{Takes}
 use Rattle.hp_driver.specs.Executing.{HasBehaviour, executing, step_of}
-use Rattle.hp_driver.specs.Given.{Gives}
-use Rattle.hp_driver.specs.Leaves.{Leaves}
+use Rattle.hp_driver.specs.Diagnostics.{too_long_line}
+use Rattle.hp_driver.specs.Given.{Gives, GivesMoreThan}
+use Rattle.hp_driver.specs.Leaves.{Leaves, ReadRose, WriteRose}
 use Rattle.hp_driver.specs.Lines.{whole_lines, lines_of}
 use Rattle.hp_driver.specs.Log.{heard, said, has_ended}
 use Rattle.hp_driver.specs.Outcome.{Outcome, IsMachine}
-use Rattle.hp_driver.specs.Ran.{Ran}
-use Rattle.hp_driver.specs.Restoring.{IsBegun, KeepsRun, NotBegun, NotRestored, SegmentOfMachines, StandsFor}
+use Rattle.hp_driver.specs.Ran.{Ran, ReportsOrNot}
+use Rattle.hp_driver.specs.Readings.{AreReadings}
+use Rattle.hp_driver.specs.Restoring.{IsBegun, KeepsRun, NotBegun, NotRestored, ReadsFrom, RoseInRead, SegmentOfMachines, StandsFor}
 use Rattle.hp_driver.specs.Segments.{AreRun, Begins, CallOutcome, IsRunnable, SegmentOutcome, SegmentRun, Stops, Traced, memory_after, run_words}
 use Rattle.hp_driver.specs.Systems.{System, of_machine, from_memory, inputs_of}
 use Rattle.hp_driver.specs.Trace.{Machine}
@@ -38,8 +46,9 @@ use Rattle.hp_driver.specs.WrittenText.{WritesText}
 use Rattle.hp_driver.proofs.CheckpointLaws.{has_flat, keeps_found}
 use Rattle.hp_driver.proofs.ExecutionLaws.{few_of_signature, ins_are, kept_through, kinds_through, left_by_lines, refuses_lines, runs_through, says_outputs, signature_through}
 use Rattle.hp_driver.proofs.HistoryLaws.{keeping, node_mirrors, runs_node}
-use Rattle.hp_driver.proofs.MachineLaws.{machine_mirrors}
-use Rattle.hp_driver.proofs.OutcomeLaws.{Mirrors, answers, in_lockstep, refuses}
+use Rattle.hp_driver.proofs.MachineLaws.{machine_mirrors, not_done_or_not}
+use Rattle.hp_driver.proofs.OutcomeLaws.{Mirrors, answers, in_lockstep, refuses, told_or_not}
+use Rattle.hp_driver.proofs.ReadingLaws.{HasRead}
 use Rattle.hp_driver.proofs.SpellingLaws.{AllOfKinds, all_of_kinds, steps_through}
 use Rattle.hp_lines.specs.Values.{HaveFewConstructors}
 
@@ -225,3 +234,36 @@ pub command_outcome : (words : List (List ℕ)) (before after : Option Files) (l
 command_outcome words before after log line status none CallOutcome.no_memory = Outcome.no_memory
 command_outcome words before after log line status none (CallOutcome.command other outcome) = outcome
 command_outcome words before after log line status none (CallOutcome.segment s) = absurd (none s.file s.node s.from s.out s.asked)
+
+-- the source is not read, or is too long
+pub not_run_call : (words : List (List ℕ)) (before after : Option Files) (file node : List ℕ) (from : Option (List ℕ)) (out : List ℕ) → IsSegmentOf words file node from out → (line : List ℕ) (status : ℕ) →
+    Outcome (run_words file node) before [] line status → status ≢ 0 → after ≡ before → CallOutcome words before after [] line status
+not_run_call words before after file node from out w line status o fails same = segment_call words before after file node from out w [] line status (SegmentRun.stopped (Stops.not_run o) fails same)
+
+reads_source : (words : List (List ℕ)) (file node : List ℕ) (from : Option (List ℕ)) (out : List ℕ) → IsSegmentOf words file node from out → ReadsSource (run_words file node) file
+reads_source words file node from out w = ReadsSource.of_program (IsOverSource.to_run (as_run words file node from out w))
+
+pub unread_source : (words : List (List ℕ)) (before after : Option Files) (file node : List ℕ) (from : Option (List ℕ)) (out : List ℕ) → IsSegmentOf words file node from out → after ≡ before → CallOutcome words before after [] [] 4
+unread_source words before after file node from out w same =
+    not_run_call words before after file node from out w [] 4 (Outcome.unread (ReadsFirst.a_source (reads_source words file node from out w))) (λ h. omega (arith, h)) same
+
+pub long_source : (words : List (List ℕ)) (before after : Option Files) (file node : List ℕ) (from : Option (List ℕ)) (out : List ℕ) → IsSegmentOf words file node from out → GivesMoreThan before file (most Size) → after ≡ before →
+    (took told : Option (List ℕ)) (result : ℕ) → ReportsOrNot took told (too_long_line Size) 1 result → (line : List ℕ) × Grows took told line × CallOutcome words before after [] line result
+long_source words before after file node from out w long same took told result reports =
+    let run = run_words file node in
+    let found = told_or_not (Outcome run before []) (λ line b rest status r. Outcome.line_failed line b rest r) Outcome.no_memory took told (too_long_line Size) 1 result reports (Outcome.too_long (reads_source words file node from out w) long) in
+    (found.0, found.1, not_run_call words before after file node from out w found.0 result found.2 (not_done_or_not took told (too_long_line Size) result reports) same)
+
+-- what was read, and where a read or a write failed
+pub segment_read : (words : List (List ℕ)) (file node : List ℕ) (from : Option (List ℕ)) (out : List ℕ) → IsSegmentOf words file node from out → (first before after : Option (List Reading)) →
+    Grows first before ((file, most Size) ∷ []) → ReadsFrom from before after → HasRead words first after
+segment_read words file node None out w first before after grew same = (_, subst (λ told. Grows first told ((file, most Size) ∷ [])) (sym same) grew, AreReadings.a_segment w)
+segment_read words file node (Some mem) out w first before after grew (inl same) = (_, subst (λ told. Grows first told ((file, most Size) ∷ [])) (sym same) grew, AreReadings.a_segment w)
+segment_read words file node (Some mem) out w first before after grew (inr more) = (_, Grows-trans first before after _ _ grew more, AreReadings.a_checkpoint w)
+
+pub segment_read_rose : (words : List (List ℕ)) (file node : List ℕ) (from : Option (List ℕ)) (out : List ℕ) → IsSegmentOf words file node from out → (before after : List ℕ → Faults) → RoseInRead from before after → ReadRose words before after
+segment_read_rose words file node None out w before after rose = absurd rose
+segment_read_rose words file node (Some mem) out w before after rose = record { file = mem; asked = IsOver.a_checkpoint w; rose = rose }
+
+pub segment_write_rose : (words : List (List ℕ)) (file node : List ℕ) (from : Option (List ℕ)) (out : List ℕ) → IsSegmentOf words file node from out → (before after : List ℕ → Faults) → Rose (before out) (after out) → WriteRose words before after
+segment_write_rose words file node from out w before after rose = record { out = out; asked = Writes.a_checkpoint w; rose = rose }

@@ -21,6 +21,7 @@ pub mod Checkpoints
 pub mod WrittenText
 pub mod Segments
 pub mod Restoring
+pub mod Joined
 pub mod GoodCalls
 pub mod Ran
 pub mod Follows
