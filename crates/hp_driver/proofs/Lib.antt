@@ -30,3 +30,4 @@ pub mod StatusLaws
 pub mod CheckpointLaws
 pub mod SegmentLaws
 pub mod JoinedLaws
+pub mod SegmentWords
