@@ -31,3 +31,4 @@ pub mod CheckpointLaws
 pub mod SegmentLaws
 pub mod JoinedLaws
 pub mod SegmentWords
+pub mod RunnableLaws

@@ -1,5 +1,5 @@
 -- From the machine that is run, its memory and its trace to what `save` and `resume` did.
-use Rattle.std.proofs.Common.{◌≡◌, ◌≢◌, ℕ, ◌⊎◌, inl, inr, true, List, [], ◌∷◌, ◌++◌, length, None, Some, refl, sym, ap, subst, ◌∙◌, arith}
+use Rattle.std.proofs.Common.{◌≡◌, ◌≢◌, ℕ, ◌⊎◌, inl, inr, true, false, List, [], ◌∷◌, ◌++◌, length, None, Some, refl, sym, ap, subst, ◌∙◌, arith}
 use Rattle.std.specs.Prelude.{Option, IsSome, is_some, Ok, Err, Result}
 use Rattle.hp_base.specs.Kinds.{AreOfKinds, kinds_of}
 use Rattle.hp_base.specs.Limits.{most}

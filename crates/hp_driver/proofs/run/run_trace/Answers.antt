@@ -8,7 +8,7 @@ use Rattle.hp_driver.proofs.run.run_trace.Goals as goal
 
 pub returns-in_default-clause-ran : goal.returns-in_default-clause-ran
 returns-in_default-clause-ran g c =
-    ([], [], Grows-nil (g.C.Console.events c.args.console.now), heard_nothing (g.C.Console.left c.args.console.now), Grows-nil (g.E.Sink.took c.args.diag.now), (Ran.no_memory, λ done. omega (arith, done)))
+    ([], [], Grows-nil (g.C.Console.events c.args.console.now), heard_nothing (g.C.Console.left c.args.console.now), Grows-nil (g.E.Sink.took c.args.diag.now), (Ran.no_memory, λ done. absurd (omega (arith, done))))
 
 pub returns-in-Done-clause-ran : goal.returns-in-Done-clause-ran
 returns-in-Done-clause-ran g c =
@@ -26,9 +26,9 @@ returns-in-Refused-clause-ran g c =
 pub returns-in-TakeFailed-clause-ran : goal.returns-in-TakeFailed-clause-ran
 returns-in-TakeFailed-clause-ran g c =
     let k = c.in-TakeFailed.ensures.course in
-    (k.0, [], k.1, k.2, Grows-nil (g.E.Sink.took c.args.diag.now), (Ran.take_failed k.3, λ done. omega (arith, done)))
+    (k.0, [], k.1, k.2, Grows-nil (g.E.Sink.took c.args.diag.now), (Ran.take_failed k.3, λ done. absurd (omega (arith, done))))
 
 pub returns-clause-ran : goal.returns-clause-ran
 returns-clause-ran g c =
     let k = c.in-PutFailed.ensures.course in
-    (k.0, [], k.1, k.2, Grows-nil (g.E.Sink.took c.args.diag.now), (Ran.put_failed k.3, λ done. omega (arith, done)))
+    (k.0, [], k.1, k.2, Grows-nil (g.E.Sink.took c.args.diag.now), (Ran.put_failed k.3, λ done. absurd (omega (arith, done))))

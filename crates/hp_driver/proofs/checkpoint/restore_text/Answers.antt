@@ -1,0 +1,33 @@
+use Rattle.std.proofs.Common.{[], sym, subst, rules, ◌≡◌, ◌∙◌}
+use Rattle.hp_io.proofs.ToldLaws.{Grows-nil}
+use Rattle.hp_obc.specs.Kinded.{machine_keeps}
+use Rattle.hp_obc.specs.Steps.{machine_behaviour}
+use Rattle.hp_obctext.specs.MemoryKinds.{AreOfTypes, memory_text}
+use Rattle.hp_driver.specs.Diagnostics.{checkpoint_line}
+use Rattle.hp_driver.specs.Restoring.{NotRestored, NotRestoredFrom, StandsFor}
+use Rattle.hp_driver.specs.Status.{code_of}
+use Rattle.hp_driver.proofs.OutcomeLaws.{told_or_not}
+use Rattle.hp_driver.proofs.SegmentLaws.{of_types, refused_checkpoint}
+use Rattle.hp_driver.proofs.checkpoint.restore_text.Goals as goal
+
+pub returns-in_default-clause-told : goal.returns-in_default-clause-told
+returns-in_default-clause-told g c = ([], Grows-nil (g.E.Sink.took c.args.diag.now), λ files mem gives. NotRestored.no_memory)
+
+pub read_memory-requires-clause-kinds : goal.read_memory-requires-clause-kinds
+read_memory-requires-clause-kinds g c = subst (AreOfTypes c.args.machines.now.types) (sym c.memory-2.ensures.values) (of_types c.args.machines.now c.args.node.now c.args.exec.now c.requires.stands)
+
+pub returns-in-Ok-read_memory-clause-stands : goal.returns-in-Ok-read_memory-clause-stands
+returns-in-Ok-read_memory-clause-stands g c = ?
+
+pub returns-in-Ok-read_memory-clause-memory : goal.returns-in-Ok-read_memory-clause-memory
+returns-in-Ok-read_memory-clause-memory g c = ?
+
+pub returns-clause-told : goal.returns-clause-told
+returns-clause-told g c =
+    let o = c.args.machines.now in
+    let node = c.args.node.now in
+    let text = c.args.text.now in
+    let cause = c.in-Err.error in
+    told_or_not (NotRestoredFrom o node text) (λ line b rest status f files mem gives. NotRestored.line_failed line b rest (f files mem gives)) (λ files mem gives. NotRestored.no_memory) (g.E.Sink.took c.args.diag.now) (g.E.Sink.took c.report_checkpoint.new.diag)
+    (checkpoint_line cause) 9 (code_of c.report_checkpoint.result) c.report_checkpoint.ensures.reports
+    (λ files mem gives. NotRestored.refused text cause gives (refused_checkpoint o node text c.args.exec.now cause c.requires.stands c.in-Err.ensures.refused ?))
