@@ -155,7 +155,7 @@ fn choosing(
     }
     let name = named(alloc, &node.name, b"$ctl")?;
     let gates = first_gate(&watched.node, m)?;
-    let mut node = controlled(
+    let node = controlled(
         alloc,
         watched.node,
         m,
@@ -164,9 +164,20 @@ fn choosing(
         &watched.late,
         &chosen,
     )?;
+    told(alloc, node, gates, abstraction)
+}
+
+/// The node with what is assumed and enforced, of which the gates stand from a variable on. Its equations have their places, so that those of each part of it have.
+fn told(
+    alloc: Global,
+    mut node: FlatNode,
+    gates: usize,
+    abstraction: &Abstraction,
+) -> Result<Chosen, ControlledErr> {
     // One gate may be both, and an output stands once.
     let assume = add_copy(alloc, behind(gates, abstraction.assume)?, &mut node)?;
     let enforce = add_copy(alloc, behind(gates, abstraction.enforce)?, &mut node)?;
+    let node = ordered(alloc, node)?;
     Ok(Chosen {
         node,
         assume,
@@ -185,16 +196,11 @@ fn first_gate(node: &FlatNode, m: &BoolMachine) -> Result<usize, AllocError> {
     behind(control, usize::from(m.counts.control))
 }
 
-/// Adds the machine of a node whose equations have no places in an order yet.
-fn add_ordered(
-    alloc: Global,
-    types: &[ObcType],
-    mut node: FlatNode,
-    machines: &mut Vec<Machine>,
-) -> Result<(), ControlledErr> {
+/// A node whose equations have their places: those that an equation reads stand before it.
+fn ordered(alloc: Global, mut node: FlatNode) -> Result<FlatNode, ControlledErr> {
     let variables = node.variables.len();
     order_eqns(alloc, variables, &mut node.eqns)?;
-    add_machine(alloc, types, node, machines)
+    Ok(node)
 }
 
 /// Adds the machine of a node whose equations have their places.
@@ -224,14 +230,14 @@ fn add_chosen(
             node.name.copy(alloc)?,
             &chosen.node.outputs,
         )?;
-        add_ordered(alloc, types, own, machines)?;
+        add_machine(alloc, types, own, machines)?;
     }
     let mut outputs = Vec::from_slice(alloc, &chosen.node.outputs)?;
     outputs.push(chosen.assume)?;
     outputs.push(chosen.enforce)?;
     let name = named(alloc, &node.name, b"$contract")?;
     let telling = part_of(alloc, &chosen.node, name, &outputs)?;
-    add_ordered(alloc, types, telling, machines)
+    add_machine(alloc, types, telling, machines)
 }
 
 /// Adds the machines of a node that has a contract: that of its controller, its own, and the one that also tells what is assumed and enforced. A node without controllable
