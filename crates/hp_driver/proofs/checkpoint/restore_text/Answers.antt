@@ -25,7 +25,7 @@ returns-in-Ok-read_memory-clause-stands g c =
     let node = c.args.node.now in
     let old = c.args.exec.now in
     let h = c.requires.stands in
-    let place : c.read_memory.new.into ≡ c.as_slice.result.now = search rules in
+    let place : c.read_memory.new.into ≡ c.as_slice.result.now = sym c.as_slice.ensures.value in
     let kinds = ap (kinds_at o.types) c.memory-2.ensures.values ∙ kinds_are o node old h in
     let fit = subst (λ values. AreOfKinds (flat_kinds (machine_keeps o node)) values) place (subst (λ ks. AreOfKinds ks c.read_memory.new.into) kinds c.in-Ok-read_memory.ensures.values) in
     stands_loaded o node old c.load.new.self h c.load.ensures.signature (c.load.ensures.runs (machine_behaviour o node) h.runs) (c.load.ensures.kinds (machine_behaviour o node) (machine_keeps o node) h.runs h.kinds fit)
@@ -34,7 +34,7 @@ pub returns-in-Ok-read_memory-clause-memory : goal.returns-in-Ok-read_memory-cla
 returns-in-Ok-read_memory-clause-memory g c =
     let o = c.args.machines.now in
     let node = c.args.node.now in
-    let place : c.read_memory.new.into ≡ c.as_slice.result.now = search rules in
+    let place : c.read_memory.new.into ≡ c.as_slice.result.now = sym c.as_slice.ensures.value in
     let values : c.load.new.self.values ≡ c.as_slice.result.now = ap (λ (e : Executor). e.values) c.load.ensures.loaded in
     is_checkpoint o node c.load.new.self (returns-in-Ok-read_memory-clause-stands g c) c.args.text.now (c.in-Ok-read_memory.ensures.text ∙ ap (memory_text o.types node) (place ∙ sym values))
 
