@@ -43,7 +43,7 @@ _hept() {
     COMPREPLY=()
     compopt -o filenames 2>/dev/null
     if [[ $COMP_CWORD == 1 ]]; then
-        COMPREPLY=($(compgen -W "check run compile exec prove verify sweep past" -- "$cur"))
+        COMPREPLY=($(compgen -W "check run compile exec prove verify sweep past save resume" -- "$cur"))
         return
     fi
     for ((i = 2; i < COMP_CWORD; i++)); do
@@ -66,7 +66,7 @@ _hept_tool() {
     esac
     if [[ ${1##*/} == hept-explain ]]; then
         if [[ $COMP_CWORD == 1 ]]; then
-            COMPREPLY=($(compgen -W "check run compile exec prove verify sweep past E1 E2 E3 E4 E5 E6 E7 E8 E9 E10 E11 E12 L1 L2 L3 L4 K1 K2 K3 O1 O2 usage $options" -- "$cur") $(_hept_files "$cur" ept obc))
+            COMPREPLY=($(compgen -W "check run compile exec prove verify sweep past save resume E1 E2 E3 E4 E5 E6 E7 E8 E9 E10 E11 E12 L1 L2 L3 L4 K1 K2 K3 O1 O2 M1 M2 usage $options" -- "$cur") $(_hept_files "$cur" ept obc))
         else
             _hept
         fi

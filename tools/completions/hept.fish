@@ -17,14 +17,16 @@ function __hept_given
 end
 
 complete -c hept -f
-complete -c hept -n 'not __fish_seen_subcommand_from check run compile exec prove verify sweep past' -a check -d 'reads a program and says accepted'
-complete -c hept -n 'not __fish_seen_subcommand_from check run compile exec prove verify sweep past' -a run -d 'runs a node'
-complete -c hept -n 'not __fish_seen_subcommand_from check run compile exec prove verify sweep past' -a compile -d 'writes the program as machines'
-complete -c hept -n 'not __fish_seen_subcommand_from check run compile exec prove verify sweep past' -a exec -d 'reads such a text of machines'
-complete -c hept -n 'not __fish_seen_subcommand_from check run compile exec prove verify sweep past' -a prove -d 'decides the contract of a node'
-complete -c hept -n 'not __fish_seen_subcommand_from check run compile exec prove verify sweep past' -a verify -d 'checks a certificate'
-complete -c hept -n 'not __fish_seen_subcommand_from check run compile exec prove verify sweep past' -a sweep -d 'makes a program of 1 to 8 tasks with a contract'
-complete -c hept -n 'not __fish_seen_subcommand_from check run compile exec prove verify sweep past' -a past -d 'writes the program to OUT'
+complete -c hept -n 'not __fish_seen_subcommand_from check run compile exec prove verify sweep past save resume' -a check -d 'reads a program and says accepted'
+complete -c hept -n 'not __fish_seen_subcommand_from check run compile exec prove verify sweep past save resume' -a run -d 'runs a node'
+complete -c hept -n 'not __fish_seen_subcommand_from check run compile exec prove verify sweep past save resume' -a compile -d 'writes the program as machines'
+complete -c hept -n 'not __fish_seen_subcommand_from check run compile exec prove verify sweep past save resume' -a exec -d 'reads such a text of machines'
+complete -c hept -n 'not __fish_seen_subcommand_from check run compile exec prove verify sweep past save resume' -a prove -d 'decides the contract of a node'
+complete -c hept -n 'not __fish_seen_subcommand_from check run compile exec prove verify sweep past save resume' -a verify -d 'checks a certificate'
+complete -c hept -n 'not __fish_seen_subcommand_from check run compile exec prove verify sweep past save resume' -a sweep -d 'makes a program of 1 to 8 tasks with a contract'
+complete -c hept -n 'not __fish_seen_subcommand_from check run compile exec prove verify sweep past save resume' -a past -d 'writes the program to OUT'
+complete -c hept -n 'not __fish_seen_subcommand_from check run compile exec prove verify sweep past save resume' -a save -d 'runs a node as run does'
+complete -c hept -n 'not __fish_seen_subcommand_from check run compile exec prove verify sweep past save resume' -a resume -d 'runs a node from the checkpoint MEM on'
 complete -c hept -n '__fish_seen_subcommand_from check; and test (__hept_given) = 0' -k -a '(__fish_complete_suffix .ept)'
 complete -c hept -n '__fish_seen_subcommand_from check' -l print
 complete -c hept -n '__fish_seen_subcommand_from run; and test (__hept_given) = 0' -k -a '(__fish_complete_suffix .ept)'
@@ -42,6 +44,11 @@ complete -c hept -n '__fish_seen_subcommand_from verify; and test (__hept_given)
 complete -c hept -n '__fish_seen_subcommand_from verify; and test (__hept_given) = 2' -F
 complete -c hept -n '__fish_seen_subcommand_from past; and test (__hept_given) = 0' -k -a '(__fish_complete_suffix .ept)'
 complete -c hept -n '__fish_seen_subcommand_from past; and test (__hept_given) = 1' -F
+complete -c hept -n '__fish_seen_subcommand_from save; and test (__hept_given) = 0' -k -a '(__fish_complete_suffix .ept)'
+complete -c hept -n '__fish_seen_subcommand_from save; and test (__hept_given) = 1' -a '(__hept_nodes)'
+complete -c hept -n '__fish_seen_subcommand_from resume; and test (__hept_given) = 0' -k -a '(__fish_complete_suffix .ept)'
+complete -c hept -n '__fish_seen_subcommand_from resume; and test (__hept_given) = 1' -a '(__hept_nodes)'
+complete -c hept -n '__fish_seen_subcommand_from resume; and test (__hept_given) = 1' -F
 # hept-explain explains a diagnostic, or runs hept and explains what it says
 complete -c hept-explain -l all
 complete -c hept-explain -l help
@@ -62,4 +69,4 @@ complete -c hept-try -l runs
 complete -c hept-try -l seed
 complete -c hept-try -l help
 complete -c hept-try -n 'test (count (commandline -opc)) -gt 1' -f -a '(__hept_nodes)'
-complete -c hept-explain -n 'test (count (commandline -opc)) = 1' -a 'check run compile exec prove verify sweep past E1 E2 E3 E4 E5 E6 E7 E8 E9 E10 E11 E12 L1 L2 L3 L4 K1 K2 K3 O1 O2 usage'
+complete -c hept-explain -n 'test (count (commandline -opc)) = 1' -a 'check run compile exec prove verify sweep past save resume E1 E2 E3 E4 E5 E6 E7 E8 E9 E10 E11 E12 L1 L2 L3 L4 K1 K2 K3 O1 O2 M1 M2 usage'

@@ -3,8 +3,8 @@ import re
 
 # the options that a command may have, and how many arguments it has
 OPTIONS = {'check': ['--print'], 'run': ['--contract']}
-ARGUMENTS = {'check': 1, 'run': 2, 'compile': 2, 'exec': 2, 'prove': 3, 'verify': 3, 'sweep': 2, 'past': 2}
-USAGE = 'usage: hept check run compile exec prove verify sweep past'
+ARGUMENTS = {'check': 1, 'run': 2, 'compile': 2, 'exec': 2, 'prove': 3, 'verify': 3, 'sweep': 2, 'past': 2, 'save': 3, 'resume': 4}
+USAGE = 'usage: hept check run compile exec prove verify sweep past save resume'
 
 
 def arguments(words):

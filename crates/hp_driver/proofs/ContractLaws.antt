@@ -113,7 +113,7 @@ module _ (task : Task) (program ordered : List Item) where
 
 module _ (law : OutcomesLaw) (program ordered : List Item) (kept : AreKept ordered ordered) where
   -- on their machines, and so in their games
-  in_games : (files : Option Files) (file : List ℕ) (held : IsHeld files file program) → held.clocked ≡ ordered → AreKeptInGames held.clocked
+  pub in_games : (files : Option Files) (file : List ℕ) (held : IsHeld files file program) → held.clocked ≡ ordered → AreKeptInGames held.clocked
   in_games files file held same = (are_said law files file program held).kept (subst (λ z. AreKept z z) (sym same) kept)
 
   -- the program is accepted

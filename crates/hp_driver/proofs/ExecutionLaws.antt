@@ -15,15 +15,18 @@ use Rattle.hp_lines.specs.Values.{HasFewConstructors, HaveFewConstructors, value
 use Rattle.hp_lines.specs.Words.{words}
 use Rattle.hp_lines.proofs.LineLaws.{as_many_values}
 use Rattle.hp_obc.specs.Form.{HasConstructors, TypesForm}
-use Rattle.hp_obc.specs.Kinded.{kinds_in}
-use Rattle.hp_obc.specs.Machines.{ObcType, Obc}
+use Rattle.hp_obc.specs.Kinded.{MemoryKinds, HasKinds, kinds_in}
+use Rattle.hp_obc.specs.Form.{machine_named}
+use Rattle.hp_obc.specs.Machines.{ObcType, Machine, Obc}
 use Rattle.hp_obc.specs.Steps.{Behaviour, outputs_from, machine_behaviour, run}
 use Rattle.hp_obc.specs.Values.{enum_from}
 use Rattle.hp_obc.specs.declared.machine.Var.{Var}
 use Rattle.hp_exec.specs.Answers.{Executes}
-use Rattle.hp_exec.specs.Executors.{Executor, Runs, IsKinded, answered, stepped, kept}
-use Rattle.hp_exec.specs.Signatures.{kind_in_file, ports_by}
+use Rattle.hp_exec.specs.Executors.{Executor, Runs, IsKinded, IsKindedBy, answered, stepped, kept}
+use Rattle.hp_exec.specs.Signatures.{kind_in_file, ports_by, signature_of}
 use Rattle.hp_driver.specs.Answers.{IsAnswer}
+use Rattle.hp_driver.specs.Checkpoints.{memory_behind}
+use Rattle.hp_driver.specs.Course.{Takes}
 use Rattle.hp_driver.specs.Executing.{executing, step_of, HasBehaviour}
 use Rattle.hp_driver.specs.Systems.{of_machine, that_tells, inputs_of, outputs_of}
 use Rattle.hp_driver.specs.Teller.{Teller, teller, telling, told_of}
@@ -32,7 +35,7 @@ use Rattle.hp_driver.specs.declared.telling.Ending.{Ending}
 use Rattle.hp_driver.specs.Trace.{said_to, refused_in}
 use Rattle.hp_driver.specs.Reader.{reader, reacts, stepped as read_and_step}
 use Rattle.hp_driver.specs.Values.{reading, inputs_until, first_bad}
-use Rattle.hp_driver.proofs.SpellingLaws.{AllOfKinds, all_of_kinds, says_inputs, refuses_first}
+use Rattle.hp_driver.proofs.SpellingLaws.{AllOfKinds, all_of_kinds, steps_through, says_inputs, refuses_first, takes_inputs}
 
 -- ---- a step
 
@@ -95,6 +98,37 @@ module _ (s : SignatureData) where
   stays : (e : Executor) (values : List Value) → AreOfKinds (kinds_of s.inputs) values → e.signature ≡ s → (step_of e values).1.signature ≡ s
   stays e values fit h = h
 
+-- the executor behind steps on inputs of its kinds
+module _ (b : Behaviour) where
+  pub runs_through : (e : Executor) (inputs : List (List Value)) → Runs e b → AllOfKinds (kinds_of e.signature.inputs) inputs → Runs (steps_through step_of e inputs) b
+  runs_through e [] h fit = h
+  runs_through e (values ∷ more) h fit =
+      let long : length values ≡ length e.signature.inputs = as_many_values (kinds_of e.signature.inputs) values fit.0 ∙ count_kinds e.signature.inputs in
+      runs_through (stepped e values) more (runs_on b e values h long) fit.1
+
+  pub kept_through : (e : Executor) (inputs : List (List Value)) → Runs e b → AllOfKinds (kinds_of e.signature.inputs) inputs → kept (steps_through step_of e inputs) ≡ memory_behind b (kept e) inputs
+  kept_through e [] h fit = refl
+  kept_through e (values ∷ more) h fit =
+      let long : length values ≡ length e.signature.inputs = as_many_values (kinds_of e.signature.inputs) values fit.0 ∙ count_kinds e.signature.inputs in
+      kept_through (stepped e values) more (runs_on b e values h long) fit.1 ∙ ap (λ m. memory_behind b m more) (kept_on b e values h long)
+
+  pub kinds_through : (keeps : MemoryKinds) (e : Executor) (inputs : List (List Value)) → Runs e b → IsKindedBy keeps e b → AllOfKinds (kinds_of e.signature.inputs) inputs →
+      IsKindedBy keeps (steps_through step_of e inputs) b
+  kinds_through keeps e [] h k fit = k
+  kinds_through keeps e (values ∷ more) h k fit =
+      let long : length values ≡ length e.signature.inputs = as_many_values (kinds_of e.signature.inputs) values fit.0 ∙ count_kinds e.signature.inputs in
+      let has : HasKinds keeps (kept (stepped e values)) = subst (HasKinds keeps) (sym (kept_on b e values h long)) (k.steps.kept_is (kept e) values k.has fit.0) in
+      kinds_through keeps (stepped e values) more (runs_on b e values h long) (record { has = has; steps = k.steps }) fit.1
+
+pub signature_through : (e : Executor) (inputs : List (List Value)) → (steps_through step_of e inputs).signature ≡ e.signature
+signature_through e [] = refl
+signature_through e (values ∷ more) = signature_through (stepped e values) more
+
+-- what lines leave that it takes
+pub left_by_lines : (e behind : Executor) (lines : List (List ℕ)) (said : List ℕ) → Takes executing e 1 lines said behind → behind ≡ steps_through step_of e (inputs_until (kinds_of e.signature.inputs) 1 lines)
+left_by_lines e behind lines said takes =
+    takes_inputs executing (kinds_of e.signature.inputs) step_of (λ d. d.signature ≡ e.signature) (reads e.signature) (stays e.signature) takes refl
+
 -- the same, where behind the outputs it is told what a contract assumes and enforces
 module _ (ending : Ending) where
   told_reactions : (b : Behaviour) (e : Executor) (inputs : List (List Value)) → Runs e b → AllOfKinds (kinds_of e.signature.inputs) inputs →
@@ -120,51 +154,67 @@ kinds-found : (types : List ObcType) (vars : List Var) → kinds_of (ports_by (k
 kinds-found types [] = refl
 kinds-found types (v ∷ vars) = ap (λ ks. kind_in_file types v.ty ∷ ks) (kinds-found types vars)
 
-module _ (o : Obc) (node : List ℕ) (e : Executor) (h : Executes o node e) where
-  ins_are : kinds_of e.signature.inputs ≡ inputs_of (of_machine o node)
+-- the executor has its signature
+module _ (o : Obc) (node : List ℕ) (e : Executor) (m : Machine) (named : machine_named o.machines node ≡ Some m) (signature : e.signature ≡ signature_of o.types m) where
+  pub ins_are : kinds_of e.signature.inputs ≡ inputs_of (of_machine o node)
   ins_are =
-      ap (λ (s : SignatureData). kinds_of s.inputs) h.signature ∙ kinds-found o.types h.machine.inputs
-      ∙ sym (ap (λ found. elim found [ None ↦ [] | Some m ↦ kinds_in o.types m.inputs ]) h.named)
+      ap (λ (s : SignatureData). kinds_of s.inputs) signature ∙ kinds-found o.types m.inputs
+      ∙ sym (ap (λ found. elim found [ None ↦ [] | Some x ↦ kinds_in o.types x.inputs ]) named)
 
-  outs_are : kinds_of e.signature.outputs ≡ outputs_of (of_machine o node)
+  pub outs_are : kinds_of e.signature.outputs ≡ outputs_of (of_machine o node)
   outs_are =
-      ap (λ (s : SignatureData). kinds_of s.outputs) h.signature ∙ kinds-found o.types h.machine.outputs
-      ∙ sym (ap (λ found. elim found [ None ↦ [] | Some m ↦ kinds_in o.types m.outputs ]) h.named)
+      ap (λ (s : SignatureData). kinds_of s.outputs) signature ∙ kinds-found o.types m.outputs
+      ∙ sym (ap (λ found. elim found [ None ↦ [] | Some x ↦ kinds_in o.types x.outputs ]) named)
 
+  -- it refuses the first line that has a fault
+  pub refuses_lines : (lines : List (List ℕ)) → refused_in executing e 1 lines ≡ first_bad (inputs_of (of_machine o node)) 1 lines
+  refuses_lines lines =
+      refuses_first executing (kinds_of e.signature.inputs) step_of (λ d. d.signature ≡ e.signature) (reads e.signature) (stays e.signature) 1 lines e refl
+      ∙ ap (λ kinds. first_bad kinds 1 lines) ins_are
+
+  -- what it says and keeps, from its memory on
+  module _ (b : Behaviour) (runs : Runs e b) where
+    pub says_outputs : (lines : List (List ℕ)) →
+        said_to executing e 1 lines ≡ flat_map (line_of (outputs_of (of_machine o node))) (outputs_from b (kept e) (inputs_until (inputs_of (of_machine o node)) 1 lines))
+    says_outputs lines =
+        let ins = kinds_of e.signature.inputs in
+        says_inputs executing ins step_of (λ d. d.signature ≡ e.signature) (reads e.signature) (stays e.signature) 1 lines e refl
+        ∙ reactions b e (inputs_until ins 1 lines) runs (all_of_kinds ins 1 lines)
+        ∙ (λ i. flat_map (line_of (outs_are i)) (outputs_from b (kept e) (inputs_until (ins_are i) 1 lines)))
+
+module _ (o : Obc) (node : List ℕ) (e : Executor) (h : Executes o node e) where
   pub machine_says : (lines : List (List ℕ)) → IsAnswer (of_machine o node) lines (said_to executing e 1 lines)
   machine_says lines =
       let b = machine_behaviour o node in
-      let ins = kinds_of e.signature.inputs in
       record {
         outputs = run b (inputs_until (inputs_of (of_machine o node)) 1 lines);
         run = refl;
-        said = says_inputs executing ins step_of (λ d. d.signature ≡ e.signature) (reads e.signature) (stays e.signature) 1 lines e refl
-            ∙ reactions b e (inputs_until ins 1 lines) h.runs (all_of_kinds ins 1 lines)
-            ∙ (λ i. flat_map (line_of (outs_are i)) (outputs_from b (h.fresh i) (inputs_until (ins_are i) 1 lines)));
+        said = says_outputs o node e h.machine h.named h.signature b h.runs lines
+            ∙ ap (λ kept. flat_map (line_of (outputs_of (of_machine o node))) (outputs_from b kept (inputs_until (inputs_of (of_machine o node)) 1 lines))) h.fresh;
       }
 
   pub machine_refuses : (lines : List (List ℕ)) → refused_in executing e 1 lines ≡ first_bad (inputs_of (of_machine o node)) 1 lines
-  machine_refuses lines =
-      refuses_first executing (kinds_of e.signature.inputs) step_of (λ d. d.signature ≡ e.signature) (reads e.signature) (stays e.signature) 1 lines e refl
-      ∙ ap (λ kinds. first_bad kinds 1 lines) ins_are
+  machine_refuses lines = refuses_lines o node e h.machine h.named h.signature lines
 
   module _ (ending : Ending) where
     pub teller_says : (lines : List (List ℕ)) → IsAnswer (that_tells ending o node) lines (said_to telling (teller e ending) 1 lines)
     teller_says lines =
         let b = machine_behaviour o node in
         let ins = kinds_of e.signature.inputs in
+        let inputs = ins_are o node e h.machine h.named h.signature in
+        let outs = outs_are o node e h.machine h.named h.signature in
         record {
           outputs = run b (inputs_until (inputs_of (of_machine o node)) 1 lines);
           run = refl;
           said = says_inputs telling ins told_of (λ d. (d.executor.signature ≡ e.signature) × (d.ending ≡ ending)) (told_reads ending e.signature) (told_stays ending e.signature) 1 lines (teller e ending) (refl, refl)
               ∙ told_reactions ending b e (inputs_until ins 1 lines) h.runs (all_of_kinds ins 1 lines)
-              ∙ (λ i. flat_map (told_line ending (outs_are i)) (outputs_from b (h.fresh i) (inputs_until (ins_are i) 1 lines)));
+              ∙ (λ i. flat_map (told_line ending (outs i)) (outputs_from b (h.fresh i) (inputs_until (inputs i) 1 lines)));
         }
 
     pub teller_refuses : (lines : List (List ℕ)) → refused_in telling (teller e ending) 1 lines ≡ first_bad (inputs_of (that_tells ending o node)) 1 lines
     teller_refuses lines =
         refuses_first telling (kinds_of e.signature.inputs) told_of (λ d. (d.executor.signature ≡ e.signature) × (d.ending ≡ ending)) (told_reads ending e.signature) (told_stays ending e.signature) 1 lines (teller e ending) (refl, refl)
-        ∙ ap (λ kinds. first_bad kinds 1 lines) ins_are
+        ∙ ap (λ kinds. first_bad kinds 1 lines) (ins_are o node e h.machine h.named h.signature)
 
 -- ---- enumerations are small
 
@@ -186,8 +236,11 @@ few_of_vars : (types : List ObcType) (vars : List Var) → All HasConstructors t
 few_of_vars types [] h = tt
 few_of_vars types (v ∷ vars) h = (few_of_type types v.ty h, few_of_vars types vars h)
 
+pub few_of_signature : (o : Obc) (e : Executor) (m : Machine) → TypesForm o.types → e.signature ≡ signature_of o.types m → HaveFewConstructors (kinds_of e.signature.inputs)
+few_of_signature o e m form same = subst (λ (s : SignatureData). HaveFewConstructors (kinds_of s.inputs)) (sym same) (few_of_vars o.types m.inputs form.counts)
+
 pub few_inputs : (o : Obc) (node : List ℕ) (e : Executor) → TypesForm o.types → Executes o node e → HaveFewConstructors (kinds_of e.signature.inputs)
-few_inputs o node e form h = subst (λ (s : SignatureData). HaveFewConstructors (kinds_of s.inputs)) (sym h.signature) (few_of_vars o.types h.machine.inputs form.counts)
+few_inputs o node e form h = few_of_signature o e h.machine form h.signature
 
 pub behaves : (o : Obc) (node : List ℕ) (e : Executor) → Executes o node e → HasBehaviour e
 behaves o node e h = record { behaviour = machine_behaviour o node; runs = h.runs; kinded = h.kinded }

@@ -14,13 +14,13 @@ use Rattle.hp_driver.specs.Trace.{Machine, answer, said_to, refused_in}
 use Rattle.hp_driver.specs.declared.trace_limits.BadLine.{BadLine}
 use Rattle.hp_driver.specs.declared.trace_limits.Fault.{Fault}
 use Rattle.hp_driver.specs.Log.{heard, said, has_ended}
-use Rattle.hp_driver.specs.Course.{At, Takes, Behind, Moves, Stops, Finishes, BreaksOff, EndsBy, InStep, Closes}
+use Rattle.hp_driver.specs.Course.{At, Takes, Behind, Moves, Stops, Finishes, BreaksOff, EndsBy, EndsIn, InStep, Closes, Reaches}
 use Rattle.hp_driver.specs.declared.trace_limits.Stop.{Stop}
 use Rattle.hp_driver.specs.declared.trace_limits.Stop.TheVariants as stop
 use Rattle.hp_driver.specs.declared.trace_limits.End.{End}
 use Rattle.hp_driver.specs.declared.trace_limits.End.TheVariants.{Done, Refused, TakeFailed, PutFailed}
 use Rattle.hp_driver.specs.Hearing.{end_of}
-use Rattle.hp_driver.proofs.TraceLaws.{said_to-takes, refused_in-takes}
+use Rattle.hp_driver.proofs.TraceLaws.{said_to-takes, refused_in-takes, takes_more}
 
 -- ---- events
 
@@ -293,6 +293,19 @@ module _ {S : Type 0} (machine : Machine S) where
         ),
       )
 
+  -- and the state that it is in then
+  pub reaches_by_end : (start : S) (log : List Event) (a : At S) (out : List ℕ) (end : End) (t : S) → IsFollowing start log a → EndsIn machine a out end t → Reaches machine start (log ++ last_turn out) end t
+  reaches_by_end start log a out Done t h g =
+      subst (λ z. Takes machine start 1 (lines_of true z) (said (log ++ last_turn out)) t) (sym (heard_last log out))
+      (subst (λ z. Takes machine start 1 (lines_of true (heard log)) z t) (sym (said_last log out)) (g start (heard log) (said log) h.behind))
+  reaches_by_end start log a out (Refused n) t h g = tt
+  reaches_by_end start log a out TakeFailed t h g = tt
+  reaches_by_end start log a out PutFailed t h g = tt
+
+  pub reaches_by_stop : (start : S) (log : List Event) (end : Stop) (t : S) → Reaches machine start log (end_of end) t
+  reaches_by_stop start log (stop.Refused n) t = tt
+  reaches_by_stop start log stop.PutFailed t = tt
+
   -- a take that failed
   pub closes_by_fault : (start : S) (log : List Event) (a : At S) → IsFollowing start log a → InStep machine start log × Closes machine start log TakeFailed
   closes_by_fault start log a h = (h.in_step, answered_by start log a h)
@@ -365,6 +378,18 @@ module _ {S : Type 0} (machine : Machine S) where
             ∙ ap (λ m. Some (bad m fault)) number
             ∙ ap (λ found. Some found) (sym k),
       )
+
+  -- the state at the end, where no line is unfinished, and where the unfinished one is answered
+  pub ends_none : (a : At S) → a.piece ≡ [] → a.pending ≡ [] → EndsIn machine a [] Done a.state
+  ends_none a p q start before earlier h =
+      let lines = ap (λ z. whole_lines before ++ last_line true (0 + length (whole_lines before)) z) (sym h.piece ∙ p) ∙ append-nil (whole_lines before) in
+      subst (λ z. Takes machine start 1 z (earlier ++ []) a.state) (sym lines) (subst (λ z. Takes machine start 1 (whole_lines before) (earlier ++ z) a.state) q h.takes)
+
+  pub ends_line : (a : At S) (out : List ℕ) (t : S) → 0 < length a.piece → a.pending ≡ [] → answer machine a.state (suc a.number) a.piece ≡ Ok (out, t) → EndsIn machine a out Done t
+  ends_line a out t p q e start before earlier h =
+      let all = takes_more machine a.piece h.takes (omega (arith, h.number)) e in
+      subst (λ z. Takes machine start 1 z (earlier ++ out) t) (sym (line_at_end a before h.piece p))
+      (subst (λ z. Takes machine start 1 (whole_lines before ++ a.piece ∷ []) (z ++ out) t) (ap (λ z. earlier ++ z) q ∙ append-nil earlier) all)
 
   -- of the last answer only a part is said
   pub breaks_off : (a : At S) (u v out : List ℕ) → u ++ v ≡ out → Finishes machine a out None → BreaksOff machine a u

@@ -27,3 +27,8 @@ pub mod ContractCalls
 pub mod PastCalls
 pub mod WrittenCertificates
 pub mod StatusLaws
+pub mod CheckpointLaws
+pub mod SegmentLaws
+pub mod JoinedLaws
+pub mod SegmentWords
+pub mod RunnableLaws

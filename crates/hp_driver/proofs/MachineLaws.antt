@@ -205,6 +205,7 @@ no_command_leaves words files status h = Leaves.as_they_were refl by
     by out (Writes.machines {file = x} w) = absurd (h x (IsOver.a_source (ReadsSource.of_program (IsOverSource.to_compile w))))
     by out (Writes.a_source {file = x} w) = absurd (h x (IsOver.a_tree w))
     by out (Writes.a_certificate {file = x} w) = absurd (h x (IsOver.a_source (ReadsSource.of_contract (IsOverContract.to_prove w))))
+    by out (Writes.a_checkpoint {file = x} s) = absurd (h x (IsOver.a_segment s))
 
 -- where a write failed, of the task
 pub write_rose : (words : List (List ℕ)) (file : List ℕ) (task : Task) (before after : List ℕ → Faults) → SpellsTask words file task → RoseInWrite task before after → WriteRose words before after

@@ -14,7 +14,7 @@ use Rattle.hp_compile.specs.declared.refusal.Refusal.{Refusal}
 use Rattle.hp_base.specs.Limits.{most}
 use Rattle.hp_driver.specs.Answers.{IsAnswer}
 use Rattle.hp_driver.specs.Systems.{System, inputs_of}
-use Rattle.hp_driver.specs.Command.{IsPastOf, IsExecOf, IsOverSource, IsOverContract, ReadsSource, ReadsFirst, IsOver, IsNoSourceCommand, IsNoCertCommand, IsNoFileCommand}
+use Rattle.hp_driver.specs.Command.{IsPastOf, IsExecOf, IsOverSource, IsOverContract, ReadsSource, ReadsFirst, IsOver, IsNoSourceCommand, IsNoCertCommand, IsNoFileCommand, IsNoSegment}
 use Rattle.hp_driver.specs.Commanded.{SpellsTask, Spells, file_of, limit_of}
 use Rattle.hp_driver.specs.Course.{InStep}
 use Rattle.hp_driver.specs.Diagnostics.{refusal_line, too_long_line}
@@ -58,13 +58,13 @@ pub record Mirrors {S : Type 0} (machine : Machine S) (start : S) (s : System) :
   pub refuses : (lines : List (List ℕ)) → refused_in machine start 1 lines ≡ first_bad (inputs_of s) 1 lines
 
 module _ {S : Type 0} (machine : Machine S) (start : S) (s : System) (m : Mirrors machine start s) where
-  answers : (lines : List (List ℕ)) (bytes : List ℕ) → bytes ≡ said_to machine start 1 lines → IsAnswer s lines bytes
+  pub answers : (lines : List (List ℕ)) (bytes : List ℕ) → bytes ≡ said_to machine start 1 lines → IsAnswer s lines bytes
   answers lines bytes e = subst (IsAnswer s lines) (sym e) (m.says lines)
 
-  refuses : (lines : List (List ℕ)) (bad : Option BadLine) → refused_in machine start 1 lines ≡ bad → first_bad (inputs_of s) 1 lines ≡ bad
+  pub refuses : (lines : List (List ℕ)) (bad : Option BadLine) → refused_in machine start 1 lines ≡ bad → first_bad (inputs_of s) 1 lines ≡ bad
   refuses lines bad e = sym (m.refuses lines) ∙ e
 
-  in_lockstep : (log : List Event) → InStep machine start log → InLockstep s log
+  pub in_lockstep : (log : List Event) → InStep machine start log → InLockstep s log
   in_lockstep log h before after e =
       let found = h before after e in
       (found.0, answers (whole_lines (heard before)) (said before) found.1, refuses (lines_of false (heard before)) None found.2)
@@ -87,13 +87,15 @@ module _ {S : Type 0} (machine : Machine S) (start : S) (s : System) (m : Mirror
 
 -- ---- the words
 
--- they are of no form where they are of no command over a program or a certificate, and not those of `exec` or `past`
-pub no_command : (words : List (List ℕ)) → ((file node : List ℕ) → IsExecOf words file node → ⊥) → ((file out : List ℕ) → IsPastOf words file out → ⊥) → IsNoCertCommand words → IsNoSourceCommand words → IsNoFileCommand words
-no_command words f p k g file (IsOver.a_source (ReadsSource.of_program s)) = g file s
-no_command words f p k g file (IsOver.a_source (ReadsSource.of_contract {node = y} w)) = k file y w
-no_command words f p k g file (IsOver.a_tree {out} w) = p file out w
-no_command words f p k g file (IsOver.machines {node} w) = f file node w
-no_command words f p k g file (IsOver.a_certificate {source = x} {node = y} w) = k x y (IsOverContract.to_verify w)
+-- they are of no form where they are of no command over a program or a certificate, and not those of `exec`, `past`, `save` or `resume`
+pub no_command : (words : List (List ℕ)) → IsNoSegment words → ((file node : List ℕ) → IsExecOf words file node → ⊥) → ((file out : List ℕ) → IsPastOf words file out → ⊥) → IsNoCertCommand words → IsNoSourceCommand words → IsNoFileCommand words
+no_command words n f p k g file (IsOver.a_source (ReadsSource.of_program s)) = g file s
+no_command words n f p k g file (IsOver.a_source (ReadsSource.of_contract {node = y} w)) = k file y w
+no_command words n f p k g file (IsOver.a_tree {out} w) = p file out w
+no_command words n f p k g file (IsOver.machines {node} w) = f file node w
+no_command words n f p k g file (IsOver.a_certificate {source = x} {node = y} w) = k x y (IsOverContract.to_verify w)
+no_command words n f p k g file (IsOver.a_segment {node = y} {out = z} {from = m} s) = n file y m z s
+no_command words n f p k g file (IsOver.a_checkpoint {source = x} {node = y} {out = z} s) = n x y (Some file) z s
 
 -- ---- a text that was read
 

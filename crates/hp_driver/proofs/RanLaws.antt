@@ -1,5 +1,5 @@
 -- A line of diagnostics that was told only in part.
-use Rattle.std.proofs.Common.{◌≡◌, ℕ, suc, ◌<◌, inl, inr, List, [], ◌∷◌, ◌++◌, length, take, drop, get_or, sym, ap, subst, ◌∙◌}
+use Rattle.std.proofs.Common.{◌≡◌, ◌≢◌, ℕ, suc, ◌<◌, inl, inr, List, [], ◌∷◌, ◌++◌, length, take, drop, get_or, refl, sym, ap, subst, ◌∙◌, arith}
 use Rattle.std.specs.Prelude.{Option}
 use Rattle.std.proofs.lemmas.List.{take-append-drop}
 use Rattle.std.proofs.Common.{drop-cons}
@@ -25,6 +25,20 @@ reported machine start log before after line status result (inr h) r =
       p.2,
       subst (Ran machine start log (take p.0 line)) (sym h.0) (Ran.line_failed (take p.0 line) a.0 a.1 (subst (λ z. Ran machine start log z status) (sym a.2) r)),
     )
+
+-- where a line was to be told with a status other than 0, the call did not end with 0
+pub bad_line_not_done : (before after : Option (List ℕ)) (line : List ℕ) (result : ℕ) → Reports before after line 3 result → result ≢ 0
+bad_line_not_done before after line result (inl h) done = let e = h.0 in omega (arith, e, done)
+bad_line_not_done before after line result (inr h) done = let e = h.0 in omega (arith, e, done)
+
+-- where the input was read to its end no line was told
+pub done_line : {S : Type 0} (machine : Machine S) (start : S) (log : List Event) (line : List ℕ) (status : ℕ) → Ran machine start log line status → status ≡ 0 → line ≡ []
+done_line machine start log line status Ran.no_memory done = refl
+done_line machine start log line status (Ran.done k) done = refl
+done_line machine start log line status (Ran.refused bad k) done = absurd (omega (arith, done))
+done_line machine start log line status (Ran.take_failed k) done = refl
+done_line machine start log line status (Ran.put_failed k) done = refl
+done_line machine start log line status (Ran.line_failed l b rest r) done = absurd (omega (arith, done))
 
 -- where nothing happened nothing was heard
 pub heard_nothing : (left : Option (List ℕ)) → HeardFrom left left []

@@ -1,5 +1,5 @@
 -- A machine that reads values from each line says and refuses what the lines spell.
-use Rattle.std.proofs.Common.{◌≡◌, ℕ, suc, Bool, true, false, ◌==◌, nat_lt, if◌then◌else◌, List, [], ◌∷◌, ◌++◌, length, Option, None, Some, option_map, refl, sym, ap, ◌∙◌}
+use Rattle.std.proofs.Common.{◌≡◌, ℕ, suc, Bool, true, false, ◌==◌, nat_lt, if◌then◌else◌, List, [], ◌∷◌, ◌++◌, length, Option, None, Some, option_map, refl, sym, ap, subst, ◌∙◌}
 use Rattle.std.specs.Prelude.{Result, Ok, Err}
 use Rattle.std.specs.Option.{unwrap_or}
 use Rattle.std.proofs.lemmas.Bool.{eqb-true}
@@ -16,6 +16,7 @@ use Rattle.hp_lines.proofs.KindLaws.{values_are_of_kinds}
 use Rattle.hp_driver.specs.declared.trace_limits.Fault.{Fault}
 use Rattle.hp_driver.specs.declared.trace_limits.TheConstants.{MAX_LINES}
 use Rattle.hp_driver.specs.LineFaults.{by_words, on_line, bad}
+use Rattle.hp_driver.specs.Course.{Takes, none, next}
 use Rattle.hp_driver.specs.Trace.{Machine, answer, said_to, refused_in}
 use Rattle.hp_driver.proofs.TraceLaws.{by_tests}
 use Rattle.hp_driver.specs.Values.{reading, inputs_on, inputs_until, first_bad}
@@ -95,6 +96,11 @@ pub all_of_kinds : (kinds : List KindData) (n : ℕ) (lines : List (List ℕ)) �
 all_of_kinds kinds n [] = tt
 all_of_kinds kinds n (line ∷ lines) = all_by kinds n line lines (inputs_on kinds n line) refl (all_of_kinds kinds (suc n) lines)
 
+-- the state behind the steps on some inputs
+abbrev pub steps_through : {S : Type 0} → (S → List Value → List ℕ × S) → S → List (List Value) → S
+steps_through step s [] = s
+steps_through step s (values ∷ more) = steps_through step (step s values).1 more
+
 -- a machine that reads values of these kinds where its state is good, which it then stays
 module _ {S : Type 0} (machine : Machine S) (kinds : List KindData) (step : S → List Value → List ℕ × S) (IsGood : S → Type 0)
     (reads : (s : S) (line : List ℕ) → IsGood s → machine s line ≡ reader kinds step s line)
@@ -133,3 +139,17 @@ module _ {S : Type 0} (machine : Machine S) (kinds : List KindData) (step : S �
   pub refuses_first : (n : ℕ) (lines : List (List ℕ)) (s : S) → IsGood s → refused_in machine s n lines ≡ first_bad kinds n lines
   refuses_first n [] s h = refl
   refuses_first n (line ∷ lines) s h = refuses_by s n line lines (inputs_on kinds n line) refl h (refuses_first (suc n) lines)
+
+  taken_by : (s t u : S) (n : ℕ) (line said : List ℕ) (lines : List (List ℕ)) (r : Result (List Value) Fault) → inputs_on kinds n line ≡ r → IsGood s → answer machine s n line ≡ Ok (said, t) →
+      (IsGood t → u ≡ steps_through step t (inputs_until kinds (suc n) lines)) → u ≡ steps_through step s (elim r [ Ok values ↦ values ∷ inputs_until kinds (suc n) lines | Err fault ↦ [] ])
+  taken_by s t u n line said lines (Ok values) e h taken more =
+      let same : stepped step s (Ok values) ≡ Ok (said, t) = sym (ap (stepped step s) e) ∙ sym (answers s n line h) ∙ taken in
+      let behind : (step s values).1 ≡ t = ap (λ (r : Result (List ℕ × S) Fault). elim r [ Ok a ↦ a.1 | Err fault ↦ t ]) same in
+      more (subst IsGood behind (stays s values (inputs_of_kinds kinds n line values e) h)) ∙ ap (λ z. steps_through step z (inputs_until kinds (suc n) lines)) (sym behind)
+  taken_by s t u n line said lines (Err fault) e h taken more =
+      let same : stepped step s (Err fault) ≡ Ok (said, t) = sym (ap (stepped step s) e) ∙ sym (answers s n line h) ∙ taken in absurd cc
+
+  -- the state behind lines that it takes is that behind the steps on the inputs that they spell
+  pub takes_inputs : {s u : S} {n : ℕ} {lines : List (List ℕ)} {said : List ℕ} → Takes machine s n lines said u → IsGood s → u ≡ steps_through step s (inputs_until kinds n lines)
+  takes_inputs none h = refl
+  takes_inputs {s} {u} {n = n} (next {t} {line} {said} {lines} e k) h = taken_by s t u n line said lines (inputs_on kinds n line) refl h e (λ good. takes_inputs k good)

@@ -1,8 +1,8 @@
 -- Words of one form are of no other.
 use Rattle.std.proofs.Common.{◌≡◌, ◌<◌, ℕ, suc, ◌⊎◌, inl, inr, Bool, true, false, List, [], ◌∷◌, get_or, length, sym, subst, refl, ap, ◌∙◌, arith}
-use Rattle.std.specs.Prelude.{codes}
+use Rattle.std.specs.Prelude.{codes, Option, Some}
 use Rattle.hp_arguments.specs.Words.{IsArgument}
-use Rattle.hp_driver.specs.Command.{IsOnTraceBy, IsOnCertBy, IsRunOf, IsTellOf, IsExecOf, IsCheckOf, IsCompileOf, IsPastOf, IsProveOf, IsVerifyOf, IsSweepOf, IsOverSource, IsOverContract, ReadsSource, IsOver, Writes}
+use Rattle.hp_driver.specs.Command.{IsOnTraceBy, IsOnCertBy, IsRunOf, IsTellOf, IsExecOf, IsCheckOf, IsCompileOf, IsPastOf, IsProveOf, IsVerifyOf, IsSegmentOf, IsNoSegment, IsSweepOf, IsOverSource, IsOverContract, ReadsSource, IsOver, Writes}
 use Rattle.hp_driver.specs.Outcome.{AsksToChoose, AsksToRun}
 use Rattle.hp_tree.specs.declared.program.Item.{Item}
 
@@ -201,6 +201,54 @@ module _ (words : List (List ℕ)) (a b : List ℕ) (w : IsPastOf words a b) whe
   pub past_exec : (file node : List ℕ) → IsExecOf words file node → ⊥
   past_exec file node v = past_exec_names (past_named (codes "exec") (file ∷ node ∷ []) v.spelled)
 
+-- ---- the words of runs that leave a checkpoint
+
+segment_name : (words : List (List ℕ)) (file node : List ℕ) (from : Option (List ℕ)) (out : List ℕ) → IsSegmentOf words file node from out → (name : List ℕ) (behind : List (List ℕ)) → words ≡ name ∷ behind →
+    (codes "save" ≡ name) ⊎ (codes "resume" ≡ name)
+segment_name words file node from out (IsSegmentOf.to_save w) name behind e = inl (one_name words (codes "save") name (file ∷ node ∷ out ∷ []) behind w.spelled e)
+segment_name words file node from out (IsSegmentOf.to_resume {mem = m} w) name behind e = inr (one_name words (codes "resume") name (file ∷ node ∷ m ∷ out ∷ []) behind w.spelled e)
+
+other_name : (words : List (List ℕ)) (name : List ℕ) (behind : List (List ℕ)) → words ≡ name ∷ behind → (codes "save" ≡ name → ⊥) → (codes "resume" ≡ name → ⊥) → IsNoSegment words
+other_name words name behind e f g file node from out s = elim (segment_name words file node from out s name behind e) [ inl p ↦ f p | inr p ↦ g p ]
+
+save_exec : codes "save" ≡ codes "exec" → ⊥
+save_exec e = let first : 115 ≡ 101 = ap (λ (w : List ℕ). get_or w 0 0) e in omega (arith, first)
+
+save_past : codes "save" ≡ codes "past" → ⊥
+save_past e = let first : 115 ≡ 112 = ap (λ (w : List ℕ). get_or w 0 0) e in omega (arith, first)
+
+resume_verify : codes "resume" ≡ codes "verify" → ⊥
+resume_verify e = let first : 114 ≡ 118 = ap (λ (w : List ℕ). get_or w 0 0) e in omega (arith, first)
+
+-- they are of no other form
+module _ (words : List (List ℕ)) (file x : List ℕ) where
+  pub run_segment : IsRunOf words file x → IsNoSegment words
+  run_segment w = other_name words (codes "run") (file ∷ x ∷ []) w.spelled (λ e. cc) (λ e. cc)
+
+  pub tell_segment : IsTellOf words file x → IsNoSegment words
+  tell_segment w = let t = telling words file x w in other_name words (codes "run") t.behind t.spelled (λ e. cc) (λ e. cc)
+
+  pub compile_segment : IsCompileOf words file x → IsNoSegment words
+  compile_segment w = other_name words (codes "compile") (file ∷ x ∷ []) w.spelled (λ e. cc) (λ e. cc)
+
+  pub past_segment : IsPastOf words file x → IsNoSegment words
+  past_segment w = other_name words (codes "past") (file ∷ x ∷ []) w.spelled save_past (λ e. cc)
+
+  pub exec_segment : IsExecOf words file x → IsNoSegment words
+  exec_segment w = other_name words (codes "exec") (file ∷ x ∷ []) w.spelled save_exec (λ e. cc)
+
+  pub prove_segment : (cert : List ℕ) → IsProveOf words file x cert → IsNoSegment words
+  prove_segment cert w = other_name words (codes "prove") (file ∷ x ∷ cert ∷ []) w.spelled (λ e. cc) (λ e. cc)
+
+  pub verify_segment : (cert : List ℕ) → IsVerifyOf words file x cert → IsNoSegment words
+  verify_segment cert w = other_name words (codes "verify") (file ∷ x ∷ cert ∷ []) w.spelled (λ e. cc) resume_verify
+
+pub check_segment : (words : List (List ℕ)) (file : List ℕ) (print : Bool) → IsCheckOf words file print → IsNoSegment words
+check_segment words file print w = let c = checking words file print w in other_name words (codes "check") c.behind c.spelled (λ e. cc) (λ e. cc)
+
+pub sweep_segment : (words : List (List ℕ)) (tasks instants : ℕ) → IsSweepOf words tasks instants → IsNoSegment words
+sweep_segment words tasks instants w = other_name words (codes "sweep") (w.tasks_word ∷ w.instants_word ∷ []) w.spelled (λ e. cc) (λ e. cc)
+
 -- ---- what writes no file
 
 module _ (words : List (List ℕ)) (file out : List ℕ) where
@@ -208,26 +256,31 @@ module _ (words : List (List ℕ)) (file out : List ℕ) where
   run_writes node w (Writes.machines {file = x} c) = run_compile words file node x out w c
   run_writes node w (Writes.a_source {file = x} p) = past_source words x out p file (IsOverSource.to_run w)
   run_writes node w (Writes.a_certificate {file = x} {node = y} p) = source_contract words file x y (IsOverSource.to_run w) (IsOverContract.to_prove p)
+  run_writes node w (Writes.a_checkpoint {file = x} {node = y} {from = z} s) = run_segment words file node w x y z out s
 
   pub tell_writes : (node : List ℕ) → IsTellOf words file node → Writes words out → ⊥
   tell_writes node w (Writes.machines {file = x} c) = tell_compile words file node x out w c
   tell_writes node w (Writes.a_source {file = x} p) = past_source words x out p file (IsOverSource.to_tell w)
   tell_writes node w (Writes.a_certificate {file = x} {node = y} p) = source_contract words file x y (IsOverSource.to_tell w) (IsOverContract.to_prove p)
+  tell_writes node w (Writes.a_checkpoint {file = x} {node = y} {from = z} s) = tell_segment words file node w x y z out s
 
   pub exec_writes : (node : List ℕ) → IsExecOf words file node → Writes words out → ⊥
   exec_writes node w (Writes.machines {file = x} c) = exec_compile words file node x out w c
   exec_writes node w (Writes.a_source {file = x} p) = past_exec words x out p file node w
   exec_writes node w (Writes.a_certificate {file = x} {node = y} p) = exec_contract words file node x y w (IsOverContract.to_prove p)
+  exec_writes node w (Writes.a_checkpoint {file = x} {node = y} {from = z} s) = exec_segment words file node w x y z out s
 
   pub check_writes : (print : Bool) → IsCheckOf words file print → Writes words out → ⊥
   check_writes print w (Writes.machines {file = x} c) = check_compile words file x out print w c
   check_writes print w (Writes.a_source {file = x} p) = past_source words x out p file (IsOverSource.to_check print w)
   check_writes print w (Writes.a_certificate {file = x} {node = y} p) = source_contract words file x y (IsOverSource.to_check print w) (IsOverContract.to_prove p)
+  check_writes print w (Writes.a_checkpoint {file = x} {node = y} {from = z} s) = check_segment words file print w x y z out s
 
   pub verify_writes : (node cert : List ℕ) → IsVerifyOf words file node cert → Writes words out → ⊥
   verify_writes node cert w (Writes.machines {file = x} c) = source_contract words x file node (IsOverSource.to_compile c) (IsOverContract.to_verify w)
   verify_writes node cert w (Writes.a_source {file = x} p) = past_contract words x out p file node (IsOverContract.to_verify w)
   verify_writes node cert w (Writes.a_certificate {file = x} {node = y} p) = prove_verify words x y out file node cert p w
+  verify_writes node cert w (Writes.a_checkpoint {file = x} {node = y} {from = z} s) = verify_segment words file node cert w x y z out s
 
 -- ---- machines that choose
 
@@ -284,11 +337,14 @@ module _ (words : List (List ℕ)) (tasks instants : ℕ) (w : IsSweepOf words t
   sweep_over file (IsOver.a_tree {out = y} v) = sweep_past file y v
   sweep_over file (IsOver.machines {node = y} v) = sweep_exec file y v
   sweep_over file (IsOver.a_certificate {source = x} {node = y} v) = sweep_contract x y (IsOverContract.to_verify v)
+  sweep_over file (IsOver.a_segment {node = y} {out = z} {from = m} s) = sweep_segment words tasks instants w file y m z s
+  sweep_over file (IsOver.a_checkpoint {source = x} {node = y} {out = z} s) = sweep_segment words tasks instants w x y (Some file) z s
 
   pub sweep_writes : (out : List ℕ) → Writes words out → ⊥
   sweep_writes out (Writes.machines {file = x} c) = sweep_source x (IsOverSource.to_compile c)
   sweep_writes out (Writes.a_source {file = x} v) = sweep_past x out v
   sweep_writes out (Writes.a_certificate {file = x} {node = y} p) = sweep_contract x y (IsOverContract.to_prove p)
+  sweep_writes out (Writes.a_checkpoint {file = x} {node = y} {from = z} s) = sweep_segment words tasks instants w x y z out s
 
 -- ---- the words of checks
 

@@ -30,7 +30,7 @@ one_run : (program : List Item) (f : List ℕ) (inputs first second : List (List
 one_run program f inputs first second a b = let r = a.some in sym (a.every r.0 r.1 r.2) ∙ b.every r.0 r.1 r.2
 
 module _ (program : List Item) (o : Obc) (node : List ℕ) (m : Machine) (named : machine_named o.machines node ≡ Some m) (r : RunsNode program o node m) (keeps : Keeping program node) where
-  as_machine : (lines : List (List ℕ)) (bytes : List ℕ) → IsAnswer (of_node program node) lines bytes → IsAnswer (of_machine o node) lines bytes
+  pub as_machine : (lines : List (List ℕ)) (bytes : List ℕ) → IsAnswer (of_node program node) lines bytes → IsAnswer (of_machine o node) lines bytes
   as_machine lines bytes a =
       let same = inputs_same program o node m named r in
       let inputs = inputs_until (inputs_of (of_machine o node)) 1 lines in

@@ -9,8 +9,8 @@ use Rattle.hp_io.specs.declared.console.Event.{Event}
 use Rattle.hp_driver.specs.Faults.{InputFaults, OutputFaults}
 use Rattle.hp_driver.specs.Happened.{Happened}
 use Rattle.hp_driver.specs.Leaves.{Leaves, ReadRose, WriteRose}
-use Rattle.hp_driver.specs.Outcome.{Outcome}
 use Rattle.hp_driver.specs.Readings.{AreReadings}
+use Rattle.hp_driver.specs.Segments.{CallOutcome}
 
 -- What a folder, a console and diagnostics tell at a moment, and the faults of reads, writes, takes and puts of them. The puts of diagnostics are `tells`.
 pub record Moment : Type 0 where
@@ -30,7 +30,7 @@ moment files reads writes events left takes puts took tells =
 
 -- A call with these words from one moment to another, and its status: what happened, what became of the files, what was read, and which call of the outside failed.
 pub record IsCall (words : List (List ℕ)) (before after : Moment) (status : ℕ) : Type 0 where
-  pub outcome : Happened before.events after.events before.left after.left before.took after.took (λ log line. Outcome words before.files log line status)
+  pub outcome : Happened before.events after.events before.left after.left before.took after.took (λ log line. CallOutcome words before.files after.files log line status)
   pub leaves : Leaves words before.files after.files status
   pub readings : (gave : List Reading) × Grows before.reads.gave after.reads.gave gave × AreReadings words gave
   pub reads : InputFaults (ReadRose words before.reads.faults after.reads.faults) status before.reads.faults after.reads.faults before.takes after.takes

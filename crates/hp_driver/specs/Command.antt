@@ -33,7 +33,7 @@ pub record IsTellOf (words : List (List ℕ)) (file node : List ℕ) : Type 0 wh
   pub file_is_argument : IsArgument file
   pub node_is_argument : IsArgument node
 
--- the words NAME FILE NODE CERT
+-- the words NAME FILE NODE CERT, or NAME FILE NODE MEM
 pub record IsOnCertBy (name : List ℕ) (words : List (List ℕ)) (file node cert : List ℕ) : Type 0 where
   pub spelled : words ≡ name ∷ file ∷ node ∷ cert ∷ []
   pub file_is_argument : IsArgument file
@@ -46,6 +46,27 @@ IsProveOf = IsOnCertBy (codes "prove")
 
 abbrev pub IsVerifyOf : List (List ℕ) → List ℕ → List ℕ → List ℕ → Type 0
 IsVerifyOf = IsOnCertBy (codes "verify")
+
+-- the words `save FILE NODE MEM`
+abbrev pub IsSaveOf : List (List ℕ) → List ℕ → List ℕ → List ℕ → Type 0
+IsSaveOf = IsOnCertBy (codes "save")
+
+-- the words `resume FILE NODE MEM OUT`
+pub record IsResumeOf (words : List (List ℕ)) (file node mem out : List ℕ) : Type 0 where
+  pub spelled : words ≡ codes "resume" ∷ file ∷ node ∷ mem ∷ out ∷ []
+  pub file_is_argument : IsArgument file
+  pub node_is_argument : IsArgument node
+  pub mem_is_argument : IsArgument mem
+  pub out_is_argument : IsArgument out
+
+-- The words ask to run the node of this name, of the program of this source file, from the memory after a reset or from the one of the checkpoint in a file, and to write a checkpoint of the memory behind the run.
+pub data IsSegmentOf (words : List (List ℕ)) (file node : List ℕ) : Option (List ℕ) → List ℕ → Type 0 where
+  to_save : {out : List ℕ} → IsSaveOf words file node out → IsSegmentOf words file node None out
+  to_resume : {mem out : List ℕ} → IsResumeOf words file node mem out → IsSegmentOf words file node (Some mem) out
+
+-- the words ask for no such run
+abbrev pub IsNoSegment : List (List ℕ) → Type 0
+IsNoSegment words = (file node : List ℕ) (from : Option (List ℕ)) (out : List ℕ) → IsSegmentOf words file node from out → ⊥
 
 -- the words `check FILE`
 pub record IsPlainCheckOf (words : List (List ℕ)) (file : List ℕ) : Type 0 where
@@ -126,18 +147,21 @@ pub data ReadsFirst (words : List (List ℕ)) (file : List ℕ) : Type 0 where
   a_tree : {out : List ℕ} → IsPastOf words file out → ReadsFirst words file
   machines : {node : List ℕ} → IsExecOf words file node → ReadsFirst words file
 
--- The words are of a command that reads this file: source text, a text of machines, or a certificate.
+-- The words are of a command that reads this file: source text, a text of machines, a certificate, or a checkpoint.
 pub data IsOver (words : List (List ℕ)) (file : List ℕ) : Type 0 where
   a_source : ReadsSource words file → IsOver words file
   a_tree : {out : List ℕ} → IsPastOf words file out → IsOver words file
   machines : {node : List ℕ} → IsExecOf words file node → IsOver words file
   a_certificate : {source node : List ℕ} → IsVerifyOf words source node file → IsOver words file
+  a_segment : {node out : List ℕ} {from : Option (List ℕ)} → IsSegmentOf words file node from out → IsOver words file
+  a_checkpoint : {source node out : List ℕ} → IsSegmentOf words source node (Some file) out → IsOver words file
 
--- The words are of a command that writes this file: machines, source text, or a certificate.
+-- The words are of a command that writes this file: machines, source text, a certificate, or a checkpoint.
 pub data Writes (words : List (List ℕ)) (out : List ℕ) : Type 0 where
   machines : {file : List ℕ} → IsCompileOf words file out → Writes words out
   a_source : {file : List ℕ} → IsPastOf words file out → Writes words out
   a_certificate : {file node : List ℕ} → IsProveOf words file node out → Writes words out
+  a_checkpoint : {file node : List ℕ} {from : Option (List ℕ)} → IsSegmentOf words file node from out → Writes words out
 
 -- the summary of so many tasks
 pub record IsSummary (tasks : ℕ) (text : List ℕ) : Type 0 where
@@ -164,7 +188,7 @@ abbrev pub IsNoCommand : List (List ℕ) → Type 0
 IsNoCommand words = IsNoFileCommand words × ((tasks instants : ℕ) → IsSweepOf words tasks instants → ⊥)
 
 abbrev pub usage_line : List ℕ
-usage_line = codes "usage: hept check run compile exec prove verify sweep past\n"
+usage_line = codes "usage: hept check run compile exec prove verify sweep past save resume\n"
 
 abbrev pub not_built_line : List ℕ
 not_built_line = codes "E2 not built\n"

@@ -1,12 +1,14 @@
 -- What is asked for, as the code has it.
 use Rattle.std.specs.Prelude.{◌≡◌, ℕ, List, Option, MatchOption}
 use Rattle.std.specs.Borrow.{Bor}
+use Rattle.std.specs.Option.{option_copied}
 use Rattle.hp_arguments.specs.Words.{IsArgument}
 use Rattle.hp_base.specs.declared.limit.What.{What}
 use Rattle.hp_base.specs.declared.limit.What.TheVariants.{Size, Text}
-use Rattle.hp_driver.specs.Command.{IsRunOf, IsTellOf, IsCheckOf, IsCompileOf, IsPastOf, IsExecOf, IsProveOf, IsVerifyOf}
+use Rattle.hp_driver.specs.Command.{IsRunOf, IsTellOf, IsCheckOf, IsCompileOf, IsPastOf, IsExecOf, IsProveOf, IsVerifyOf, IsSegmentOf}
 use Rattle.hp_driver.specs.declared.words.Command.{Command}
 use Rattle.hp_driver.specs.declared.words.Command.TheVariants.{Source, Past, Exec, Prove, Verify}
+use Rattle.hp_driver.specs.declared.words.Segment.{Segment}
 use Rattle.hp_driver.specs.declared.words.Task.{Task}
 use Rattle.hp_driver.specs.declared.words.Task.TheVariants.{Run, Tell, Check, Compile}
 
@@ -28,6 +30,10 @@ Spells words (Past file out) = IsPastOf words file.now out.now
 Spells words (Exec file node) = IsExecOf words file.now node.now
 Spells words (Prove file node cert) = IsProveOf words file.now node.now cert.now
 Spells words (Verify file node cert) = IsVerifyOf words file.now node.now cert.now
+
+-- the words ask for this run
+abbrev pub SpellsSegment : List (List ℕ) → Segment → Type 0
+SpellsSegment words s = IsSegmentOf words s.file.now s.node.now (option_copied s.from) s.out.now
 
 -- the file that is read
 abbrev pub file_of : Command → List ℕ

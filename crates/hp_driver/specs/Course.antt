@@ -68,6 +68,11 @@ module _ {S : Type 0} (machine : Machine S) where
   EndsBy a out TakeFailed = ⊥
   EndsBy a out PutFailed = BreaksOff a out
 
+  -- where it says all at the end of the input, it has taken all lines then, and is in this state
+  abbrev pub EndsIn : At S → List ℕ → End → S → Type 0
+  EndsIn a out Done t = (start : S) (before earlier : List ℕ) → Behind start before earlier a → Takes start 1 (lines_of true before) (earlier ++ out) t
+  EndsIn a out end t = Unit {0}
+
   -- Whenever input was asked for, it had not ended, what was said were the answers to the whole lines heard before, and no line heard before was refused.
   abbrev pub InStep : S → List Event → Type 0
   InStep start log = (before after : List Event) → log ≡ before ++ Asked ∷ after →
@@ -89,6 +94,11 @@ module _ {S : Type 0} (machine : Machine S) where
       × (refused_in machine start 1 (lines_of false (heard log)) ≡ None)
   Closes start log PutFailed =
       (rest : List ℕ) × (said_to machine start 1 (lines_of (has_ended log) (heard log)) ≡ said log ++ rest)
+
+  -- where it came to the end of the input, it took all lines, and is in this state
+  abbrev pub Reaches : S → List Event → End → S → Type 0
+  Reaches start log Done t = Takes start 1 (lines_of true (heard log)) (said log) t
+  Reaches start log end t = Unit {0}
 
 -- how far a machine has come, in bytes that it can have heard at most
 abbrev pub weight : {S : Type 0} → At S → ℕ

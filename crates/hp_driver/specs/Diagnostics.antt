@@ -16,6 +16,8 @@ use Rattle.hp_cert.specs.declared.certtext.error.Misfit.{Misfit}
 use Rattle.hp_cert.specs.declared.certtext.error.Misfit.TheVariants as misfit
 use Rattle.hp_clocks.specs.declared.error.ClockErr.{ClockErr}
 use Rattle.hp_clocks.specs.declared.error.ClockErr.TheVariants as clock
+use Rattle.hp_obctext.specs.declared.memory.error.MemErr.{MemErr}
+use Rattle.hp_obctext.specs.declared.memory.error.MemErr.TheVariants as memory
 use Rattle.hp_init.specs.declared.error.InitErr.{InitErr}
 use Rattle.hp_init.specs.declared.error.InitErr.TheVariants as init
 use Rattle.hp_compile.specs.declared.refusal.Place.{Place}
@@ -213,3 +215,10 @@ no_text_line at = codes "O1 " ++ (place_text at ++ codes "\n")
 
 abbrev pub no_form_line : Span → List ℕ
 no_form_line at = codes "O2 " ++ (place_text at ++ codes "\n")
+
+-- The line of a checkpoint that is refused.
+abbrev pub checkpoint_line : MemErr → List ℕ
+checkpoint_line (memory.Syntax at) = codes "M1 " ++ (place_text at ++ codes "\n")
+checkpoint_line memory.Node = codes "M2 node\n"
+checkpoint_line (memory.Count found) = codes "M2 count " ++ (decimal found ++ codes "\n")
+checkpoint_line (memory.Word number) = codes "M2 value " ++ (decimal number ++ codes "\n")

@@ -14,14 +14,9 @@ use Rattle.hp_driver.specs.Command.{IsCompileOf, IsProveOf}
 use Rattle.hp_driver.specs.Commanded.{SpellsTask}
 use Rattle.hp_driver.specs.Leaves.{Leaves, IsPrinted}
 use Rattle.hp_driver.specs.Outcome.{Gives, IsHeld, IsOnly, HasContract}
+pub use Rattle.hp_driver.specs.WrittenText.{WritesText}
 use Rattle.hp_driver.specs.declared.words.Task.{Task}
 use Rattle.hp_driver.specs.declared.words.Task.TheVariants.{Run, Tell, Check, Compile}
-
--- a text was written, or in part
-pub data WritesText (text out : List ℕ) (before after : Option Files) : ℕ → Type 0 where
-  whole : after ≡ option_map (λ held. map.insert held out text) before → WritesText text out before after 0
-  part : {status : ℕ} → (status ≡ 5) ⊎ (status ≡ 6) →
-      BothTold before after (λ b a. SameElsewhere b a out) → BothTold before after (λ b a. SameOrPrefix b a out text) → WritesText text out before after status
 
 -- the machines were written, or not, or in part
 pub data WritesMachines (o : Obc) (out : List ℕ) (before after : Option Files) : ℕ → Type 0 where

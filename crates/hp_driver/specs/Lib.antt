@@ -17,6 +17,11 @@ pub mod Controls
 pub mod Given
 pub mod PastOutcome
 pub mod Outcome
+pub mod Checkpoints
+pub mod WrittenText
+pub mod Segments
+pub mod Restoring
+pub mod Joined
 pub mod GoodCalls
 pub mod Ran
 pub mod Follows

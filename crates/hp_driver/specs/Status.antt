@@ -2,7 +2,7 @@
 -- Source: own
 use Rattle.std.specs.Prelude.{ℕ}
 use Rattle.hp_driver.specs.declared.status.Status.{Status}
-use Rattle.hp_driver.specs.declared.status.Status.TheVariants.{Done, Refused, NoCommand, BadLine, ReadFailed, WriteFailed, NoMemory, NoCertificate, NoMachines}
+use Rattle.hp_driver.specs.declared.status.Status.TheVariants.{Done, Refused, NoCommand, BadLine, ReadFailed, WriteFailed, NoMemory, NoCertificate, NoMachines, NoCheckpoint}
 
 abbrev pub code_of : Status → ℕ
 code_of Done = 0
@@ -14,3 +14,4 @@ code_of WriteFailed = 5
 code_of NoMemory = 6
 code_of NoCertificate = 7
 code_of NoMachines = 8
+code_of NoCheckpoint = 9

@@ -39,8 +39,9 @@ fn contract_name(alloc: Global, node: &str) -> Result<String, AllocError>
 }
 
 /// Reports why the machine of a node that the program has is not run, or that there is no memory.
-fn report_choosing<E: Sink>(alloc: Global, diag: &mut E, error: ExecErr) -> Status
+pub(crate) fn report_choosing<E: Sink>(alloc: Global, diag: &mut E, error: ExecErr) -> Status
     ensures told { (line : List ℕ) × Grows (E.took diag.old) (E.took diag.new) line × ((name : List ℕ) → RefusedChosen name error line (code_of result)) }
+    ensures fails { code_of result ≢ 0 }
     ensures status { code_of result ≢ 4 }
     ensures faults { PutFaults (code_of result) (E.faults diag.old) (E.faults diag.new) }
 {

@@ -2,7 +2,7 @@
 ghost use Rattle.std.specs.Prelude.{◌≡◌, ◌≢◌, ◌++◌, codes, decimal, option_map, IfOk, OnOk};
 ghost use Rattle.hp_base.specs.Limits.{most, word};
 ghost use Rattle.hp_verdicts.specs.declared.error.ContractErr.TheVariants as contract;
-ghost use Rattle.hp_driver.specs.Diagnostics.{place_text, where_text, is_text, heading, fault_text, name_line, type_line, counts_text, passed_line, most_executed, executor_line, shape_word, shape_line, count_line, expand_line, unit_line, clock_line, init_line, source_name, point_text, points_text, cause_line, refusal_line, too_long_line, behind_forced, forced_line, contract_line, no_contract_line, misfit_text, condition_text, certificate_line};
+ghost use Rattle.hp_driver.specs.Diagnostics.{place_text, where_text, is_text, heading, fault_text, name_line, type_line, counts_text, passed_line, most_executed, executor_line, shape_word, shape_line, count_line, expand_line, unit_line, clock_line, init_line, source_name, point_text, points_text, cause_line, refusal_line, too_long_line, behind_forced, forced_line, contract_line, no_contract_line, misfit_text, condition_text, certificate_line, checkpoint_line};
 
 use hp_base::{Limit, Span, What};
 use hp_cause::CauseErr;
@@ -14,6 +14,7 @@ use hp_expand::{ExpandErr, Shape};
 use hp_init::InitErr;
 use hp_meaning::causal::Point;
 use hp_names::NameErr;
+use hp_obctext::MemErr;
 use hp_typing::{Is, TypeErr};
 use hp_verdicts::ContractErr;
 use itoa::Buffer;
@@ -458,6 +459,30 @@ pub(crate) fn place_line(alloc: Global, code: &[u8], at: Span) -> Result<Vec<u8>
 {
     let mut line = Vec::new(alloc);
     add_place_line(&mut line, code, at)?;
+    Ok(line)
+}
+
+/// Writes a code and a number.
+fn add_number_line(line: &mut Vec<u8>, code: &[u8], number: u64) -> Result<(), AllocError>
+    ensures { OnOk result (line.new.items ≡ line.old.items ++ (code.now ++ (decimal number ++ codes "\n"))) }
+{
+    line.extend_from_slice(code)?;
+    add_number(line, number)?;
+    line.extend_from_slice(b"\n")?;
+    Ok(())
+}
+
+/// The line of a checkpoint that is refused.
+pub(crate) fn checkpoint_line(alloc: Global, error: MemErr) -> Result<Vec<u8>, AllocError>
+    ensures { IfOk result (λ line. line.items ≡ checkpoint_line error) }
+{
+    let mut line = Vec::new(alloc);
+    match error {
+        MemErr::Syntax { span } => add_place_line(&mut line, b"M1 ", span)?,
+        MemErr::Node => line.extend_from_slice(b"M2 node\n")?,
+        MemErr::Count { found } => add_number_line(&mut line, b"M2 count ", found)?,
+        MemErr::Word { number } => add_number_line(&mut line, b"M2 value ", number)?,
+    }
     Ok(line)
 }
 

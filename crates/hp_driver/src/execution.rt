@@ -64,6 +64,13 @@ impl Execution {
             room,
         })
     }
+
+    /// What the machine keeps, in the order of `Exec::memory`.
+    pub(crate) fn memory(&self) -> &[Value]
+        ensures { result.now ≡ self.now.values }
+    {
+        self.exec.memory()
+    }
 }
 
 impl Reactor for Execution {

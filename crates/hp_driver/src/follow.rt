@@ -5,7 +5,7 @@ ghost use Rattle.hp_io.specs.Events.{put_events};
 ghost use Rattle.hp_io.specs.declared.console.Event.{Event};
 ghost use Rattle.hp_driver.specs.Lines.{IsPiece};
 ghost use Rattle.hp_driver.specs.Log.{HeardFrom};
-ghost use Rattle.hp_driver.specs.Course.{Moves, Refuses, EndsBy, weight};
+ghost use Rattle.hp_driver.specs.Course.{Moves, Refuses, EndsBy, EndsIn, Reaches, weight};
 ghost use Rattle.hp_driver.specs.Hearing.{at, HasRoom, AnswersLine, RefusesLine, PutCause, SaysPending, SaysBefore, Hears, TakeCauseOf, PutCauseOf, Course, end_of};
 
 use crate::trace_limits::{BadLine, End, Fault, Hearing, MAX_LINES, Reactor, Stop};
@@ -271,7 +271,8 @@ fn finish<R: Reactor, C: Console>(reactor: &mut R, hearing: &mut Hearing, consol
     requires room { HasRoom hearing.old (R.room reactor.old) }
     requires pending { hearing.old.pending.items ≡ [] }
     ensures out { (out : List ℕ) × Grows (C.events console.old) (C.events console.new) (put_events out)
-        × EndsBy R.machine (at reactor.old hearing.old) out result }
+        × EndsBy R.machine (at reactor.old hearing.old) out result
+        × EndsIn R.machine (at reactor.old hearing.old) out result reactor.new }
     ensures left { C.left console.new ≡ C.left console.old }
     ensures cause { PutCauseOf result (C.put_faults console.old) (C.put_faults console.new) }
     ensures takes { Same (C.take_faults console.old) (C.take_faults console.new) }
@@ -320,7 +321,8 @@ pub fn follow<R: Reactor, C: Console>(
     requires number { hearing.old.number ≡ 0 }
     ensures course { (log : List Event) × Grows (C.events console.old) (C.events console.new) log
         × HeardFrom (C.left console.old) (C.left console.new) log
-        × Course R.machine reactor.old log result }
+        × Course R.machine reactor.old log result
+        × Reaches R.machine reactor.old log result reactor.new }
     ensures take_cause { TakeCauseOf result (C.take_faults console.old) (C.take_faults console.new) }
     ensures put_cause { PutCauseOf result (C.put_faults console.old) (C.put_faults console.new) }
 {

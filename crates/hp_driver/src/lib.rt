@@ -2,6 +2,7 @@
 #![tactic(auto)]
 
 mod certificate;
+mod checkpoint;
 mod choosing;
 mod diagnostic;
 mod execution;
@@ -12,6 +13,7 @@ mod past;
 mod refuse;
 mod report;
 mod run;
+mod runnable;
 mod source;
 mod status;
 mod sweep;
@@ -22,7 +24,8 @@ mod trace_limits;
 mod words;
 
 pub use laws::{
-    plain_programs_are_good, written_certificates_are_good, written_machines_agree_with_nodes,
+    plain_programs_are_good, stopped_runs_are_joined, written_certificates_are_good,
+    written_machines_agree_with_nodes,
 };
 pub use status::Status;
 pub use system::run_on_system;

@@ -61,8 +61,14 @@ pub(crate) fn report_large<E: Sink>(alloc: Global, diag: &mut E, limit: Limit) -
 }
 
 /// Reports why the machine of this name is not run, or that there is no memory.
-fn report_machine<E: Sink>(alloc: Global, diag: &mut E, node: &str, error: ExecErr) -> Status
+pub(crate) fn report_machine<E: Sink>(
+    alloc: Global,
+    diag: &mut E,
+    node: &str,
+    error: ExecErr,
+) -> Status
     ensures told { (line : List ℕ) × Grows (E.took diag.old) (E.took diag.new) line × RefusedMachine node.now error line (code_of result) }
+    ensures fails { code_of result ≢ 0 }
     ensures status { code_of result ≢ 4 }
     ensures faults { PutFaults (code_of result) (E.faults diag.old) (E.faults diag.new) }
 {

@@ -1,6 +1,6 @@
 ghost use Rattle.std.specs.Prelude.{◌≡◌, ◌<◌, ◌≤◌, [], vec_capacity, length, IfOk};
 ghost use Rattle.hp_driver.specs.Hearing.{HasRoom};
-ghost use Rattle.hp_driver.specs.Ran.{Ran};
+ghost use Rattle.hp_driver.specs.Ran.{Ran, RanTo};
 ghost use Rattle.hp_driver.specs.Faults.{TakeFaults, BothPutFaults};
 ghost use Rattle.hp_driver.specs.Happened.{Happened};
 ghost use Rattle.hp_driver.specs.Status.{code_of};
@@ -46,7 +46,7 @@ pub(crate) fn run_trace<R: Reactor, C: Console, E: Sink>(
     diag: &mut E,
 ) -> Status
     ensures ran { Happened (C.events console.old) (C.events console.new) (C.left console.old) (C.left console.new) (E.took diag.old) (E.took diag.new)
-        (λ log line. Ran R.machine reactor.old log line (code_of result)) }
+        (λ log line. Ran R.machine reactor.old log line (code_of result) × RanTo R.machine reactor.old log (code_of result) reactor.new) }
     ensures takes { TakeFaults (code_of result) (C.take_faults console.old) (C.take_faults console.new) }
     ensures puts { BothPutFaults (code_of result) (C.put_faults console.old) (C.put_faults console.new) (E.faults diag.old) (E.faults diag.new) }
 {

@@ -86,7 +86,7 @@ fn has_own_controls(item: &Item) -> bool
 }
 
 /// Whether a node of the program has controllable variables.
-fn has_controls(program: &Program) -> bool
+pub(crate) fn has_controls(program: &Program) -> bool
     ensures { result ≡ has_controls program.now }
 {
     for item in &program.items {

@@ -22,6 +22,8 @@ pub enum Status {
     NoCertificate,
     /// The text of machines is refused.
     NoMachines,
+    /// The checkpoint is refused.
+    NoCheckpoint,
 }
 
 impl Status {
@@ -39,6 +41,7 @@ impl Status {
             Status::NoMemory => 6,
             Status::NoCertificate => 7,
             Status::NoMachines => 8,
+            Status::NoCheckpoint => 9,
         }
     }
 }

@@ -5,19 +5,21 @@ ghost use Rattle.hp_io.specs.Faults.{Rose, Same, AllSame};
 ghost use Rattle.hp_io.specs.Reads.{Reading};
 ghost use Rattle.hp_io.specs.Told.{Grows};
 ghost use Rattle.hp_io.specs.declared.console.Event.{Event};
-ghost use Rattle.hp_driver.specs.Command.{IsSweepOf};
+ghost use Rattle.hp_driver.specs.Command.{IsNoSegment, IsSweepOf};
 ghost use Rattle.hp_driver.specs.Commanded.{Spells, file_of};
 ghost use Rattle.hp_driver.specs.GoodCalls.{AreCalm, IsGood, IsGoodCheck, IsGoodCompile, IsGoodPast, IsGoodProve, IsGoodRun, IsGoodVerify};
 ghost use Rattle.hp_driver.specs.Leaves.{Leaves, ReadRose, WriteRose};
 ghost use Rattle.hp_driver.specs.Log.{HeardFrom};
 ghost use Rattle.hp_driver.specs.Outcome.{Outcome, Gives};
 ghost use Rattle.hp_driver.specs.Readings.{AreReadings, ReadsOn};
+ghost use Rattle.hp_driver.specs.Segments.{CallOutcome};
 ghost use Rattle.hp_driver.specs.Faults.{InputFaults, OutputFaults, OnePutFailed};
 ghost use Rattle.hp_driver.specs.Happened.{Happened};
 ghost use Rattle.hp_driver.specs.Status.{code_of};
 ghost use Rattle.hp_driver.specs.Calls.{IsCall, moment};
 
 use crate::certificate::{run_prove, run_verify};
+use crate::checkpoint::run_segment;
 use crate::machines::run_machine;
 use crate::past::run_past;
 use crate::refuse::report_too_long;
@@ -25,11 +27,11 @@ use crate::report::report;
 use crate::source::run_source;
 use crate::status::Status;
 use crate::sweep::run_sweep;
-use crate::words::{Command, command_of, sweep_of};
+use crate::words::{Command, command_of, segment_of, sweep_of};
 use hp_io::{Console, Folder, ReadErr, Sink};
 use std::alloc::Global;
 
-const USAGE: &[u8] = b"usage: hept check run compile exec prove verify sweep past\n";
+const USAGE: &[u8] = b"usage: hept check run compile exec prove verify sweep past save resume\n";
 
 /// Does what is asked for with the text that was read.
 fn run_text<F: Folder, C: Console, E: Sink>(
@@ -62,7 +64,7 @@ fn run_text<F: Folder, C: Console, E: Sink>(
     }
 }
 
-/// Does what the words say, which ask for no sweep.
+/// Does what the words say, which ask for no sweep, and for no run that leaves a checkpoint.
 fn perform_command<F: Folder, C: Console, E: Sink>(
     alloc: Global,
     words: &[String],
@@ -70,7 +72,8 @@ fn perform_command<F: Folder, C: Console, E: Sink>(
     console: &mut C,
     diag: &mut E,
 ) -> Status
-    requires { (tasks instants : ℕ) → IsSweepOf (map string_bytes words.now) tasks instants → ⊥ }
+    requires sweep { (tasks instants : ℕ) → IsSweepOf (map string_bytes words.now) tasks instants → ⊥ }
+    requires segment { IsNoSegment (map string_bytes words.now) }
     ensures { IsCall (map string_bytes words.now)
         (moment (F.files files.old) (F.reads files.old) (F.write_faults files.old) (C.events console.old) (C.left console.old)
         (C.take_faults console.old) (C.put_faults console.old) (E.took diag.old) (E.faults diag.old))
@@ -93,14 +96,15 @@ fn perform_command<F: Folder, C: Console, E: Sink>(
     }
 }
 
-/// Does what the words say.
-fn perform<F: Folder, C: Console, E: Sink>(
+/// Does what the words say, which ask for no run that leaves a checkpoint.
+fn perform_other<F: Folder, C: Console, E: Sink>(
     alloc: Global,
     words: &[String],
     files: &mut F,
     console: &mut C,
     diag: &mut E,
 ) -> Status
+    requires { IsNoSegment (map string_bytes words.now) }
     ensures { IsCall (map string_bytes words.now)
         (moment (F.files files.old) (F.reads files.old) (F.write_faults files.old) (C.events console.old) (C.left console.old)
         (C.take_faults console.old) (C.put_faults console.old) (E.took diag.old) (E.faults diag.old))
@@ -117,6 +121,30 @@ fn perform<F: Folder, C: Console, E: Sink>(
     }
 }
 
+/// Does what the words say.
+fn perform<F: Folder, C: Console, E: Sink>(
+    alloc: Global,
+    words: &[String],
+    files: &mut F,
+    console: &mut C,
+    diag: &mut E,
+) -> Status
+    ensures { IsCall (map string_bytes words.now)
+        (moment (F.files files.old) (F.reads files.old) (F.write_faults files.old) (C.events console.old) (C.left console.old)
+        (C.take_faults console.old) (C.put_faults console.old) (E.took diag.old) (E.faults diag.old))
+        (moment (F.files files.new) (F.reads files.new) (F.write_faults files.new) (C.events console.new) (C.left console.new)
+        (C.take_faults console.new) (C.put_faults console.new) (E.took diag.new) (E.faults diag.new))
+        (code_of result) }
+{
+    let Ok(found) = segment_of(alloc, words) else {
+        return Status::NoMemory;
+    };
+    match found {
+        None => perform_other(alloc, words, files, console, diag),
+        Some(segment) => run_segment(alloc, segment, files, console, diag),
+    }
+}
+
 /// Does what the words say, over these files, this console and these diagnostics, and gives the status of the call.
 pub fn run_tool<F: Folder, C: Console, E: Sink>(
     alloc: Global,
@@ -125,16 +153,16 @@ pub fn run_tool<F: Folder, C: Console, E: Sink>(
     console: &mut C,
     diag: &mut E,
 ) -> u8
-    // What happened on the console and on the diagnostics, and why the call ended so.
+    // What happened on the console and on the diagnostics, and why the call ended so; of a run that leaves a checkpoint also which memory that stands for.
     ensures outcome { (log : List Event) × (line : List ℕ) × Grows (C.events console.old) (C.events console.new) log
         × HeardFrom (C.left console.old) (C.left console.new) log
         × Grows (E.took diag.old) (E.took diag.new) line
-        × Outcome (map string_bytes words.now) (F.files files.old) log line result }
+        × CallOutcome (map string_bytes words.now) (F.files files.old) (F.files files.new) log line result }
 
-    // No file is changed but the one that is to be written, which then holds the machines of the program, its text without the formulas of its contracts, or a certificate.
+    // No file is changed but the one that is to be written, which then holds the machines of the program, its text without the formulas of its contracts, a certificate, or a checkpoint.
     ensures leaves { Leaves (map string_bytes words.now) (F.files files.old) (F.files files.new) result }
 
-    // What is read are the file, with the limit of its kind of text, and of `verify` behind it the certificate, with its limit.
+    // What is read are the file, with the limit of its kind of text, and behind it, with its limit, the certificate of `verify` or the checkpoint of `resume`.
     ensures readings { (gave : List Reading) × Grows (F.reads files.old).gave (F.reads files.new).gave gave × AreReadings (map string_bytes words.now) gave }
 
     // Where the status is 4 or 5 one call failed of those that the words ask for, and it was the last on its object. On each other object none failed, and where the status is another one none failed at all.

@@ -1,8 +1,8 @@
 //! The words of a call.
 ghost use Rattle.std.specs.Prelude.{◌≡◌, ◌↔◌, ◌≤◌, ◌<◌, ◌⊎◌, ℕ, List, [], ◌∷◌, map, take, IfOk, IsTrue, MatchOption};
 ghost use Rattle.std.specs.String.{string_bytes};
-ghost use Rattle.hp_driver.specs.Command.{IsOnTraceBy, IsOnCertBy, IsPlainCheckOf, IsPrintOf, IsNoSourceCommand, IsNoCertCommand, IsNoFileCommand, IsSweepOf, IsTellOf, SpellsNumber, with_digit};
-ghost use Rattle.hp_driver.specs.Commanded.{AreBoth, SpellsTask, Spells, file_of, limit_of};
+ghost use Rattle.hp_driver.specs.Command.{IsOnTraceBy, IsOnCertBy, IsPlainCheckOf, IsPrintOf, IsNoSourceCommand, IsNoCertCommand, IsNoFileCommand, IsNoSegment, IsResumeOf, IsSweepOf, IsTellOf, SpellsNumber, with_digit};
+ghost use Rattle.hp_driver.specs.Commanded.{AreBoth, SpellsSegment, SpellsTask, Spells, file_of, limit_of};
 
 use crate::sweep::Sweep;
 use hp_arguments::{is_argument, one_argument, three_arguments, two_arguments};
@@ -15,6 +15,8 @@ const CHECK: &str = "check";
 const PRINT: &str = "--print";
 
 const RUN: &str = "run";
+
+const RESUME: &str = "resume";
 
 /// The option of `run` by which the values of the assumption and the guarantee are told too.
 const CONTRACT: &str = "--contract";
@@ -35,6 +37,17 @@ pub(crate) enum Task<'a> {
     Check { print: bool },
     /// `compile FILE OUT`
     Compile { out: &'a str },
+}
+
+/// A run of a node that leaves a checkpoint: `save FILE NODE MEM`, or `resume FILE NODE MEM OUT`.
+#[derive(Clone, Copy, Debug)]
+pub(crate) struct Segment<'a> {
+    pub file: &'a str,
+    pub node: &'a str,
+    /// The file of the checkpoint with whose memory the run begins; none where it begins with the memory after a reset.
+    pub from: Option<&'a str>,
+    /// The file to which the checkpoint of the memory behind the run is written.
+    pub out: &'a str,
 }
 
 /// What is asked for.
@@ -119,7 +132,7 @@ fn command_with_two<'a>(
     two_arguments(alloc, words)
 }
 
-/// The words `NAME FILE NODE CERT`: the file, the name of the node and the file of the certificate.
+/// The words `NAME FILE NODE CERT`, or `NAME FILE NODE MEM`: the file, the name of the node and the file of the certificate or the checkpoint.
 fn command_with_three<'a>(
     alloc: Global,
     name: &str,
@@ -243,6 +256,7 @@ pub(crate) fn command_of<'a>(
     alloc: Global,
     words: &'a [String],
 ) -> Result<Option<Command<'a>>, AllocError>
+    requires { IsNoSegment (map string_bytes words.now) }
     ensures { IfOk result (λ found. MatchOption found (IsNoFileCommand (map string_bytes words.entry.now)) (λ command. Spells (map string_bytes words.entry.now) command)) }
 {
     if let Some((file, node)) = command_with_two(alloc, "exec", words)? {
@@ -258,6 +272,45 @@ pub(crate) fn command_of<'a>(
         return Ok(None);
     };
     Ok(Some(Command::Source { file, task }))
+}
+
+/// The words `resume FILE NODE MEM OUT`.
+fn resumed_segment(words: &[String]) -> Option<Segment<'_>>
+    ensures { MatchOption result ((file node mem out : List ℕ) → IsResumeOf (map string_bytes words.entry.now) file node mem out → ⊥)
+        (λ segment. SpellsSegment (map string_bytes words.entry.now) segment) }
+{
+    let [command, file, node, mem, out] = words else {
+        return None;
+    };
+    if command.as_str() != RESUME {
+        return None;
+    }
+    let (file, node) = file_and_node(file.as_str(), node.as_str())?;
+    let (mem, out) = file_and_node(mem.as_str(), out.as_str())?;
+    Some(Segment {
+        file,
+        node,
+        from: Some(mem),
+        out,
+    })
+}
+
+/// What the words ask for, if it is a run that leaves a checkpoint.
+pub(crate) fn segment_of<'a>(
+    alloc: Global,
+    words: &'a [String],
+) -> Result<Option<Segment<'a>>, AllocError>
+    ensures { IfOk result (λ found. MatchOption found (IsNoSegment (map string_bytes words.entry.now)) (λ segment. SpellsSegment (map string_bytes words.entry.now) segment)) }
+{
+    if let Some((file, node, out)) = command_with_three(alloc, "save", words)? {
+        return Ok(Some(Segment {
+            file,
+            node,
+            from: None,
+            out,
+        }));
+    }
+    Ok(resumed_segment(words))
 }
 
 /// A number with one more digit behind it, if the byte is one.

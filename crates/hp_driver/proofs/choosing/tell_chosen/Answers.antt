@@ -49,5 +49,5 @@ returns-clause-outcome g c =
       ran.3,
       ran.4,
       told_ran c.args.ending o name e ran.0 ran.1 (code_of c.run_trace.result) c.in-Ok.ensures
-          (subst (λ s. Ran telling s ran.0 ran.1 (code_of c.run_trace.result)) c.in-Ok-new.ensures ran.5),
+          (subst (λ s. Ran telling s ran.0 ran.1 (code_of c.run_trace.result)) c.in-Ok-new.ensures ran.5.0),
     )

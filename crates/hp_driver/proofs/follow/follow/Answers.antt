@@ -7,11 +7,11 @@ use Rattle.std.specs.Prelude.{Option, ◌⊎◌}
 use Rattle.hp_io.proofs.FaultLaws.{Same-refl, Same-trans}
 use Rattle.hp_io.proofs.ToldLaws.{Grows-nil, Grows-same, Grows-trans, Loses-nil}
 use Rattle.hp_driver.specs.Trace.{Machine}
-use Rattle.hp_driver.specs.Course.{At}
+use Rattle.hp_driver.specs.Course.{At, Reaches}
 use Rattle.hp_driver.specs.Hearing.{at, Course}
 use Rattle.hp_driver.specs.Log.{heard, HeardFrom}
 use Rattle.hp_driver.specs.declared.trace_limits.End.TheVariants.{TakeFailed}
-use Rattle.hp_driver.proofs.FollowLaws.{begins, follows_on, closes_by_stop, closes_by_end, closes_by_fault, closes_by_asked_fault, turn, last_turn, turn_grows, turn_loses, last_grows, last_loses, heard-append, ended_by, open_turn, goes_on, nothing_left, IsFollowing}
+use Rattle.hp_driver.proofs.FollowLaws.{begins, follows_on, closes_by_stop, closes_by_end, closes_by_fault, closes_by_asked_fault, reaches_by_end, reaches_by_stop, turn, last_turn, turn_grows, turn_loses, last_grows, last_loses, heard-append, ended_by, open_turn, goes_on, nothing_left, IsFollowing}
 use Rattle.hp_driver.proofs.LineLaws.{last_line_open}
 use Rattle.hp_driver.proofs.follow.follow.Goals as goal
 
@@ -83,6 +83,8 @@ returns-in-Err-clause-course g c =
         goes_on (log ++ turn piece out) (ended_by log (turn piece out) i.0.3.still_open ∙ open_turn piece out) (console.left c.hear.new.console),
       ),
       subst (Course g.R.Reactor.machine c.args.reactor.now (log ++ turn piece out)) (sym c.from.ensures) (record { in_step = closed.0; closes = closed.1 }),
+      subst (λ end. Reaches g.R.Reactor.machine c.args.reactor.now (log ++ turn piece out) end c.hear.new.reactor) (sym c.from.ensures)
+          (reaches_by_stop g.R.Reactor.machine c.args.reactor.now (log ++ turn piece out) c.in-Err.stop c.hear.new.reactor),
     )
 
 pub returns-then-count-eq0-clause-course : goal.returns-then-count-eq0-clause-course
@@ -107,18 +109,20 @@ returns-then-count-eq0-clause-course g c =
             n buffer c.if-count-eq0.true (take_.end c.if-count-eq0.true) take_.left end.left,
       ),
       record { in_step = closed.0; closes = closed.1 },
+      reaches_by_end g.R.Reactor.machine c.args.reactor.now log a out c.finish.result c.finish.new.reactor i.0.3 end.out.3,
     )
 
 -- a take that failed, where the console was asked or not
 failed_take : {S : Type 0} (machine : Machine S) (start : S) (log : List Event) (at' : At S) (a b d : Option (List Event)) (l m n : Option (List ℕ)) →
     IsFollowing machine start log at' → Grows a b log → (Grows b d [] ⊎ Grows b d (Asked ∷ [])) → Loses l m (heard log) → n ≡ m →
-    (x : List Event) × Grows a d x × HeardFrom l n x × Course machine start x TakeFailed
+    (x : List Event) × Grows a d x × HeardFrom l n x × Course machine start x TakeFailed × Unit {0}
 failed_take machine start log at' a b d l m n h p (inl q) r e =
     let closed = closes_by_fault machine start log at' h in (
       log,
       subst (λ z. Grows a z log) (sym (Grows-same b d q)) p,
       (subst (λ z. Loses l z (heard log)) (sym e) r, goes_on log h.still_open n),
       record { in_step = closed.0; closes = closed.1 },
+      tt,
     )
 failed_take machine start log at' a b d l m n h p (inr q) r e =
     let closed = closes_by_asked_fault machine start log at' h in (
@@ -129,6 +133,7 @@ failed_take machine start log at' a b d l m n h p (inr q) r e =
         goes_on (log ++ Asked ∷ []) (ended_by log (Asked ∷ []) h.still_open) n,
       ),
       record { in_step = closed.0; closes = closed.1 },
+      tt,
     )
 
 pub returns-in_default-clause-course : goal.returns-in_default-clause-course

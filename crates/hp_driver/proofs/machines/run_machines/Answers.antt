@@ -45,5 +45,5 @@ returns-clause-outcome g c =
       ran.3,
       ran.4,
       machine_ran c.machines_run_the_nodes_of_texts.ensures c.machines_keep_contracts.ensures.run node o e ran.0 ran.1 (code_of c.run_trace.result) c.in-Ok.ensures
-          (subst (λ s. Ran executing s ran.0 ran.1 (code_of c.run_trace.result)) c.in-Ok-new.ensures ran.5),
+          (subst (λ s. Ran executing s ran.0 ran.1 (code_of c.run_trace.result)) c.in-Ok-new.ensures ran.5.0),
     )

@@ -1,13 +1,9 @@
-use Rattle.std.proofs.Common.{[], inr, map, refl, arith, rules}
+use Rattle.std.proofs.Common.{[], map, refl, arith, rules}
 use Rattle.std.specs.String.{string_bytes}
 use Rattle.std.proofs.lemmas.Option.{MatchOption-at_some}
-use Rattle.hp_io.proofs.FaultLaws.{AllSame-refl}
 use Rattle.hp_io.proofs.ToldLaws.{Grows-nil}
-use Rattle.hp_driver.specs.Command.{IsSweepOf}
 use Rattle.hp_driver.specs.Leaves.{Leaves}
-use Rattle.hp_driver.specs.Outcome.{Outcome}
-use Rattle.hp_driver.specs.Status.{code_of}
-use Rattle.hp_driver.proofs.MachineLaws.{sweep_leaves}
+use Rattle.hp_driver.specs.Segments.{CallOutcome}
 use Rattle.hp_driver.proofs.RanLaws.{heard_nothing}
 use Rattle.hp_driver.proofs.ReadingLaws.{read_none}
 use Rattle.hp_driver.proofs.tool.perform.Goals as goal
@@ -16,7 +12,7 @@ pub returns-in_default : goal.returns-in_default
 returns-in_default g c =
     let words = map string_bytes c.args.words.now in
     record {
-      outcome = ([], [], Grows-nil (g.C.Console.events c.args.console.now), heard_nothing (g.C.Console.left c.args.console.now), Grows-nil (g.E.Sink.took c.args.diag.now), Outcome.no_memory);
+      outcome = ([], [], Grows-nil (g.C.Console.events c.args.console.now), heard_nothing (g.C.Console.left c.args.console.now), Grows-nil (g.E.Sink.took c.args.diag.now), CallOutcome.no_memory);
       leaves = Leaves.as_they_were refl (λ out w h. omega (arith, h));
       readings = read_none words (g.F.Folder.reads c.args.files.now).gave;
       reads = (search rules, search rules);
@@ -24,21 +20,4 @@ returns-in_default g c =
     }
 
 pub returns-in-Some : goal.returns-in-Some
-returns-in-Some g c =
-    let words = map string_bytes c.args.words.now in
-    let files = g.F.Folder.files c.args.files.now in
-    let sweep = c.in-Some.sweep in
-    let status = code_of c.run_sweep.result in
-    let w : IsSweepOf words sweep.tasks sweep.instants = MatchOption-at_some _ _ sweep c.in-Some.is c.in-Ok.ensures in
-    let ran = c.run_sweep.ensures.outcome in
-    let faults = c.run_sweep.ensures.puts in
-    record {
-      outcome = (ran.0, ran.1, ran.2, ran.3, ran.4, ran.5 words files w);
-      leaves = sweep_leaves words sweep.tasks sweep.instants files status w;
-      readings = read_none words (g.F.Folder.reads c.args.files.now).gave;
-      reads = (λ h. absurd (c.run_sweep.ensures.status h), λ h. (AllSame-refl (g.F.Folder.reads c.args.files.now).faults, c.run_sweep.ensures.takes));
-      writes = (
-        λ h. inr (AllSame-refl (g.F.Folder.write_faults c.args.files.now), faults.0 h),
-        λ h. (AllSame-refl (g.F.Folder.write_faults c.args.files.now), (faults.1 h).0, (faults.1 h).1),
-      );
-    }
+returns-in-Some g c = c.run_segment.ensures (map string_bytes c.args.words.now) (MatchOption-at_some _ _ c.in-Some.segment c.in-Some.is c.in-Ok.ensures)

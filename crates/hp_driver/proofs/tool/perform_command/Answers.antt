@@ -10,6 +10,7 @@ use Rattle.hp_base.specs.Limits.{most}
 use Rattle.hp_driver.specs.Commanded.{file_of, limit_of}
 use Rattle.hp_driver.specs.Diagnostics.{too_long_line}
 use Rattle.hp_driver.specs.Outcome.{Outcome, Gives, GivesMoreThan}
+use Rattle.hp_driver.specs.Segments.{CallOutcome}
 use Rattle.hp_driver.proofs.RanLaws.{heard_nothing}
 use Rattle.hp_driver.specs.Leaves.{Leaves}
 use Rattle.hp_driver.proofs.MachineLaws.{no_command_leaves, not_done_or_not, read_rose_before, rose_before}
@@ -22,7 +23,7 @@ pub returns-in_default : goal.returns-in_default
 returns-in_default g c =
     let words = map string_bytes c.args.words.now in
     record {
-      outcome = ([], [], Grows-nil (g.C.Console.events c.args.console.now), heard_nothing (g.C.Console.left c.args.console.now), Grows-nil (g.E.Sink.took c.args.diag.now), Outcome.no_memory);
+      outcome = ([], [], Grows-nil (g.C.Console.events c.args.console.now), heard_nothing (g.C.Console.left c.args.console.now), Grows-nil (g.E.Sink.took c.args.diag.now), CallOutcome.no_memory);
       leaves = Leaves.as_they_were refl (λ out w h. omega (arith, h));
       readings = read_none words (g.F.Folder.reads c.args.files.now).gave;
       reads = (search rules, search rules);
@@ -34,9 +35,9 @@ returns-in_default-found g c =
     let words = map string_bytes c.args.words.now in
     let files = g.F.Folder.files c.args.files.now in
     let told = told_of (Outcome words files []) (λ line b rest status r. Outcome.line_failed line b rest r) (g.E.Sink.took c.args.diag.now) (g.E.Sink.took c.report.new.diag)
-    usage_line 2 (code_of c.report.result) c.report.ensures.reports (Outcome.usage (MatchOption-at_none _ _ c.in_default-found.is c.in-Ok.ensures, c.requires)) in
+    usage_line 2 (code_of c.report.result) c.report.ensures.reports (Outcome.usage (MatchOption-at_none _ _ c.in_default-found.is c.in-Ok.ensures, c.requires.sweep)) in
     record {
-      outcome = ([], told.0, Grows-nil (g.C.Console.events c.args.console.now), heard_nothing (g.C.Console.left c.args.console.now), told.1, told.2);
+      outcome = ([], told.0, Grows-nil (g.C.Console.events c.args.console.now), heard_nothing (g.C.Console.left c.args.console.now), told.1, CallOutcome.command c.requires.segment told.2);
       leaves = no_command_leaves (map string_bytes c.args.words.now) (g.F.Folder.files c.args.files.now) (code_of c.report.result) (MatchOption-at_none _ _ c.in_default-found.is c.in-Ok.ensures);
       readings = read_none words (g.F.Folder.reads c.args.files.now).gave;
       reads = (search rules, search rules);
@@ -56,7 +57,7 @@ returns-in-Err-Failed g c =
         Grows-nil (g.C.Console.events c.args.console.now),
         heard_nothing (g.C.Console.left c.args.console.now),
         Grows-nil (g.E.Sink.took c.args.diag.now),
-        Outcome.unread (first_of (map string_bytes c.args.words.now) c.in-Some.command (MatchOption-at_some _ _ c.in-Some.command c.in-Some.is c.in-Ok.ensures)),
+        CallOutcome.command c.requires.segment (Outcome.unread (first_of (map string_bytes c.args.words.now) c.in-Some.command (MatchOption-at_some _ _ c.in-Some.command c.in-Some.is c.in-Ok.ensures))),
       );
       leaves = Leaves.as_they_were c.read.ensures.files (λ out w h. omega (arith, h));
       readings = read_nothing words (g.F.Folder.reads c.args.files.now).gave (g.F.Folder.reads c.read.new.self).gave failed.0;
@@ -80,7 +81,7 @@ returns-in-Err-TooLong g c =
     let told = told_or_not (Outcome words files []) (λ line b rest status r. Outcome.line_failed line b rest r) Outcome.no_memory (g.E.Sink.took c.args.diag.now) (g.E.Sink.took c.report_too_long.new.diag)
     (too_long_line (limit_of command)) 1 (code_of c.report_too_long.result) (search rules) (too_long_of words files command asked long) in
     record {
-      outcome = ([], told.0, Grows-nil (g.C.Console.events c.args.console.now), heard_nothing (g.C.Console.left c.args.console.now), told.1, told.2);
+      outcome = ([], told.0, Grows-nil (g.C.Console.events c.args.console.now), heard_nothing (g.C.Console.left c.args.console.now), told.1, CallOutcome.command c.requires.segment told.2);
       leaves = Leaves.as_they_were c.read.ensures.files (λ out w. not_done_or_not (g.E.Sink.took c.args.diag.now) (g.E.Sink.took c.report_too_long.new.diag)
           (too_long_line (limit_of c.in-Some.command)) (code_of c.report_too_long.result) (search rules));
       readings = read_nothing words (g.F.Folder.reads c.args.files.now).gave (g.F.Folder.reads c.read.new.self).gave (search rules);
@@ -92,7 +93,7 @@ pub returns : goal.returns
 returns g c =
     let words = map string_bytes c.args.words.now in
     record {
-      outcome = ([], [], Grows-nil (g.C.Console.events c.args.console.now), heard_nothing (g.C.Console.left c.args.console.now), Grows-nil (g.E.Sink.took c.args.diag.now), Outcome.no_memory);
+      outcome = ([], [], Grows-nil (g.C.Console.events c.args.console.now), heard_nothing (g.C.Console.left c.args.console.now), Grows-nil (g.E.Sink.took c.args.diag.now), CallOutcome.no_memory);
       leaves = Leaves.as_they_were c.read.ensures.files (λ out w h. omega (arith, h));
       readings = read_nothing words (g.F.Folder.reads c.args.files.now).gave (g.F.Folder.reads c.read.new.self).gave (search rules);
       reads = (search rules, search rules);
@@ -123,7 +124,7 @@ returns-in-Ok-read g c =
         ran.2,
         ran.3,
         ran.4,
-        subst (λ z. Outcome words z ran.0 ran.1 (code_of c.run_text.result)) same (ran.5 words asked (subst (λ z. Gives z (file_of command) text) (sym same) gives)),
+        CallOutcome.command c.requires.segment (subst (λ z. Outcome words z ran.0 ran.1 (code_of c.run_text.result)) same (ran.5 words asked (subst (λ z. Gives z (file_of command) text) (sym same) gives))),
       );
       leaves = search rules;
       readings = read_on words command (g.F.Folder.reads c.args.files.now).gave (g.F.Folder.reads c.read.new.self).gave (g.F.Folder.reads c.run_text.new.files).gave asked gave.0 c.run_text.ensures.readings;

@@ -5,7 +5,9 @@ use Rattle.hp_driver.proofs.ContractCalls.{good_prove, good_verify}
 use Rattle.hp_driver.proofs.PastCalls.{good_past}
 use Rattle.hp_driver.proofs.ReadingLaws.{calm_call}
 use Rattle.hp_driver.proofs.SourceCalls.{good_check, good_compile, good_run}
+use Rattle.hp_driver.proofs.SegmentLaws.{command_outcome}
 use Rattle.hp_driver.proofs.StatusLaws.{numbered}
+use Rattle.hp_driver.proofs.WordLaws.{check_segment, compile_segment, exec_segment, past_segment, prove_segment, run_segment, verify_segment}
 use Rattle.hp_driver.proofs.tool.run_tool.Goals as goal
 
 pub returns-clause-outcome : goal.returns-clause-outcome
@@ -35,36 +37,43 @@ returns-clause-no_write_fault g c = (numbered c.code.ensures c.perform.ensures).
 pub returns-clause-complete : goal.returns-clause-complete
 returns-clause-complete g c =
     let ran = (numbered c.code.ensures c.perform.ensures).outcome in
+    let other = command_outcome (map string_bytes c.args.words.now) (g.F.Folder.files c.args.files.now) (g.F.Folder.files c.perform.new.files) in
     λ good f h. good_call (map string_bytes c.args.words.now) (g.F.Folder.files c.args.files.now) (g.C.Console.left c.args.console.now) (g.C.Console.left c.perform.new.console)
-    ran.0 ran.1 c.code.result good ran.3 ran.5 f h
+    ran.0 ran.1 c.code.result good ran.3 (other ran.0 ran.1 c.code.result (exec_segment (map string_bytes c.args.words.now) good.file good.node good.asked) ran.5) f h
 
 pub returns-clause-complete_check : goal.returns-clause-complete_check
 returns-clause-complete_check g c =
     let ran = (numbered c.code.ensures c.perform.ensures).outcome in
-    λ good f h. good_check (map string_bytes c.args.words.now) (g.F.Folder.files c.args.files.now) ran.0 ran.1 c.code.result good ran.5 f h
+    let other = command_outcome (map string_bytes c.args.words.now) (g.F.Folder.files c.args.files.now) (g.F.Folder.files c.perform.new.files) in
+    λ good f h. good_check (map string_bytes c.args.words.now) (g.F.Folder.files c.args.files.now) ran.0 ran.1 c.code.result good (other ran.0 ran.1 c.code.result (check_segment (map string_bytes c.args.words.now) good.file good.print good.asked) ran.5) f h
 
 pub returns-clause-complete_compile : goal.returns-clause-complete_compile
 returns-clause-complete_compile g c =
     let ran = (numbered c.code.ensures c.perform.ensures).outcome in
-    λ good f h. good_compile (map string_bytes c.args.words.now) (g.F.Folder.files c.args.files.now) ran.0 ran.1 c.code.result good ran.5 f h
+    let other = command_outcome (map string_bytes c.args.words.now) (g.F.Folder.files c.args.files.now) (g.F.Folder.files c.perform.new.files) in
+    λ good f h. good_compile (map string_bytes c.args.words.now) (g.F.Folder.files c.args.files.now) ran.0 ran.1 c.code.result good (other ran.0 ran.1 c.code.result (compile_segment (map string_bytes c.args.words.now) good.file good.out good.asked) ran.5) f h
 
 pub returns-clause-complete_run : goal.returns-clause-complete_run
 returns-clause-complete_run g c =
     let ran = (numbered c.code.ensures c.perform.ensures).outcome in
+    let other = command_outcome (map string_bytes c.args.words.now) (g.F.Folder.files c.args.files.now) (g.F.Folder.files c.perform.new.files) in
     λ good f h. good_run (map string_bytes c.args.words.now) (g.F.Folder.files c.args.files.now) (g.C.Console.left c.args.console.now) (g.C.Console.left c.perform.new.console)
-    ran.0 ran.1 c.code.result good ran.3 ran.5 f h
+    ran.0 ran.1 c.code.result good ran.3 (other ran.0 ran.1 c.code.result (run_segment (map string_bytes c.args.words.now) good.file good.node good.asked) ran.5) f h
 
 pub returns-clause-complete_past : goal.returns-clause-complete_past
 returns-clause-complete_past g c =
     let ran = (numbered c.code.ensures c.perform.ensures).outcome in
-    λ good f h. good_past (map string_bytes c.args.words.now) (g.F.Folder.files c.args.files.now) ran.0 ran.1 c.code.result good ran.5 f h
+    let other = command_outcome (map string_bytes c.args.words.now) (g.F.Folder.files c.args.files.now) (g.F.Folder.files c.perform.new.files) in
+    λ good f h. good_past (map string_bytes c.args.words.now) (g.F.Folder.files c.args.files.now) ran.0 ran.1 c.code.result good (other ran.0 ran.1 c.code.result (past_segment (map string_bytes c.args.words.now) good.file good.out good.asked) ran.5) f h
 
 pub returns-clause-complete_prove : goal.returns-clause-complete_prove
 returns-clause-complete_prove g c =
     let ran = (numbered c.code.ensures c.perform.ensures).outcome in
-    λ good f h. good_prove (map string_bytes c.args.words.now) (g.F.Folder.files c.args.files.now) ran.0 ran.1 c.code.result good ran.5 f h
+    let other = command_outcome (map string_bytes c.args.words.now) (g.F.Folder.files c.args.files.now) (g.F.Folder.files c.perform.new.files) in
+    λ good f h. good_prove (map string_bytes c.args.words.now) (g.F.Folder.files c.args.files.now) ran.0 ran.1 c.code.result good (other ran.0 ran.1 c.code.result (prove_segment (map string_bytes c.args.words.now) good.file good.node good.cert good.asked) ran.5) f h
 
 pub returns-clause-complete_verify : goal.returns-clause-complete_verify
 returns-clause-complete_verify g c =
     let ran = (numbered c.code.ensures c.perform.ensures).outcome in
-    λ good f h. good_verify (map string_bytes c.args.words.now) (g.F.Folder.files c.args.files.now) ran.0 ran.1 c.code.result good ran.5 f h
+    let other = command_outcome (map string_bytes c.args.words.now) (g.F.Folder.files c.args.files.now) (g.F.Folder.files c.perform.new.files) in
+    λ good f h. good_verify (map string_bytes c.args.words.now) (g.F.Folder.files c.args.files.now) ran.0 ran.1 c.code.result good (other ran.0 ran.1 c.code.result (verify_segment (map string_bytes c.args.words.now) good.file good.node good.cert good.asked) ran.5) f h

@@ -1,0 +1,125 @@
+-- The kinds of what a machine keeps are those of its values, and a checkpoint of it is one.
+use Rattle.std.proofs.Common.{◌≡◌, ℕ, suc, ◌+◌, Bool, true, false, if◌then◌else◌, List, [], ◌∷◌, ◌++◌, length, map, None, Some, refl, sym, ap, subst, ◌∙◌, arith}
+use Rattle.std.specs.List.{slice_get}
+use Rattle.std.specs.Option.{unwrap_or}
+use Rattle.std.specs.Str.{bytes_eq}
+use Rattle.hp_base.specs.Kinds.{KindData, Bools, Ints, Constructors, IsOfKind, AreOfKinds}
+use Rattle.hp_base.specs.declared.ty.Ty.{Ty}
+use Rattle.hp_base.specs.declared.ty.Ty.TheVariants.{Bool as BoolTy, Int as IntTy, Enum as EnumTy}
+use Rattle.hp_base.specs.declared.value.Value.{Value}
+use Rattle.hp_base.specs.declared.value.Value.TheVariants.{B, E, I}
+use Rattle.hp_obc.specs.Form.{mem_vars}
+use Rattle.hp_obc.specs.Kinded.{MemoryKinds, InnerKinds, memory_kinds, no_kinds, more_kinds, inner_kinds, HasKinds, HaveKinds, kinds_in, kinds_of_kept, kinds_behind, machine_keeps, none_kept}
+use Rattle.hp_obc.specs.Machines.{ObcType, Machine, Obc}
+use Rattle.hp_obc.specs.Steps.{Memory, Memories, memory, no_memory, more_memories, Names, given}
+use Rattle.hp_obc.specs.Values.{enum_from, kind_of}
+use Rattle.hp_obc.specs.declared.machine.Var.{Var}
+use Rattle.hp_obctext.specs.MemoryKinds.{constructors_at, constructors_of, kind_at, kinds_at}
+use Rattle.hp_exec.specs.Layouts.{flattened, all_flattened, flat_kinds, all_flat_kinds}
+
+-- ---- a memory as one list
+
+both : (kinds more : List KindData) (values others : List Value) → AreOfKinds kinds values → AreOfKinds more others → AreOfKinds (kinds ++ more) (values ++ others)
+both [] more [] others h g = g
+both [] more (v ∷ values) others h g = absurd h
+both (k ∷ kinds) more [] others h g = absurd h
+both (k ∷ kinds) more (v ∷ values) others h g = (h.0, both kinds more values others h.1 g)
+
+mutual
+  -- a memory of its kinds is so as one list
+  pub has_flat : (kinds : MemoryKinds) (m : Memory) → HasKinds kinds m → AreOfKinds (flat_kinds kinds) (flattened m)
+  has_flat (memory_kinds ks inner) (memory values more) h = both ks (all_flat_kinds inner) values (all_flattened more) h.0 (have_flat inner more h.1)
+
+  have_flat : (kinds : InnerKinds) (ms : Memories) → HaveKinds kinds ms → AreOfKinds (all_flat_kinds kinds) (all_flattened ms)
+  have_flat no_kinds no_memory h = tt
+  have_flat no_kinds (more_memories m ms) h = absurd h
+  have_flat (more_kinds k ks) no_memory h = absurd h
+  have_flat (more_kinds k ks) (more_memories m ms) h = both (flat_kinds k) (all_flat_kinds ks) (flattened m) (all_flattened ms) (has_flat k m h.0) (have_flat ks ms h.1)
+
+-- ---- kinds of declared types
+
+-- the constructors of a kind are those of the type of its number
+abbrev pub IsDeclared : List ObcType → KindData → Type 0
+IsDeclared types Bools = Unit {0}
+IsDeclared types Ints = Unit {0}
+IsDeclared types (Constructors n names) = constructors_at types n ≡ names
+
+abbrev pub AreDeclared : List ObcType → List KindData → Type 0
+AreDeclared types [] = Unit {0}
+AreDeclared types (k ∷ kinds) = IsDeclared types k × AreDeclared types kinds
+
+declared_both : (types : List ObcType) (kinds more : List KindData) → AreDeclared types kinds → AreDeclared types more → AreDeclared types (kinds ++ more)
+declared_both types [] more h g = g
+declared_both types (k ∷ kinds) more h g = (h.0, declared_both types kinds more h.1 g)
+
+-- a value of such a kind tells it
+kind_found : (types : List ObcType) (k : KindData) (v : Value) → IsDeclared types k → IsOfKind k v → kind_at types v ≡ k
+kind_found types Bools (B b) d h = refl
+kind_found types Bools v d h = absurd h
+kind_found types Ints (I n) d h = refl
+kind_found types Ints v d h = absurd h
+kind_found types (Constructors n names) (E t c) d h = (λ i. Constructors (h.0 i) (constructors_at types (h.0 i))) ∙ ap (λ xs. Constructors n xs) d
+kind_found types (Constructors n names) v d h = absurd h
+
+pub kinds_found : (types : List ObcType) (kinds : List KindData) (values : List Value) → AreDeclared types kinds → AreOfKinds kinds values → kinds_at types values ≡ kinds
+kinds_found types [] [] d h = refl
+kinds_found types [] (v ∷ values) d h = absurd h
+kinds_found types (k ∷ kinds) [] d h = absurd h
+kinds_found types (k ∷ kinds) (v ∷ values) d h = λ i. kind_found types k v d.0 h.0 i ∷ kinds_found types kinds values d.1 h.1 i
+
+-- ---- the kinds that a machine declares
+
+-- some of the types stand behind n others
+abbrev Behind : List ObcType → ℕ → List ObcType → Type 0
+Behind all n types = (i : ℕ) → slice_get all (n + i) ≡ slice_get types i
+
+enum_declared_by : (d : Bool) (all : List ObcType) (n : ℕ) (t : ObcType) (types : List ObcType) (x : List ℕ) → Behind all n (t ∷ types) → IsDeclared all (unwrap_or (enum_from (suc n) types x) Bools) →
+    IsDeclared all (unwrap_or (if d then Some (Constructors n t.cons) else enum_from (suc n) types x) Bools)
+enum_declared_by true all n t types x b rest =
+    let here : n ≡ n + 0 = omega arith in
+    ap (λ k. constructors_of (slice_get all k)) here ∙ ap constructors_of (b 0)
+enum_declared_by false all n t types x b rest = rest
+
+enum_declared : (all : List ObcType) (n : ℕ) (types : List ObcType) (x : List ℕ) → Behind all n types → IsDeclared all (unwrap_or (enum_from n types x) Bools)
+enum_declared all n [] x b = tt
+enum_declared all n (t ∷ types) x b =
+    enum_declared_by (bytes_eq t.name x) all n t types x b (enum_declared all (suc n) types x (λ i. let next : suc n + i ≡ n + suc i = omega arith in ap (slice_get all) next ∙ b (suc i)))
+
+type_declared : (types : List ObcType) (ty : Ty) → IsDeclared types (unwrap_or (kind_of types ty) Bools)
+type_declared types BoolTy = tt
+type_declared types IntTy = tt
+type_declared types (EnumTy x) = enum_declared types 0 types x (λ i. ap (slice_get types) (omega arith))
+
+vars_declared : (types : List ObcType) (vars : List Var) → AreDeclared types (kinds_in types vars)
+vars_declared types [] = tt
+vars_declared types (x ∷ vars) = (type_declared types x.ty, vars_declared types vars)
+
+abbrev AllDeclared : List ObcType → Names MemoryKinds → Type 0
+AllDeclared types known = (x : List ℕ) → AreDeclared types (flat_kinds (known x))
+
+insts_declared : (types : List ObcType) (known : Names MemoryKinds) (insts : List (List ℕ × List ℕ)) → AllDeclared types known →
+    AreDeclared types (all_flat_kinds (inner_kinds (map (λ (i : List ℕ × List ℕ). known i.1) insts)))
+insts_declared types known [] h = tt
+insts_declared types known (i ∷ insts) h = declared_both types (flat_kinds (known i.1)) (all_flat_kinds (inner_kinds (map (λ (i : List ℕ × List ℕ). known i.1) insts))) (h i.1) (insts_declared types known insts h)
+
+kept_declared : (types : List ObcType) (known : Names MemoryKinds) (m : Machine) → AllDeclared types known → AreDeclared types (flat_kinds (kinds_of_kept types known m))
+kept_declared types known m h =
+    declared_both types (kinds_in types (mem_vars m.mems)) (all_flat_kinds (inner_kinds (map (λ (i : List ℕ × List ℕ). known i.1) m.insts))) (vars_declared types (mem_vars m.mems)) (insts_declared types known m.insts h)
+
+next_declared : (d : Bool) (types : List ObcType) (x : List ℕ) (kinds : MemoryKinds) (known : Names MemoryKinds) → AreDeclared types (flat_kinds kinds) → AllDeclared types known →
+    AreDeclared types (flat_kinds (if d then kinds else known x))
+next_declared true types x kinds known k h = k
+next_declared false types x kinds known k h = h x
+
+behind_declared : (types : List ObcType) (machines : List Machine) (known : Names MemoryKinds) → AllDeclared types known → AllDeclared types (kinds_behind types machines known)
+behind_declared types [] known h = h
+behind_declared types (m ∷ machines) known h =
+    behind_declared types machines (given m.name (kinds_of_kept types known m) known) (λ x. next_declared (bytes_eq m.name x) types x (kinds_of_kept types known m) known (kept_declared types known m h) h)
+
+-- the kinds of what the machine of a name keeps
+pub keeps_declared : (o : Obc) (node : List ℕ) → AreDeclared o.types (flat_kinds (machine_keeps o node))
+keeps_declared o node = behind_declared o.types o.machines (λ x. none_kept) (λ x. tt) node
+
+-- values of them tell them
+pub keeps_found : (o : Obc) (node : List ℕ) (values : List Value) → AreOfKinds (flat_kinds (machine_keeps o node)) values → kinds_at o.types values ≡ flat_kinds (machine_keeps o node)
+keeps_found o node values h = kinds_found o.types (flat_kinds (machine_keeps o node)) values (keeps_declared o node) h

@@ -1,0 +1,39 @@
+use Rattle.std.proofs.Common.{[]}
+use Rattle.std.proofs.lemmas.Option.{MatchOption-at_none, MatchOption-at_some}
+use Rattle.hp_io.proofs.ToldLaws.{Grows-nil}
+use Rattle.hp_driver.specs.Command.{not_built_line, no_node_line}
+use Rattle.hp_driver.specs.Follows.{ChoosingRun, NodeRun}
+use Rattle.hp_driver.specs.Status.{code_of}
+use Rattle.hp_driver.proofs.ChoosingLaws.{run_failed, run_memory, run_not_built, run_no_node, choosing_ran}
+use Rattle.hp_driver.proofs.OutcomeLaws.{told_of, told_or_not}
+use Rattle.hp_driver.proofs.RunnableLaws.{ends_map}
+use Rattle.hp_driver.proofs.runnable.choosing_runnable.Goals as goal
+
+pub returns-in_default-clause-told : goal.returns-in_default-clause-told
+returns-in_default-clause-told g c =
+    let name = c.args.node.now in
+    let ordered = c.args.ordered.now in
+    told_or_not (ChoosingRun name ordered []) (run_failed name ordered []) (run_memory name ordered) (g.E.Sink.took c.args.diag.now) (g.E.Sink.took c.report_no_node.new.diag) (no_node_line name) 1 (code_of c.report_no_node.result)
+    c.report_no_node.ensures.reports (run_no_node name ordered (MatchOption-at_none _ _ c.in_default.is c.node_named.ensures))
+
+pub returns-in-Ok-clause-told : goal.returns-in-Ok-clause-told
+returns-in-Ok-clause-told g c =
+    let name = c.args.node.now in
+    let ordered = c.args.ordered.now in
+    let node = c.in-Some.found in
+    let o = c.in-Ok.machines in
+    let told = c.chosen_runnable.ensures.told in (
+      told.0,
+      told.1,
+      ends_map (NodeRun o node.now name []) (ChoosingRun name ordered [])
+      (λ line status. choosing_ran name ordered o c.in-Ok.ensures node.now (MatchOption-at_some _ _ node c.in-Some.is c.node_named.ensures) [] line status) c.chosen_runnable.result told.0 told.2,
+    )
+
+pub returns-in-Err-NotBuilt-clause-told : goal.returns-in-Err-NotBuilt-clause-told
+returns-in-Err-NotBuilt-clause-told g c =
+    let name = c.args.node.now in
+    let ordered = c.args.ordered.now in
+    told_of (ChoosingRun name ordered []) (run_failed name ordered []) (g.E.Sink.took c.args.diag.now) (g.E.Sink.took c.report.new.diag) not_built_line 1 (code_of c.report.result) c.report.ensures.reports (run_not_built name ordered)
+
+pub returns-in-Err-OutOfMemory-clause-told : goal.returns-in-Err-OutOfMemory-clause-told
+returns-in-Err-OutOfMemory-clause-told g c = ([], Grows-nil (g.E.Sink.took c.args.diag.now), run_memory c.args.node.now c.args.ordered.now)

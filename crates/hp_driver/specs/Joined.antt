@@ -1,0 +1,40 @@
+-- That a run which is stopped and resumed says what one run says.
+use Rattle.std.specs.Prelude.{◌≡◌, ◌≤◌, ◌+◌, ℕ, List, ◌++◌, length, None, Option}
+use Rattle.hp_base.specs.Kinds.{KindData}
+use Rattle.hp_io.specs.Files.{Files}
+use Rattle.hp_obc.specs.Machines.{Obc}
+use Rattle.hp_obc.specs.Steps.{Memory, machine_behaviour}
+use Rattle.hp_driver.specs.Answers.{IsAnswer}
+use Rattle.hp_driver.specs.Checkpoints.{memory_behind}
+use Rattle.hp_driver.specs.Outcome.{IsMachine}
+use Rattle.hp_driver.specs.Segments.{AreRun}
+use Rattle.hp_driver.specs.Systems.{System, of_machine, from_memory, inputs_of}
+use Rattle.hp_driver.specs.Values.{first_bad, inputs_until}
+
+-- No line of two traces has a fault, and together they are few enough for one.
+pub record AreGoodLines (kinds : List KindData) (first second : List (List ℕ)) : Type 0 where
+  pub few : length first + length second ≤ 1000000000
+  pub first_good : first_bad kinds 1 first ≡ None
+  pub second_good : first_bad kinds 1 second ≡ None
+
+-- the memory of a machine behind some lines
+abbrev pub memory_past : Obc → List ℕ → Memory → List (List ℕ) → Memory
+memory_past o node kept lines = memory_behind (machine_behaviour o node) kept (inputs_until (inputs_of (of_machine o node)) 1 lines)
+
+-- A machine answers lines from a memory on, and more lines from the memory behind these on. So it answers all of them from the first memory on, one after the other, and leaves the same memory.
+pub record AnswersBoth (o : Obc) (node : List ℕ) (memory : Memory) (first second : List (List ℕ)) (bytes more : List ℕ) : Type 0 where
+  pub good : first_bad (inputs_of (of_machine o node)) 1 (first ++ second) ≡ None
+  pub said : IsAnswer (from_memory o node memory) (first ++ second) (bytes ++ more)
+  pub kept : memory_past o node memory (first ++ second) ≡ memory_past o node (memory_past o node memory first) second
+
+-- What is run from the memory after a reset on is that which `run` runs, and so are both parts together.
+abbrev pub JoinedLaw : Type 0
+JoinedLaw =
+    (o : Obc) (node : List ℕ) (memory : Memory) (first second : List (List ℕ)) (bytes more : List ℕ) → AreGoodLines (inputs_of (of_machine o node)) first second →
+    IsAnswer (from_memory o node memory) first bytes → IsAnswer (from_memory o node (memory_past o node memory first)) second more → AnswersBoth o node memory first second bytes more
+
+abbrev pub JoinedRunLaw : Type 0
+JoinedRunLaw =
+    (files : Option Files) (file node : List ℕ) (o : Obc) (s : System) (first second : List (List ℕ)) (bytes more : List ℕ) → AreRun files file node o s → IsMachine node o →
+    AreGoodLines (inputs_of (of_machine o node)) first second → IsAnswer s first bytes → IsAnswer (from_memory o node (memory_past o node (machine_behaviour o node).reset first)) second more →
+    IsAnswer s (first ++ second) (bytes ++ more)
