@@ -1,3 +1,12 @@
 pub mod Adding
 pub mod Worked
 pub mod Base
+pub mod Steps
+pub mod One
+pub mod Rows
+pub mod Lifts
+pub mod Bits
+pub mod Machine
+pub mod Decoding
+pub mod Placed
+pub mod WorkedSteps

@@ -4,7 +4,11 @@
 #![tactic(auto)]
 
 ghost use Rattle.law_choices.specs.Adding.Base.{BaseLaw};
+ghost use Rattle.law_choices.specs.Adding.Controls.{ControlledStaysLaw, StepsKeepLaw};
 ghost use Rattle.law_choices.specs.Adding.Laws.{AddingLaw, BuiltLaw, OrderedLaw, SomeAddingLaw};
+ghost use Rattle.law_choices.specs.Adding.Lifts.{BitsLaw, CopyLaw, LiftLaw, SomeLiftLaw};
+ghost use Rattle.law_choices.specs.Adding.Placed.{PlacedLaw, PlacedLoopLaw, PlacedReactionLaw};
+ghost use Rattle.law_choices.specs.Adding.Worked.{SomeControlledLaw};
 
 /// A node that has shape, is closed, defines nothing twice and has clocks is well built; it stays so where equations are added to it, and with ranks it is well made.
 pub fn equations_may_be_added()
@@ -21,4 +25,30 @@ pub fn equations_may_be_added_on_the_base_clock()
 /// A copy is added to a node.
 pub fn a_worked_addition()
     ensures { SomeAddingLaw }
+{}
+
+/// A variable may be lifted to the base clock, its bits may be added there, and a copy: the node stays well built, and these are variables of their types on the base clock.
+pub fn values_may_be_lifted()
+    ensures lift { LiftLaw }
+    ensures bits { BitsLaw }
+    ensures copy { CopyLaw }
+{}
+
+/// A node may keep the registers of a machine, ask its controller, and make the values of its last inputs of the answer: it stays well built.
+pub fn machines_may_be_asked()
+    ensures steps { StepsKeepLaw }
+    ensures controlled { ControlledStaysLaw }
+{}
+
+/// Equations may take other places: the node is as well built, has the same reactions, and closes the same nodes.
+pub fn places_may_change()
+    ensures built { PlacedLaw }
+    ensures reactions { PlacedReactionLaw }
+    ensures loops { PlacedLoopLaw }
+{}
+
+/// A variable is lifted, and a node chooses the value of its control variable.
+pub fn worked_steps()
+    ensures lift { SomeLiftLaw }
+    ensures controlled { SomeControlledLaw }
 {}

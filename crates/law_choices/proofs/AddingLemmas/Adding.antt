@@ -29,7 +29,7 @@ use Rattle.law_choices.proofs.ClosedLemmas.Clocking.{fit_law}
 
 -- ---- lists
 
-both : {A : Type 0} (P : A → Type 0) (xs ys : List A) → AllByRecursion P xs → AllByRecursion P ys → AllByRecursion P (xs ++ ys)
+pub both : {A : Type 0} (P : A → Type 0) (xs ys : List A) → AllByRecursion P xs → AllByRecursion P ys → AllByRecursion P (xs ++ ys)
 both P [] ys h k = k
 both P (x ∷ xs) ys h k = (h.0, both P xs ys h.1 k)
 
@@ -54,7 +54,7 @@ get-beyond (v ∷ xs) (suc x) d h = get-beyond xs x d (omega (arith, h))
 -- ---- kinds
 
 module _ (types : List ObcType) (callees : Callees) (vs added : List Variable) where
-  same_kind : (x : ℕ) → x < length vs → variable_kind types (vs ++ added) x ≡ variable_kind types vs x
+  pub same_kind : (x : ℕ) → x < length vs → variable_kind types (vs ++ added) x ≡ variable_kind types vs x
   same_kind x h = ap (λ (v : Variable). kind_of_type types v.ty) (get-front vs added x (record { name = []; ty = FlatInt }) h)
 
   -- what has an arm is a variable
@@ -87,7 +87,7 @@ module _ (types : List ObcType) (callees : Callees) (vs added : List Variable) w
       let p = first_below a (flat_map atom_variables args) w in
       (atom_kind a k p.0 h.0, args_kinds args ks p.1 h.1)
 
-  right_kinds : (right : Right) (ks : List KindData) → AreBelow (length vs) (operands right) → RightHasKinds types callees vs right ks → RightHasKinds types callees (vs ++ added) right ks
+  pub right_kinds : (right : Right) (ks : List KindData) → AreBelow (length vs) (operands right) → RightHasKinds types callees vs right ks → RightHasKinds types callees (vs ++ added) right ks
   right_kinds (operator op args) ks w h = (h.0, args_kinds args h.0 w h.1, h.2, h.3, h.4)
   right_kinds (register first next) ks w h = (h.0, h.1, atom_kind next h.0 w h.2, h.3)
   right_kinds (called f args) ks w h = (args_kinds args (callees.takes f) w h.0, h.1)
@@ -96,7 +96,7 @@ module _ (types : List ObcType) (callees : Callees) (vs added : List Variable) w
   targets_kinds [] w = refl
   targets_kinds (x ∷ xs) w = ap₂ (λ k ks. k ∷ ks) (same_kind x w.0) (targets_kinds xs w.1)
 
-  clock_kinds : (clock : Clock) → AreBelow (length vs) (clock_variables clock) → AllByRecursion (λ (on : ℕ × ℕ). HasArm (variable_kind types vs on.0) on.1) clock
+  pub clock_kinds : (clock : Clock) → AreBelow (length vs) (clock_variables clock) → AllByRecursion (λ (on : ℕ × ℕ). HasArm (variable_kind types vs on.0) on.1) clock
       → AllByRecursion (λ (on : ℕ × ℕ). HasArm (variable_kind types (vs ++ added) on.0) on.1) clock
   clock_kinds [] w h = tt
   clock_kinds (on ∷ clock) w h = (subst (λ k. HasArm k on.1) (sym (same_kind on.0 w.0)) h.0, clock_kinds clock w.1 h.1)

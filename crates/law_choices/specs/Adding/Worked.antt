@@ -1,0 +1,58 @@
+-- A node whose output is its control variable, and a machine that permits it both values.
+-- Source: own.
+use Rattle.std.specs.Prelude.{codes, ℕ, true, List, [], ◌∷◌}
+use Rattle.hp_base.specs.Kinds.{Bools}
+use Rattle.hp_boolx.specs.declared.gate.Gate.TheVariants.{Const}
+use Rattle.hp_boolx.specs.Machine.{Machine}
+use Rattle.hp_obc.specs.declared.command.ObcOp.TheVariants.{Copy}
+use Rattle.hp_flat.specs.declared.equation.Atom.TheVariants.{Variable as Read}
+use Rattle.hp_flat.specs.declared.node.FlatTy.TheVariants as flat
+use Rattle.hp_flat.specs.Equations.{operator, FlatEqn}
+use Rattle.hp_flat.specs.Nodes.{FlatNode}
+use Rattle.law_equations.specs.Meaning.Kinding.{Callees}
+use Rattle.hp_controller.specs.declared.decoding.Control.{Control}
+use Rattle.hp_controller.specs.declared.decoding.ControlKind.TheVariants.{Truth}
+use Rattle.hp_controller.specs.Controlled.{IsControllable}
+use Rattle.law_choices.specs.Adding.Keeping.{IsBased}
+use Rattle.law_choices.specs.Adding.Controls.{IsAskedFor, HaveControlKinds}
+
+abbrev pub handed_on : FlatEqn
+handed_on = record { targets = 1 ∷ []; clock = []; right = operator Copy (Read 0 ∷ []); restart = []; at = 0 }
+
+abbrev pub free_node : FlatNode
+free_node = record {
+  name = codes "f";
+  variables = record { name = codes "c"; ty = flat.Bool } ∷ record { name = codes "y"; ty = flat.Bool } ∷ [];
+  inputs = 1;
+  outputs = 1 ∷ [];
+  eqns = handed_on ∷ [];
+}
+
+abbrev pub free_machine : Machine
+free_machine = record {
+  name = codes "f";
+  registers = 0;
+  early = 0;
+  control = 1;
+  late = 0;
+  widths = 1 ∷ [];
+  prefer = true ∷ [];
+  gates = Const true ∷ [];
+  init = [];
+  next = [];
+  valid = 0;
+  hyp = 0;
+  duty = 0;
+}
+
+abbrev pub one_control : List Control
+one_control = record { kind = Truth; width = 1 } ∷ []
+
+-- each node that is called takes nothing and gives a truth value
+abbrev pub asked_alone : Callees
+asked_alone = record { takes = λ f. []; gives = λ f. Bools ∷ [] }
+
+-- It meets what is asked of a node that chooses the value of its control variable itself.
+abbrev pub SomeControlledLaw : Type 0
+SomeControlledLaw =
+    IsBased [] asked_alone (λ x. []) free_node × IsControllable free_node free_machine [] one_control × IsAskedFor asked_alone free_machine (codes "f$ctl") × HaveControlKinds [] free_node.variables 0 one_control
