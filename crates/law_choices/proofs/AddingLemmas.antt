@@ -10,3 +10,4 @@ pub mod Machine
 pub mod Decoding
 pub mod Placed
 pub mod WorkedSteps
+pub mod Embeds

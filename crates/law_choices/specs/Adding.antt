@@ -6,3 +6,4 @@ pub mod Lifts
 pub mod Controls
 pub mod Placed
 pub mod Worked
+pub mod Embeds

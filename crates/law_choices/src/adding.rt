@@ -5,6 +5,7 @@
 
 ghost use Rattle.law_choices.specs.Adding.Base.{BaseLaw};
 ghost use Rattle.law_choices.specs.Adding.Controls.{ControlledStaysLaw, StepsKeepLaw};
+ghost use Rattle.law_choices.specs.Adding.Embeds.{EmbeddedLaw};
 ghost use Rattle.law_choices.specs.Adding.Laws.{AddingLaw, BuiltLaw, OrderedLaw, SomeAddingLaw};
 ghost use Rattle.law_choices.specs.Adding.Lifts.{BitsLaw, CopyLaw, LiftLaw, SomeLiftLaw};
 ghost use Rattle.law_choices.specs.Adding.Placed.{PlacedLaw, PlacedLoopLaw, PlacedReactionLaw};
@@ -32,6 +33,11 @@ pub fn values_may_be_lifted()
     ensures lift { LiftLaw }
     ensures bits { BitsLaw }
     ensures copy { CopyLaw }
+{}
+
+/// The equations of an observer may be put into a node at a site that fits: the node stays well built, and each variable of the observer is there on the clock of the site and its own one.
+pub fn observers_may_be_put()
+    ensures { EmbeddedLaw }
 {}
 
 /// A node may keep the registers of a machine, ask its controller, and make the values of its last inputs of the answer: it stays well built.

@@ -71,7 +71,7 @@ module _ (types : List ObcType) (callees : Callees) (vs added : List Variable) w
       by true e = below e
       by false e = absurd (subst (λ (v : Variable). HasArm (kind_of_type types v.ty) c) (get-beyond vs x (record { name = []; ty = FlatInt }) (above e)) h)
 
-  atom_kind : (a : Atom) (k : KindData) → AreBelow (length vs) (atom_variables a) → AtomHasKind types callees vs a k → AtomHasKind types callees (vs ++ added) a k
+  pub atom_kind : (a : Atom) (k : KindData) → AreBelow (length vs) (atom_variables a) → AtomHasKind types callees vs a k → AtomHasKind types callees (vs ++ added) a k
   atom_kind (Named x) k w h = same_kind x w.0 ∙ h
   atom_kind (Fixed v) k w h = h
 
@@ -101,7 +101,7 @@ module _ (types : List ObcType) (callees : Callees) (vs added : List Variable) w
   clock_kinds [] w h = tt
   clock_kinds (on ∷ clock) w h = (subst (λ k. HasArm k on.1) (sym (same_kind on.0 w.0)) h.0, clock_kinds clock w.1 h.1)
 
-  restart_kinds : (xs : List ℕ) → AreBelow (length vs) xs → AllByRecursion (λ x. variable_kind types vs x ≡ Bools) xs → AllByRecursion (λ x. variable_kind types (vs ++ added) x ≡ Bools) xs
+  pub restart_kinds : (xs : List ℕ) → AreBelow (length vs) xs → AllByRecursion (λ x. variable_kind types vs x ≡ Bools) xs → AllByRecursion (λ x. variable_kind types (vs ++ added) x ≡ Bools) xs
   restart_kinds [] w h = tt
   restart_kinds (x ∷ xs) w h = (same_kind x w.0 ∙ h.0, restart_kinds xs w.1 h.1)
 

@@ -94,27 +94,27 @@ set_same now x (e ∷ es) (f ∷ fs) s = ap₂ (λ a b. a || b) (ap (λ (z : Fla
 -- ---- a node with other equations
 
 module _ (n : FlatNode) (fs : List FlatEqn) (s : AreSame n.eqns fs) where
-  abbrev other : FlatNode
-  other = record { name = n.name; variables = n.variables; inputs = n.inputs; outputs = n.outputs; eqns = fs }
+  abbrev these : FlatNode
+  these = record { name = n.name; variables = n.variables; inputs = n.inputs; outputs = n.outputs; eqns = fs }
 
-  given : (x : ℕ) → IsGiven n x → IsGiven other x
+  given : (x : ℕ) → IsGiven n x → IsGiven these x
   given x (inl h) = inl h
   given x (inr t) = inr (target n.eqns fs s x t)
 
-  defined_on : (x : ℕ) (c : Clock) → IsDefinedOn n x c → IsDefinedOn other x c
+  defined_on : (x : ℕ) (c : Clock) → IsDefinedOn n x c → IsDefinedOn these x c
   defined_on x c h =
       let r = twin n.eqns fs s h.0 h.1 in
       (r.0, r.1, subst (λ (z : FlatEqn). Contains z.targets x) r.2 h.2, sym (ap (λ (z : FlatEqn). z.clock) r.2) ∙ h.3)
 
   module _ (types : List ObcType) (callees : Callees) (clock : ℕ → Clock) where
-    stand : (before rest : Clock) → StepsStand n types clock before rest → StepsStand other types clock before rest
+    stand : (before rest : Clock) → StepsStand n types clock before rest → StepsStand these types clock before rest
     stand before [] h = tt
     stand before (on ∷ rest) h = (h.0, stand (before ++ on ∷ []) rest h.1)
 
-    split : (x : ℕ) → IsSplit n types clock x → IsSplit other types clock x
+    split : (x : ℕ) → IsSplit n types clock x → IsSplit these types clock x
     split x h = record { tested = h.tested; there = h.there; has_one = h.has_one; arms = λ k a. defined_on x (clock x ++ (h.tested, k) ∷ []) (h.arms k a) }
 
-    defined : (x : ℕ) → IsDefinedOn n x (clock x) ⊎ IsSplit n types clock x → IsDefinedOn other x (clock x) ⊎ IsSplit other types clock x
+    defined : (x : ℕ) → IsDefinedOn n x (clock x) ⊎ IsSplit n types clock x → IsDefinedOn these x (clock x) ⊎ IsSplit these types clock x
     defined x (inl h) = inl (defined_on x (clock x) h)
     defined x (inr h) = inr (split x h)
 
@@ -127,16 +127,16 @@ module _ (n : FlatNode) (fs : List FlatEqn) (s : AreSame n.eqns fs) where
         turned (e ∷ es) [] h = absurd h
         turned (e ∷ es) (d ∷ ds) h = (sym h.0, turned es ds h.1)
 
-    are_clocks : AreClocks n types clock → AreClocks other types clock
+    are_clocks : AreClocks n types clock → AreClocks these types clock
     are_clocks c = record {
       outputs = c.outputs;
-      steps = transfer (λ (e : FlatEqn). StepsStand other types clock [] e.clock) (λ e h. h) (λ e h. h) n.eqns fs s
-          (each_other (λ (e : FlatEqn). StepsStand n types clock [] e.clock) (λ (e : FlatEqn). StepsStand other types clock [] e.clock) (λ e h. stand [] e.clock h) n.eqns c.steps);
+      steps = transfer (λ (e : FlatEqn). StepsStand these types clock [] e.clock) (λ e h. h) (λ e h. h) n.eqns fs s
+          (each_other (λ (e : FlatEqn). StepsStand n types clock [] e.clock) (λ (e : FlatEqn). StepsStand these types clock [] e.clock) (λ e h. stand [] e.clock h) n.eqns c.steps);
       reads = transfer (λ (e : FlatEqn). AllByRecursion (λ x. IsFrontOf (clock x) e.clock) (operands e.right)) (λ e h. h) (λ e h. h) n.eqns fs s c.reads;
       defined = λ x t. defined x (c.defined x (back x t));
     }
 
-    well : IsWellBuilt types callees clock n → IsWellBuilt types callees clock other
+    well : IsWellBuilt types callees clock n → IsWellBuilt types callees clock these
     well w =
         let i = w.within in
         let c = w.closed in
@@ -153,23 +153,23 @@ module _ (n : FlatNode) (fs : List FlatEqn) (s : AreSame n.eqns fs) where
           kinds = transfer (EqnKinds types callees n.variables) (λ e h. record { right = h.right; clock = h.clock; restart = h.restart }) (λ e h. record { right = h.right; clock = h.clock; restart = h.restart }) n.eqns fs s w.kinds;
           closed = record {
             variables = λ x l. given x (c.variables x l);
-            outputs = each_other (IsGiven n) (IsGiven other) given n.outputs c.outputs;
-            eqns = transfer (λ (e : FlatEqn). AllByRecursion (IsGiven other) (variables_in e)) (λ e h. h) (λ e h. h) n.eqns fs s
-                (each_other (λ (e : FlatEqn). AllByRecursion (IsGiven n) (variables_in e)) (λ (e : FlatEqn). AllByRecursion (IsGiven other) (variables_in e)) (λ e h. each_other (IsGiven n) (IsGiven other) given (variables_in e) h) n.eqns c.eqns);
+            outputs = each_other (IsGiven n) (IsGiven these) given n.outputs c.outputs;
+            eqns = transfer (λ (e : FlatEqn). AllByRecursion (IsGiven these) (variables_in e)) (λ e h. h) (λ e h. h) n.eqns fs s
+                (each_other (λ (e : FlatEqn). AllByRecursion (IsGiven n) (variables_in e)) (λ (e : FlatEqn). AllByRecursion (IsGiven these) (variables_in e)) (λ e h. each_other (IsGiven n) (IsGiven these) given (variables_in e) h) n.eqns c.eqns);
           };
           exclusive = λ now. exclusive now n.eqns fs s (w.exclusive now);
           clocks = are_clocks w.clocks;
         }
 
   -- reactions are those of the first equations
-  continues : (answers : Answers) (past : List Instant) (row : List Value) (now : Instant) → Continues answers n past row now → Continues answers other past row now
+  continues : (answers : Answers) (past : List Instant) (row : List Value) (now : Instant) → Continues answers n past row now → Continues answers these past row now
   continues answers past row now h = record {
     inputs_are = h.inputs_are;
     equations = transfer (Holds answers past now) (λ e g. g) (λ e g. g) n.eqns fs s h.equations;
     others = λ x l e. h.others x l (set_same now x n.eqns fs s ∙ e);
   }
 
-  reacts : (answers : Answers) (rows : List (List Value)) (instants : List Instant) → Reaction answers n rows instants → Reaction answers other rows instants
+  reacts : (answers : Answers) (rows : List (List Value)) (instants : List Instant) → Reaction answers n rows instants → Reaction answers these rows instants
   reacts answers [] [] r = tt
   reacts answers [] (now ∷ past) r = absurd r
   reacts answers (row ∷ rows) [] r = absurd r

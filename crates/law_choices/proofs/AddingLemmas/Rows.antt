@@ -97,7 +97,7 @@ differ_all a t (e ∷ es) b u (inl h) = (subst (IsDistinct nat_eq) (sym h.1) (ra
 differ_all a t (e ∷ es) b u (inr h) = (subst (IsDistinct nat_eq) (sym h.0) (one_differs t), differ_all a (t + 1) es b u h.1)
 
 -- the rows are apart: the second ends where the first one may not be
-exclusive_rows : (now : Instant) (a t : ℕ) (es : List FlatEqn) (b u : ℕ) → u ≤ a → InRows a t es b u → IsExclusive now es
+pub exclusive_rows : (now : Instant) (a t : ℕ) (es : List FlatEqn) (b u : ℕ) → u ≤ a → InRows a t es b u → IsExclusive now es
 exclusive_rows now a t [] b u l h = tt
 exclusive_rows now a t (e ∷ es) b u l (inl h) = (
   λ c.
