@@ -11,3 +11,4 @@ pub mod Decoding
 pub mod Placed
 pub mod WorkedSteps
 pub mod Embeds
+pub mod Watched

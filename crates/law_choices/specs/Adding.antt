@@ -7,3 +7,4 @@ pub mod Controls
 pub mod Placed
 pub mod Worked
 pub mod Embeds
+pub mod Watched

@@ -9,6 +9,7 @@ ghost use Rattle.law_choices.specs.Adding.Embeds.{EmbeddedLaw};
 ghost use Rattle.law_choices.specs.Adding.Laws.{AddingLaw, BuiltLaw, OrderedLaw, SomeAddingLaw};
 ghost use Rattle.law_choices.specs.Adding.Lifts.{BitsLaw, CopyLaw, LiftLaw, SomeLiftLaw};
 ghost use Rattle.law_choices.specs.Adding.Placed.{PlacedLaw, PlacedLoopLaw, PlacedReactionLaw};
+ghost use Rattle.law_choices.specs.Adding.Watched.{WatchedLaw};
 ghost use Rattle.law_choices.specs.Adding.Worked.{SomeControlledLaw};
 
 /// A node that has shape, is closed, defines nothing twice and has clocks is well built; it stays so where equations are added to it, and with ranks it is well made.
@@ -33,6 +34,11 @@ pub fn values_may_be_lifted()
     ensures lift { LiftLaw }
     ensures bits { BitsLaw }
     ensures copy { CopyLaw }
+{}
+
+/// The bits of free places may be added, where the clock of each can stand and its variable is there then: the node stays well built, and the bits are truth values on the base clock.
+pub fn free_places_may_be_watched()
+    ensures { WatchedLaw }
 {}
 
 /// The equations of an observer may be put into a node at a site that fits: the node stays well built, and each variable of the observer is there on the clock of the site and its own one.
