@@ -12,3 +12,4 @@ pub mod Placed
 pub mod WorkedSteps
 pub mod Embeds
 pub mod Watched
+pub mod Whole

@@ -8,3 +8,4 @@ pub mod Placed
 pub mod Worked
 pub mod Embeds
 pub mod Watched
+pub mod Whole

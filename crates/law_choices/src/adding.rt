@@ -10,7 +10,10 @@ ghost use Rattle.law_choices.specs.Adding.Laws.{AddingLaw, BuiltLaw, OrderedLaw,
 ghost use Rattle.law_choices.specs.Adding.Lifts.{BitsLaw, CopyLaw, LiftLaw, SomeLiftLaw};
 ghost use Rattle.law_choices.specs.Adding.Placed.{PlacedLaw, PlacedLoopLaw, PlacedReactionLaw};
 ghost use Rattle.law_choices.specs.Adding.Watched.{WatchedLaw};
+ghost use Rattle.law_choices.specs.Adding.Whole.{WholeLaw};
 ghost use Rattle.law_choices.specs.Adding.Worked.{SomeControlledLaw};
+
+use crate::answered::extended_nodes_close;
 
 /// A node that has shape, is closed, defines nothing twice and has clocks is well built; it stays so where equations are added to it, and with ranks it is well made.
 pub fn equations_may_be_added()
@@ -58,6 +61,14 @@ pub fn places_may_change()
     ensures reactions { PlacedReactionLaw }
     ensures loops { PlacedLoopLaw }
 {}
+
+/// The node that chooses is made so of one that is watched, whose own inputs and control variables are of their kinds: ordered, it is well made, and closes the node that it is made of.
+pub fn nodes_that_choose_are_made()
+    ensures { WholeLaw }
+{
+    equations_may_be_added();
+    extended_nodes_close();
+}
 
 /// A variable is lifted, and a node chooses the value of its control variable.
 pub fn worked_steps()

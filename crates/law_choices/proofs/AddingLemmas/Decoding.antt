@@ -268,46 +268,46 @@ kinds-more types callees vs more target (c ∷ cs) l h =
 
 module _ (types : List ObcType) (callees : Callees) (n : FlatNode) (before : ℕ → Clock) (m : Machine) (name early late : List ℕ) (controls : List Control) (b : IsBased types callees before n) (is : IsControllable n m early controls) (asked : IsAskedFor callees m name)
     (earlies : AllByRecursion (IsThereAlways types n before Bools) early) (lates : AllByRecursion (IsThereAlways types n before Bools) late) (kinds : HaveControlKinds types n.variables (n.inputs - length controls) controls) where
-  abbrev V : ℕ
+  abbrev pub V : ℕ
   V = length n.variables
 
-  abbrev middle : FlatNode
+  abbrev pub middle : FlatNode
   middle = with_steps n m name early late
 
-  abbrev first : ℕ → Clock
+  abbrev pub first : ℕ → Clock
   first = always n before
 
-  abbrev other : FlatNode
+  abbrev pub other : FlatNode
   other = controlled n m name early late controls
 
-  abbrev clock : ℕ → Clock
+  abbrev pub clock : ℕ → Clock
   clock = always middle first
 
-  abbrev target : ℕ
+  abbrev pub target : ℕ
   target = n.inputs - length controls
 
-  abbrev from : ℕ
+  abbrev pub from : ℕ
   from = V + bits_added m
 
-  abbrev made : List FlatEqn
+  abbrev pub made : List FlatEqn
   made = (decoded_controls n m controls).eqns
 
-  abbrev vs : List Variable
+  abbrev pub vs : List Variable
   vs = (decoded_controls n m controls).variables
 
   middle_based : IsBased types callees first middle
   middle_based = steps_keep types callees n before m name early late b is.machine is.as_many asked earlies lates
 
-  middle_total : length middle.variables ≡ from
+  pub middle_total : length middle.variables ≡ from
   middle_total = total types callees n before m name early late b is.machine is.as_many asked earlies lates
 
-  few : n.inputs ≤ V
+  pub few : n.inputs ≤ V
   few = is.variables
 
-  taken : length controls ≤ n.inputs
+  pub taken : length controls ≤ n.inputs
   taken = is.inputs
 
-  other_total : length other.variables ≡ from + length vs
+  pub other_total : length other.variables ≡ from + length vs
   other_total = length-append middle.variables vs ∙ ap (λ k. k + length vs) middle_total
 
   base_at : (x : ℕ) → (x < V → before x ≡ []) → clock x ≡ []
@@ -321,9 +321,9 @@ module _ (types : List ObcType) (callees : Callees) (n : FlatNode) (before : ℕ
   front_at : (x : ℕ) → (x < V → before x ≡ []) → IsFrontOf (clock x) []
   front_at x f = ([], ap (λ d. d ++ []) (sym (base_at x f)))
 
-  bit_there : (x : ℕ) → V + m.registers ≤ x → x < V + m.registers + m.control → IsThereAlways types other clock Bools x
+  pub bit_there : (x : ℕ) → V ≤ x → x < from → IsThereAlways types other clock Bools x
   bit_there x l u =
-      let bit = new types callees n before m name early late b is.machine is.as_many asked earlies lates x (omega (arith, l)) (omega (arith, u)) in
+      let bit = new types callees n before m name early late b is.machine is.as_many asked earlies lates x l u in
       let k = bit.variable in
       record {
         variable = let t = other_total in let s = middle_total in omega (arith, k, t, s);
@@ -352,16 +352,16 @@ module _ (types : List ObcType) (callees : Callees) (n : FlatNode) (before : ℕ
       (kinds-more types callees n.variables (bit_variables V m ++ vs) target controls (omega (arith, few, taken)) kinds)
 
   all_always : AllByRecursion (IsAlways types callees other.variables clock) made
-  all_always = controls-always types callees other clock target (V + m.registers) from controls kinds_there control_at is.bits (λ x l u. let w = is.widths in bit_there x l (omega (arith, u, w))) new_from segment
+  all_always = controls-always types callees other clock target (V + m.registers) from controls kinds_there control_at is.bits (λ x l u. let w = is.widths in bit_there x (omega (arith, l)) (omega (arith, u, w))) new_from segment
 
-  rows : InRows (length middle.variables) other.inputs made (length other.variables) middle.inputs
+  pub rows : InRows (length middle.variables) other.inputs made (length other.variables) middle.inputs
   rows =
       let end : (decoded_controls n m controls).next ≡ length other.variables = let c = controls-count target (V + m.registers) from controls in let t = other_total in omega (arith, c, t) in
       let inputs : target + length controls ≡ n.inputs = omega (arith, taken) in
       subst (λ a. InRows a target made (length other.variables) n.inputs) (sym middle_total)
       (subst (λ z. InRows from target made z n.inputs) end (subst (InRows from target made (decoded_controls n m controls).next) inputs (controls-rows target (V + m.registers) from controls)))
 
-  based : IsBased types callees clock other
+  pub based : IsBased types callees clock other
   based = rows_based types callees middle other vs made first middle_based (record {
     inputs = omega arith;
     outputs = refl;
@@ -372,14 +372,14 @@ module _ (types : List ObcType) (callees : Callees) (n : FlatNode) (before : ℕ
     always_there = all_always;
   })
 
-  same : (x : ℕ) → x < V → clock x ≡ before x
+  pub same : (x : ℕ) → x < V → clock x ≡ before x
   same x l =
       let s = middle_total in
       let p : nat_lt x (length middle.variables) ≡ true = grind (arith, nat_tests, l, s) in
       let q : nat_lt x V ≡ true = grind (arith, nat_tests, l) in
       ap (λ h. if h then first x else []) p ∙ ap (λ h. if h then before x else []) q
 
-  stays : Stays types callees before n other
+  abbrev pub stays : Stays types callees before n other
   stays = record { clocks = clock; built = based; same = same }
 
 pub controlled_stays : ControlledStaysLaw

@@ -546,7 +546,13 @@ module _ (types : List ObcType) (callees : Callees) (n observer : FlatNode) (clo
   }
 
   keeps : Keeps types callees clock n other
-  keeps = record { clocks = clocks; built = stepped types callees n other added more clock clocks b same step; same = same; grows = grows-behind n other added more behind }
+  keeps = record {
+    clocks = clocks;
+    built = stepped types callees n other added more clock clocks b same step;
+    same = same;
+    grows = grows-behind n other added more behind;
+    fresh = each_other IsGood (λ (e : FlatEqn). AllByRecursion (λ x. V ≤ x) e.targets) (λ e g. each_other (λ x. (V ≤ x) × (x < V + W)) (λ x. V ≤ x) (λ x h. h.0) e.targets g.new) more good;
+  }
 
 pub embedded_law : EmbeddedLaw
 unfolding keeps

@@ -191,16 +191,16 @@ bit-values types a (suc k) = (tt, bit-values types (a + 1) k)
 
 module _ (types : List ObcType) (callees : Callees) (n : FlatNode) (before : ℕ → Clock) (m : Machine) (name early late : List ℕ) (c : IsBased types callees before n) (is : IsMachine m) (size : length early ≡ m.early) (asked : IsAskedFor callees m name)
     (earlies : AllByRecursion (IsThereAlways types n before Bools) early) (lates : AllByRecursion (IsThereAlways types n before Bools) late) where
-  abbrev V : ℕ
+  abbrev pub V : ℕ
   V = length n.variables
 
-  abbrev p : Placing
+  abbrev pub p : Placing
   p = placing_of V m early late
 
-  abbrev other : FlatNode
+  abbrev pub other : FlatNode
   other = with_steps n m name early late
 
-  abbrev clock : ℕ → Clock
+  abbrev pub clock : ℕ → Clock
   clock = always n before
 
   pub total : length other.variables ≡ V + bits_added m
@@ -253,7 +253,7 @@ module _ (types : List ObcType) (callees : Callees) (n : FlatNode) (before : ℕ
         gates-always types callees other clock (places m p) p.gates 0 m.gates all_places (λ x l u. new x (omega (arith, l)) (omega (arith, u))),
       )
 
-  rows : InRows V n.inputs (step_eqns m p name) (length other.variables) n.inputs
+  pub rows : InRows V n.inputs (step_eqns m p name) (length other.variables) n.inputs
   rows =
       let few = is.init in
       let more = is.next in

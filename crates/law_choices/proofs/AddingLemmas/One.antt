@@ -36,7 +36,7 @@ pub record Behind (n other : FlatNode) (vs : List Variable) (es : List FlatEqn) 
   pub outputs : other.outputs ≡ n.outputs
   pub eqns : other.eqns ≡ n.eqns ++ es
 
-pub nothing-behind : (n : FlatNode) → Behind n n [] []
+abbrev pub nothing-behind : (n : FlatNode) → Behind n n [] []
 nothing-behind n = record { name = refl; variables = sym (append-nil n.variables); inputs = refl; outputs = refl; eqns = sym (append-nil n.eqns) }
 
 pub variable-more : (ty : FlatTy) (n other : FlatNode) (vs : List Variable) (es : List FlatEqn) → Behind n other vs es → Behind n (with_variable ty other) (vs ++ added_variable (length other.variables) ty ∷ []) es
@@ -52,15 +52,15 @@ pub eqn-behind : (n other : FlatNode) (vs : List Variable) (es : List FlatEqn) (
 unfolding with_eqn
 eqn-behind n other vs es e b = record { name = b.name; variables = b.variables; inputs = b.inputs; outputs = b.outputs; eqns = ap (λ xs. xs ++ e ∷ []) b.eqns ∙ append_assoc n.eqns es (e ∷ []) }
 
-pub grows-behind : (n other : FlatNode) (vs : List Variable) (es : List FlatEqn) → Behind n other vs es → Grows n other
+abbrev pub grows-behind : (n other : FlatNode) (vs : List Variable) (es : List FlatEqn) → Behind n other vs es → Grows n other
 grows-behind n other vs es b = record { name = b.name; inputs = b.inputs; outputs = b.outputs; variables = (vs, b.variables); eqns = (es, b.eqns) }
 
 -- ---- growing
 
-pub grows-self : (n : FlatNode) → Grows n n
+abbrev pub grows-self : (n : FlatNode) → Grows n n
 grows-self n = grows-behind n n [] [] (nothing-behind n)
 
-pub grows-both : (n m k : FlatNode) → Grows n m → Grows m k → Grows n k
+abbrev pub grows-both : (n m k : FlatNode) → Grows n m → Grows m k → Grows n k
 grows-both n m k g h =
     let v = g.variables in
     let w = h.variables in
@@ -111,12 +111,26 @@ value-at types n x l h = value-type types n.variables x l h
 
 module _ (types : List ObcType) (callees : Callees) where
   abbrev pub keeps-self : (n : FlatNode) (clock : ℕ → Clock) → IsBased types callees clock n → Keeps types callees clock n n
-  keeps-self n clock b = record { clocks = clock; built = b; same = λ x l. refl; grows = grows-self n }
+  keeps-self n clock b = record { clocks = clock; built = b; same = λ x l. refl; grows = grows-self n; fresh = tt }
+
+  pub fresh-both : (n m other : FlatNode) (clock : ℕ → Clock) (k : Keeps types callees clock n m) (h : Keeps types callees k.clocks m other) → AllByRecursion (λ (e : FlatEqn). AllByRecursion (λ x. length n.variables ≤ x) e.targets) ((grows-both n m other k.grows h.grows).eqns).0
+  fresh-both n m other clock k h =
+      let g = k.grows in
+      let q = h.grows in
+      both (λ (e : FlatEqn). AllByRecursion (λ x. length n.variables ≤ x) e.targets) (g.eqns).0 (q.eqns).0 k.fresh
+      (each_other (λ (e : FlatEqn). AllByRecursion (λ x. length m.variables ≤ x) e.targets) (λ (e : FlatEqn). AllByRecursion (λ x. length n.variables ≤ x) e.targets)
+      (λ e i. each_other (λ x. length m.variables ≤ x) (λ x. length n.variables ≤ x) (λ x l. let more = grows-length n m g in omega (arith, l, more)) e.targets i) (q.eqns).0 h.fresh)
 
   abbrev pub keeps-both : (n m other : FlatNode) (clock : ℕ → Clock) (k : Keeps types callees clock n m) → Keeps types callees k.clocks m other → Keeps types callees clock n other
   keeps-both n m other clock k h =
       let g = k.grows in
-      record { clocks = h.clocks; built = h.built; same = λ x l. let more = grows-length n m g in h.same x (omega (arith, l, more)) ∙ k.same x l; grows = grows-both n m other g h.grows }
+      record {
+        clocks = h.clocks;
+        built = h.built;
+        same = λ x l. let more = grows-length n m g in h.same x (omega (arith, l, more)) ∙ k.same x l;
+        grows = grows-both n m other g h.grows;
+        fresh = fresh-both n m other clock k h;
+      }
 
   pub on-kept : (n other : FlatNode) (clock : ℕ → Clock) (k : Keeps types callees clock n other) (on : Clock) (ty : FlatTy) (x : ℕ) → IsOn n clock on ty x → IsOn other k.clocks on ty x
   on-kept n other clock k on ty x h =
@@ -223,7 +237,13 @@ module _ (types : List ObcType) (callees : Callees) (n : FlatNode) (before : ℕ
         by (inr s) = inr s
 
     abbrev pub one-keeps : Keeps types callees before n other
-    one-keeps = record { clocks = clock; built = stepped types callees n other (v ∷ []) es before clock c same step; same = same; grows = grows-behind n other (v ∷ []) es b }
+    one-keeps = record {
+      clocks = clock;
+      built = stepped types callees n other (v ∷ []) es before clock c same step;
+      same = same;
+      grows = grows-behind n other (v ∷ []) es b;
+      fresh = each_other (Defines (kind_of_type types ty)) (λ (e : FlatEqn). AllByRecursion (λ x. V ≤ x) e.targets) (λ e d. subst (AllByRecursion (λ x. V ≤ x)) (sym d.target) (omega arith, tt)) es all;
+    }
 
     pub one-on : IsOn other clock on ty V
     one-on = record {

@@ -58,7 +58,7 @@ rows-behind a t (e ∷ es) b u fs c v (inl h) g = inl (h.0, h.1, rows-behind (a 
 rows-behind a t (e ∷ es) b u fs c v (inr h) g = inr (h.0, rows-behind a (t + 1) es b u fs c v h.1 g)
 
 -- a number of one of two rows
-abbrev Between : ℕ → ℕ → ℕ → ℕ → ℕ → Type 0
+abbrev pub Between : ℕ → ℕ → ℕ → ℕ → ℕ → Type 0
 Between a b t u x = ((a ≤ x) × (x < b)) ⊎ ((t ≤ x) × (x < u))
 
 pub rows_grow : (a t : ℕ) (es : List FlatEqn) (b u : ℕ) → InRows a t es b u → (a ≤ b) × (t ≤ u)
@@ -66,7 +66,7 @@ rows_grow a t [] b u h = let e = h.0 in let f = h.1 in (omega (arith, e), omega 
 rows_grow a t (e ∷ es) b u (inl h) = let g = rows_grow (a + h.0) t es b u h.2 in let l = g.0 in (omega (arith, l), g.1)
 rows_grow a t (e ∷ es) b u (inr h) = let g = rows_grow a (t + 1) es b u h.1 in let l = g.1 in (g.0, omega (arith, l))
 
-between : (a t : ℕ) (es : List FlatEqn) (b u : ℕ) → InRows a t es b u → AllByRecursion (λ (e : FlatEqn). AllByRecursion (Between a b t u) e.targets) es
+pub between : (a t : ℕ) (es : List FlatEqn) (b u : ℕ) → InRows a t es b u → AllByRecursion (λ (e : FlatEqn). AllByRecursion (Between a b t u) e.targets) es
 between a t [] b u h = tt
 between a t (e ∷ es) b u (inl h) =
     let g = rows_grow (a + h.0) t es b u h.2 in
