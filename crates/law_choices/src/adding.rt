@@ -6,12 +6,13 @@
 ghost use Rattle.law_choices.specs.Adding.Base.{BaseLaw};
 ghost use Rattle.law_choices.specs.Adding.Controls.{ControlledStaysLaw, StepsKeepLaw};
 ghost use Rattle.law_choices.specs.Adding.Embeds.{EmbeddedLaw};
+ghost use Rattle.law_choices.specs.Adding.Keeping.{BasedLaw};
 ghost use Rattle.law_choices.specs.Adding.Laws.{AddingLaw, BuiltLaw, OrderedLaw, SomeAddingLaw};
 ghost use Rattle.law_choices.specs.Adding.Lifts.{BitsLaw, CopyLaw, LiftLaw, SomeLiftLaw};
 ghost use Rattle.law_choices.specs.Adding.Placed.{PlacedLaw, PlacedLoopLaw, PlacedReactionLaw};
 ghost use Rattle.law_choices.specs.Adding.Watched.{WatchedLaw};
 ghost use Rattle.law_choices.specs.Adding.Whole.{WholeLaw};
-ghost use Rattle.law_choices.specs.Adding.Worked.{SomeControlledLaw};
+ghost use Rattle.law_choices.specs.Adding.Worked.{SomeControlledLaw, SomeEmbeddedLaw, SomeWatchedLaw, SomeWholeLaw};
 
 use crate::answered::extended_nodes_close;
 
@@ -30,6 +31,11 @@ pub fn equations_may_be_added_on_the_base_clock()
 /// A copy is added to a node.
 pub fn a_worked_addition()
     ensures { SomeAddingLaw }
+{}
+
+/// The inputs of a node that is well built may be on the base clock.
+pub fn inputs_are_on_the_base_clock()
+    ensures { BasedLaw }
 {}
 
 /// A variable may be lifted to the base clock, its bits may be added there, and a copy: the node stays well built, and these are variables of their types on the base clock.
@@ -70,8 +76,11 @@ pub fn nodes_that_choose_are_made()
     extended_nodes_close();
 }
 
-/// A variable is lifted, and a node chooses the value of its control variable.
+/// A variable is lifted and watched, an observer is put into a node, and a node chooses the value of its control variable.
 pub fn worked_steps()
     ensures lift { SomeLiftLaw }
     ensures controlled { SomeControlledLaw }
+    ensures whole { SomeWholeLaw }
+    ensures embedded { SomeEmbeddedLaw }
+    ensures watched { SomeWatchedLaw }
 {}

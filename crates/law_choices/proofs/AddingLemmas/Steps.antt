@@ -2,6 +2,7 @@
 use Rattle.std.proofs.Common.{◌≡◌, ◌⊎◌, inl, inr, ℕ, zero, suc, ◌+◌, ◌<◌, ◌≤◌, Bool, true, false, ◌||◌, nat_eq, nat_lt, if◌then◌else◌, List, [], ◌∷◌, ◌++◌, length, refl, sym, ap, ap₂, subst, ◌∙◌, arith}
 use Rattle.std.specs.Prelude.{Contains}
 use Rattle.std.specs.List.{AllByRecursion, IsDistinct}
+use Rattle.std.proofs.lemmas.Bool.Decides.{nat_tests}
 use Rattle.std.proofs.lemmas.List.{length-append, append-nil}
 use Rattle.std.proofs.lemmas.List.Elements.{All-contains, All-from_recursion}
 use Rattle.hp_obc.specs.Machines.{ObcType}
@@ -15,7 +16,8 @@ use Rattle.law_equations.specs.Meaning.Reactions.{has}
 use Rattle.law_equations.specs.Meaning.Scheduling.{AreBelow, EqnWithin}
 use Rattle.law_equations.specs.Meaning.Solving.{IsExclusive}
 use Rattle.law_choices.specs.Adding.Adding.{IsWellBuilt, IsNewIn, ClocksAgree, Adds}
-use Rattle.law_choices.specs.Adding.Keeping.{IsBased}
+use Rattle.law_choices.specs.Adding.Base.{based}
+use Rattle.law_choices.specs.Adding.Keeping.{IsBased, BasedLaw}
 use Rattle.law_choices.specs.Closed.Closed.{IsTarget}
 use Rattle.law_choices.specs.Closed.Clocking.{IsFrontOf, IsDefinedOn, StepsStand, IsSplit, AreClocks}
 use Rattle.law_choices.proofs.AddingLemmas.Adding.{adding_law}
@@ -105,3 +107,64 @@ module _ (types : List ObcType) (callees : Callees) (n other : FlatNode) (added 
     well = adding_law types callees n other more clock clocks adds agree w;
     inputs = λ x l. let i = s.inputs in same x (omega (arith, l, i, few_inputs)) ∙ b.inputs x (omega (arith, l, i));
   }
+
+-- ---- the inputs on the base clock
+
+module _ (types : List ObcType) (callees : Callees) (clock : ℕ → Clock) (n : FlatNode) (w : IsWellBuilt types callees clock n) where
+  abbrev V : ℕ
+  V = length n.variables
+
+  input_base : (x : ℕ) → x < n.inputs → based n clock x ≡ []
+  input_base x l = let e : nat_lt x n.inputs ≡ true = grind (arith, nat_tests, l) in ap (λ b. if b then [] else (if nat_lt x V then clock x else [])) e
+
+  own_same : (x : ℕ) → n.inputs ≤ x → x < V → based n clock x ≡ clock x
+  own_same x l u =
+      let e : nat_lt x n.inputs ≡ false = grind (arith, nat_tests, l) in
+      let f : nat_lt x V ≡ true = grind (arith, nat_tests, u) in
+      ap (λ b. if b then [] else (if nat_lt x V then clock x else [])) e ∙ ap (λ b. if b then clock x else []) f
+
+  output_base : (x : ℕ) → x < V → clock x ≡ [] → based n clock x ≡ []
+  output_base x u e = by (nat_lt x n.inputs) refl
+    where
+      by : (b : Bool) → nat_lt x n.inputs ≡ b → based n clock x ≡ []
+      by true q = input_base x (grind (arith, nat_tests, q))
+      by false q = own_same x (grind (arith, nat_tests, q)) u ∙ e
+
+  none_new : (x : ℕ) → IsNewIn n n x → ⊥
+  none_new x (inl h) = let a = h.0 in let b = h.1 in omega (arith, a, b)
+  none_new x (inr h) = let a = h.0 in let b = h.1 in omega (arith, a, b)
+
+  no_target : (x : ℕ) → IsTarget [] x → ⊥
+  no_target x t = let c = t.1 in let l = c.1 in omega (arith, l)
+
+  nothing_added : Adds types callees n n []
+  nothing_added = record {
+    added = [];
+    variables = sym (append-nil n.variables);
+    inputs = omega arith;
+    eqns = sym (append-nil n.eqns);
+    outputs = let i = w.within in i.outputs;
+    within = tt;
+    new = tt;
+    defined = λ x h. absurd (none_new x h);
+    differ = tt;
+    values = tt;
+    kinds = tt;
+    exclusive = λ now. tt;
+  }
+
+  clocks_agree : ClocksAgree types n n [] clock (based n clock)
+  clocks_agree = record {
+    own = own_same;
+    inputs = input_base;
+    outputs = let i = w.within in let c = w.clocks in each_both (λ x. x < V) (λ x. clock x ≡ []) (λ x. based n clock x ≡ []) (λ x u e. output_base x u e) n.outputs i.outputs c.outputs;
+    steps = tt;
+    reads = tt;
+    defined = λ x t. absurd (no_target x t);
+  }
+
+pub based_law : BasedLaw
+based_law types callees clock n w = record {
+  well = adding_law types callees n n [] clock (based n clock) (nothing_added types callees clock n w) (clocks_agree types callees clock n w) w;
+  inputs = input_base types callees clock n w;
+}

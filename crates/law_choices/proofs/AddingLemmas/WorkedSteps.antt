@@ -1,5 +1,6 @@
 -- A variable that is lifted, and a node that chooses.
-use Rattle.std.proofs.Common.{◌≡◌, inl, inr, ℕ, zero, suc, ◌<◌, true, [], ◌∷◌, length, refl, sym, subst, arith}
+use Rattle.std.proofs.Common.{◌≡◌, inl, inr, ℕ, zero, suc, ◌<◌, Bool, true, false, List, [], ◌∷◌, length, refl, sym, subst, arith}
+use Rattle.std.specs.Prelude.{codes}
 use Rattle.std.specs.List.{AllByRecursion, IsDistinct}
 use Rattle.std.proofs.lemmas.List.Elements.{All-contains, All-from_recursion}
 use Rattle.hp_base.specs.Kinds.{Bools}
@@ -12,7 +13,11 @@ use Rattle.law_equations.specs.Meaning.Scheduling.{EqnWithin}
 use Rattle.law_equations.specs.Meaning.Solving.{IsExclusive, TargetsDiffer}
 use Rattle.law_choices.specs.Adding.Keeping.{IsBased}
 use Rattle.law_choices.specs.Adding.Lifts.{SomeLiftLaw}
-use Rattle.law_choices.specs.Adding.Worked.{handed_on, free_node, free_machine, asked_alone, SomeControlledLaw}
+use Rattle.hp_flat.specs.Nodes.{FlatNode}
+use Rattle.hp_controller.specs.Controlled.{controlled}
+use Rattle.hp_watch.specs.Adding.{with_variable, with_eqn, with_copy}
+use Rattle.law_choices.specs.Adding.Whole.{IsWhole}
+use Rattle.law_choices.specs.Adding.Worked.{handed_on, free_node, free_machine, one_control, asked_alone, SomeControlledLaw, SomeWholeLaw, SomeEmbeddedLaw, SomeWatchedLaw}
 use Rattle.law_choices.specs.Closed.Closed.{IsTarget, IsGiven}
 use Rattle.law_choices.specs.Closed.Clocking.{IsDefinedOn, IsSplit, copy_where, by_cases}
 use Rattle.law_choices.proofs.ClosedLemmas.Cases.{base, is_one, split}
@@ -136,3 +141,55 @@ some_controlled_law = (
   record { takes = refl; gives = refl },
   (refl, tt),
 )
+
+-- ---- a node that is made of it, with ranks
+
+placed_eqns : List ℕ → List FlatEqn → List FlatEqn
+placed_eqns [] es = es
+placed_eqns (at ∷ ats) [] = []
+placed_eqns (at ∷ ats) (e ∷ es) = record e { at = at } ∷ placed_eqns ats es
+
+unranked : FlatNode
+unranked = with_copy 3 (with_copy 3 (controlled free_node free_machine (codes "f$ctl") [] [] one_control))
+
+with_ranks : FlatNode
+with_ranks = record { name = unranked.name; variables = unranked.variables; inputs = unranked.inputs; outputs = unranked.outputs; eqns = placed_eqns (2 ∷ 0 ∷ 0 ∷ 1 ∷ 1 ∷ 1 ∷ []) unranked.eqns }
+
+never : {P : Type 0} → false ≡ true → P
+never h = absurd cc
+
+some_whole : IsWhole free_node free_machine (codes "f$ctl") [] [] one_control with_ranks
+unfolding with_ranks unranked placed_eqns with_variable with_eqn
+some_whole = record {
+  assume = 3;
+  enforce = 3;
+  assume_bit = (omega arith, omega arith);
+  enforce_bit = (omega arith, omega arith);
+  placed = record { name = refl; variables = refl; inputs = refl; outputs = refl; eqns = refl };
+  ranked = (
+    ((never, (never, (never, ((λ h. omega arith), (never, (never, tt)))))), tt),
+    (tt, (tt, (((never, ((λ h. omega arith), (never, (never, (never, (never, tt)))))), tt), (((never, (never, ((λ h. omega arith), (never, (never, (never, tt)))))), tt), (((never, (never, ((λ h. omega arith), (never, (never, (never, tt)))))), tt), tt))))),
+  );
+}
+
+pub some_whole_law : SomeWholeLaw
+some_whole_law = (with_ranks, some_whole)
+
+-- ---- an observer, and a free place
+
+pub some_embedded_law : SomeEmbeddedLaw
+some_embedded_law = record {
+  stands = record { within = (omega arith, tt); steps = (([], refl), tt); arms = (omega arith, tt) };
+  restart_within = tt;
+  restart_kinds = tt;
+  kinds = (refl, tt);
+  below = (omega arith, tt);
+  there = (((0, 1) ∷ [], refl), tt);
+}
+
+pub some_watched_law : SomeWatchedLaw
+some_watched_law = record {
+  numbered = omega arith;
+  stands = record { within = (omega arith, tt); steps = (([], refl), tt); arms = (omega arith, tt) };
+  there = record { variable = omega arith; there = ((0, 1) ∷ [], refl); type = refl };
+}

@@ -1,6 +1,6 @@
 -- A node whose output is its control variable, and a machine that permits it both values.
 -- Source: own.
-use Rattle.std.specs.Prelude.{codes, ℕ, true, List, [], ◌∷◌}
+use Rattle.std.specs.Prelude.{codes, ℕ, true, List, [], ◌∷◌, Some}
 use Rattle.hp_base.specs.Kinds.{Bools}
 use Rattle.hp_boolx.specs.declared.gate.Gate.TheVariants.{Const}
 use Rattle.hp_boolx.specs.Machine.{Machine}
@@ -13,7 +13,11 @@ use Rattle.law_equations.specs.Meaning.Kinding.{Callees}
 use Rattle.hp_controller.specs.declared.decoding.Control.{Control}
 use Rattle.hp_controller.specs.declared.decoding.ControlKind.TheVariants.{Truth}
 use Rattle.hp_controller.specs.Controlled.{IsControllable}
+use Rattle.law_choices.specs.Closed.Clocking.{by_cases}
+use Rattle.law_choices.specs.Adding.Embeds.{FitsSite}
 use Rattle.law_choices.specs.Adding.Keeping.{IsBased}
+use Rattle.law_choices.specs.Adding.Watched.{IsFree}
+use Rattle.law_choices.specs.Adding.Whole.{IsWhole}
 use Rattle.law_choices.specs.Adding.Controls.{IsAskedFor, HaveControlKinds}
 
 abbrev pub handed_on : FlatEqn
@@ -56,3 +60,15 @@ asked_alone = record { takes = λ f. []; gives = λ f. Bools ∷ [] }
 abbrev pub SomeControlledLaw : Type 0
 SomeControlledLaw =
     IsBased [] asked_alone (λ x. []) free_node × IsControllable free_node free_machine [] one_control × IsAskedFor asked_alone free_machine (codes "f$ctl") × HaveControlKinds [] free_node.variables 0 one_control
+
+-- There is a node made of it whose equations have ranks.
+abbrev pub SomeWholeLaw : Type 0
+SomeWholeLaw = (other : FlatNode) × IsWhole free_node free_machine (codes "f$ctl") [] [] one_control other
+
+-- It is put as an observer into a node with two cases, where the input of that is true,
+abbrev pub SomeEmbeddedLaw : Type 0
+SomeEmbeddedLaw = FitsSite [] asked_alone by_cases (λ x. []) free_node (record { clock = (0, 1) ∷ []; restart = []; inputs = Read 0 ∷ [] })
+
+-- where a variable is a free place.
+abbrev pub SomeWatchedLaw : Type 0
+SomeWatchedLaw = IsFree [] by_cases (λ x. []) (record { variable = 1; eqn = Some 0 })
