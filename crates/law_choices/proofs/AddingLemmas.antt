@@ -13,3 +13,4 @@ pub mod WorkedSteps
 pub mod Embeds
 pub mod Watched
 pub mod Whole
+pub mod Surveyed

@@ -9,3 +9,4 @@ pub mod Worked
 pub mod Embeds
 pub mod Watched
 pub mod Whole
+pub mod Surveyed

@@ -10,6 +10,7 @@ ghost use Rattle.law_choices.specs.Adding.Keeping.{BasedLaw};
 ghost use Rattle.law_choices.specs.Adding.Laws.{AddingLaw, BuiltLaw, OrderedLaw, SomeAddingLaw};
 ghost use Rattle.law_choices.specs.Adding.Lifts.{BitsLaw, CopyLaw, LiftLaw, SomeLiftLaw};
 ghost use Rattle.law_choices.specs.Adding.Placed.{PlacedLaw, PlacedLoopLaw, PlacedReactionLaw};
+ghost use Rattle.law_choices.specs.Adding.Surveyed.{SurveyedLaw};
 ghost use Rattle.law_choices.specs.Adding.Watched.{WatchedLaw};
 ghost use Rattle.law_choices.specs.Adding.Whole.{WholeLaw};
 ghost use Rattle.law_choices.specs.Adding.Worked.{SomeControlledLaw, SomeEmbeddedLaw, SomeWatchedLaw, SomeWholeLaw};
@@ -53,6 +54,11 @@ pub fn free_places_may_be_watched()
 /// The equations of an observer may be put into a node at a site that fits: the node stays well built, and each variable of the observer is there on the clock of the site and its own one.
 pub fn observers_may_be_put()
     ensures { EmbeddedLaw }
+{}
+
+/// The observer of a node, and those of the nodes that it calls, may be put into it, where they are well built and take what these take and give: the node stays well built, and all its free places are free in it.
+pub fn nodes_may_be_surveyed()
+    ensures { SurveyedLaw }
 {}
 
 /// A node may keep the registers of a machine, ask its controller, and make the values of its last inputs of the answer: it stays well built.

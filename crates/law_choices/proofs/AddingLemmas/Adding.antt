@@ -79,7 +79,7 @@ module _ (types : List ObcType) (callees : Callees) (vs added : List Variable) w
   first_below (Named x) rest w = ((w.0, tt), w.1)
   first_below (Fixed v) rest w = (tt, w)
 
-  args_kinds : (args : List Atom) (ks : List KindData) → AreBelow (length vs) (flat_map atom_variables args) → HaveKinds types callees vs args ks → HaveKinds types callees (vs ++ added) args ks
+  pub args_kinds : (args : List Atom) (ks : List KindData) → AreBelow (length vs) (flat_map atom_variables args) → HaveKinds types callees vs args ks → HaveKinds types callees (vs ++ added) args ks
   args_kinds [] [] w h = tt
   args_kinds [] (k ∷ ks) w h = absurd h
   args_kinds (a ∷ args) [] w h = absurd h

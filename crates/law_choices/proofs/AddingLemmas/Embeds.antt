@@ -1,9 +1,9 @@
 -- An observer among the equations of a node.
-use Rattle.std.proofs.Common.{◌≡◌, ◌⊎◌, inl, inr, ℕ, zero, suc, ◌+◌, ◌-◌, ◌<◌, ◌≤◌, Bool, true, false, ◌&&◌, ◌||◌, if◌then◌else◌, nat_eq, nat_lt, List, [], ◌∷◌, ◌++◌, length, map, refl, sym, ap, ap₂, subst, ◌∙◌, arith}
+use Rattle.std.proofs.Common.{◌≡◌, ◌⊎◌, inl, inr, ℕ, zero, suc, ◌+◌, ◌-◌, ◌<◌, ◌≤◌, Bool, true, false, ◌&&◌, ◌||◌, if◌then◌else◌, nat_eq, nat_lt, List, [], ◌∷◌, ◌++◌, length, map, slice_get, Option, None, Some, refl, sym, ap, ap₂, subst, ◌∙◌, arith}
 use Rattle.std.specs.Prelude.{Contains}
 use Rattle.std.specs.List.{AllByRecursion, IsDistinct, flat_map, range_with_len}
 use Rattle.std.proofs.lemmas.Bool.Decides.{nat_tests}
-use Rattle.std.proofs.lemmas.List.{append_assoc, append-nil, length-append, map-append}
+use Rattle.std.proofs.lemmas.List.{append_assoc, append-nil, length-append, length-map, map-append}
 use Rattle.std.proofs.lemmas.List.Elements.{All-contains, All-from_recursion, Contains-append_left, Contains-append_right, Contains-append_cases}
 use Rattle.hp_base.specs.Kinds.{KindData, Bools}
 use Rattle.hp_obc.specs.Machines.{ObcType}
@@ -19,11 +19,15 @@ use Rattle.law_equations.specs.Meaning.Kinding.{Callees, HasArm, HasValue, AtomH
 use Rattle.law_equations.specs.Meaning.Reactions.{has}
 use Rattle.law_equations.specs.Meaning.Scheduling.{clock_variables, AreBelow, EqnWithin}
 use Rattle.law_equations.specs.Meaning.Solving.{NoOther, IsExclusive}
-use Rattle.hp_watch.specs.Adding.{added_variable, with_variable, with_eqn, operator_eqn}
-use Rattle.hp_watch.specs.Embedding.{Site, moved_all, moved_clock, moved_atom, moved_right, moved_eqn, with_variables, with_inputs, with_moved, embedded}
+use Rattle.hp_watch.specs.declared.embedding.Shift.{Shift}
+use Rattle.hp_watch.specs.declared.watching.Free.{Free}
+use Rattle.hp_watch.specs.Watching.{clock_by, clock_of, moved_number, moved_free}
+use Rattle.hp_watch.specs.Adding.{type_at, added_variable, with_variable, with_eqn, operator_eqn}
+use Rattle.hp_watch.specs.Embedding.{Site, moved_all, moved_clock, moved_atom, moved_right, moved_eqn, with_variables, with_inputs, with_moved, with_room, embedded, shift_of}
 use Rattle.law_choices.specs.Adding.Adding.{IsWellBuilt, IsNewIn}
 use Rattle.law_choices.specs.Adding.Keeping.{IsBased, Keeps}
-use Rattle.law_choices.specs.Adding.Lifts.{CanStand}
+use Rattle.law_choices.specs.Adding.Lifts.{IsOn, CanStand}
+use Rattle.law_choices.specs.Adding.Watched.{IsNumbered, IsFree}
 use Rattle.law_choices.specs.Adding.Embeds.{FitsSite, EmbeddedLaw}
 use Rattle.law_choices.specs.Closed.Closed.{IsTarget, IsGiven}
 use Rattle.law_choices.specs.Closed.Clocking.{IsFrontOf, IsDefinedOn, StepsStand, IsSplit}
@@ -545,7 +549,7 @@ module _ (types : List ObcType) (callees : Callees) (n observer : FlatNode) (clo
     defined = λ x h. (place_new x h).1;
   }
 
-  keeps : Keeps types callees clock n other
+  pub keeps : Keeps types callees clock n other
   keeps = record {
     clocks = clocks;
     built = stepped types callees n other added more clock clocks b same step;
@@ -553,6 +557,75 @@ module _ (types : List ObcType) (callees : Callees) (n observer : FlatNode) (clo
     grows = grows-behind n other added more behind;
     fresh = each_other IsGood (λ (e : FlatEqn). AllByRecursion (λ x. V ≤ x) e.targets) (λ e g. each_other (λ x. (V ≤ x) × (x < V + W)) (λ x. V ≤ x) (λ x h. h.0) e.targets g.new) more good;
   }
+
+  -- ---- a free place of the observer, where that stands
+
+  eqns_at : length (with_room observer site n).eqns ≡ length n.eqns + length inputs
+  eqns_at =
+      let room = inputs-behind site.clock site.inputs n (with_variables observer.variables n) added [] V (variables-behind observer.variables n n [] [] V refl (nothing-behind n)) in
+      ap length room.eqns ∙ length-append n.eqns inputs
+
+  abbrev shift : Shift
+  shift = shift_of observer site n
+
+  clock_behind : (es fs : List FlatEqn) (i : ℕ) → slice_get (es ++ fs) (i + length es) ≡ slice_get fs i
+  clock_behind [] fs i = let e : i + 0 ≡ i = omega arith in ap (slice_get fs) e
+  clock_behind (e ∷ es) fs i = let q : i + suc (length es) ≡ suc (i + length es) = omega arith in ap (slice_get (e ∷ es ++ fs)) q ∙ clock_behind es fs i
+
+  moved_at : (es : List FlatEqn) (i : ℕ) → i < length es → clock_by (slice_get (map (moved_eqn site V) es) i) ≡ site.clock ++ moved_clock V (clock_by (slice_get es i))
+  moved_at [] i l = absurd (omega (arith, l))
+  moved_at (e ∷ es) zero l = refl
+  moved_at (e ∷ es) (suc i) l = moved_at es i (omega (arith, l))
+
+  place_at : (i : ℕ) → i < length observer.eqns → clock_of other (Some (i + shift.eqns)) ≡ site.clock ++ moved_clock V (clock_of observer (Some i))
+  place_at i l =
+      let e = eqns_at in
+      let q : i + shift.eqns ≡ i + length inputs + length n.eqns = omega (arith, e) in
+      ap (λ es. clock_by (slice_get es (i + shift.eqns))) behind.eqns
+      ∙ ap (λ k. clock_by (slice_get (n.eqns ++ more) k)) q
+      ∙ ap clock_by (clock_behind n.eqns more (i + length inputs))
+      ∙ ap clock_by (clock_behind inputs moved i)
+      ∙ moved_at observer.eqns i l
+
+  number_at : (i : ℕ) → i < length observer.eqns → i + shift.eqns < length other.eqns
+  number_at i l =
+      let e = eqns_at in
+      let f = ap length behind.eqns in
+      let g = length-append n.eqns more in
+      let h = length-append inputs moved in
+      let j : length moved ≡ length observer.eqns = length-map observer.eqns (moved_eqn site V) in
+      omega (arith, e, f, g, h, j, l)
+
+  moved_stands : (c : Clock) → CanStand types observer own c → CanStand types other clocks (site.clock ++ moved_clock V c)
+  moved_stands c h = record {
+    within = subst (λ k. AreBelow k (clock_variables (site.clock ++ moved_clock V c))) (sym other_total)
+        (clock_both (λ x. x < V + W) site.clock (moved_clock V c) (low (clock_variables site.clock) stands.within) (subst (AreBelow (V + W)) (sym (moved-clock V c)) (moved_below (clock_variables c) h.within)));
+    steps = all_steps c h.steps;
+    arms = subst (λ vs. AllByRecursion (λ (on : ℕ × ℕ). HasArm (variable_kind types vs on.0) on.1) (site.clock ++ moved_clock V c)) (sym behind.variables)
+        (both (λ (on : ℕ × ℕ). HasArm (variable_kind types all on.0) on.1) site.clock (moved_clock V c) site_arms (moved_arms c h.arms));
+  }
+
+  moved_place : (f : Free) (i : ℕ) → f.eqn ≡ Some i → IsFree types observer own f → IsFree types other clocks (moved_free shift f)
+  moved_place f i e h =
+      let number : IsNumbered observer (Some i) = subst (IsNumbered observer) e h.numbered in
+      let there : IsOn observer own (clock_of observer (Some i)) (type_at observer f.variable) f.variable = subst (λ o. IsOn observer own (clock_of observer o) (type_at observer f.variable) f.variable) e h.there in
+      let stand : CanStand types observer own (clock_of observer (Some i)) = subst (λ o. CanStand types observer own (clock_of observer o)) e h.stands in
+      let at : Option ℕ → Free = λ o. record { variable = f.variable + shift.variables; eqn = moved_number shift.eqns o } in
+      let here : IsFree types other clocks (at (Some i)) = record {
+        numbered = number_at i number;
+        stands = subst (CanStand types other clocks) (sym (place_at i number)) (moved_stands (clock_of observer (Some i)) stand);
+        there = record {
+          variable = let v = there.variable in let t = other_total in omega (arith, v, t);
+          there = subst (IsFrontOf (clocks (f.variable + V))) (sym (place_at i number)) (new_front f.variable (clock_of observer (Some i)) there.there);
+          type = refl;
+        };
+      } in
+      subst (λ o. IsFree types other clocks (at o)) (sym e) here
+
+pub place_kept : (types : List ObcType) (callees : Callees) (n observer : FlatNode) (clock own : ℕ → Clock) (site : Site) (b : IsBased types callees clock n) (o : IsBased types callees own observer) (fits : FitsSite types callees n clock observer site)
+    → (f : Free) (i : ℕ) → f.eqn ≡ Some i → IsFree types observer own f → IsFree types (embedded observer site n) (keeps types callees n observer clock own site b o fits).clocks (moved_free (shift_of observer site n) f)
+unfolding keeps
+place_kept types callees n observer clock own site b o fits f i e h = moved_place types callees n observer clock own site b o fits f i e h
 
 pub embedded_law : EmbeddedLaw
 unfolding keeps
