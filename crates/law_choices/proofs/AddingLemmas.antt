@@ -14,3 +14,4 @@ pub mod Embeds
 pub mod Watched
 pub mod Whole
 pub mod Surveyed
+pub mod Choosing

@@ -10,3 +10,4 @@ pub mod Embeds
 pub mod Watched
 pub mod Whole
 pub mod Surveyed
+pub mod Choosing

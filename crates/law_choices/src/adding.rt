@@ -4,6 +4,7 @@
 #![tactic(auto)]
 
 ghost use Rattle.law_choices.specs.Adding.Base.{BaseLaw};
+ghost use Rattle.law_choices.specs.Adding.Choosing.{ChoosingLaw, WatchingLaw};
 ghost use Rattle.law_choices.specs.Adding.Controls.{ControlledStaysLaw, StepsKeepLaw};
 ghost use Rattle.law_choices.specs.Adding.Embeds.{EmbeddedLaw};
 ghost use Rattle.law_choices.specs.Adding.Keeping.{BasedLaw};
@@ -80,6 +81,14 @@ pub fn nodes_that_choose_are_made()
 {
     equations_may_be_added();
     extended_nodes_close();
+}
+
+/// So it is where the node is watched as the compiler watches it, and its observers suit.
+pub fn watched_nodes_choose()
+    ensures watched { WatchingLaw }
+    ensures chooses { ChoosingLaw }
+{
+    nodes_that_choose_are_made();
 }
 
 /// A variable is lifted and watched, an observer is put into a node, and a node chooses the value of its control variable.

@@ -261,7 +261,7 @@ module _ (types : List ObcType) (callees : Callees) (other : FlatNode) (clock : 
 
 -- ---- the node
 
-kinds-more : (types : List ObcType) (callees : Callees) (vs more : List Variable) (target : ℕ) (cs : List Control) → target + length cs ≤ length vs → HaveControlKinds types vs target cs → HaveControlKinds types (vs ++ more) target cs
+pub kinds-more : (types : List ObcType) (callees : Callees) (vs more : List Variable) (target : ℕ) (cs : List Control) → target + length cs ≤ length vs → HaveControlKinds types vs target cs → HaveControlKinds types (vs ++ more) target cs
 kinds-more types callees vs more target [] l h = tt
 kinds-more types callees vs more target (c ∷ cs) l h =
     (subst (λ k. HasControlKind types k c.kind) (sym (same_kind types callees vs more target (omega (arith, l)))) h.0, kinds-more types callees vs more (target + 1) cs (omega (arith, l)) h.1)
