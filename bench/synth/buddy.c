@@ -1,6 +1,6 @@
-/* Solves a Boolean machine that is written as lines (crates/hp_games/data/README.md) over BuDDy, by the rounds that hp_synth does. The arguments are the file, and
-   `own` for the order of variables that hp_synth makes; else they stand in the order of their numbers, as in certificates. It prints the verdict, the rounds, and
-   the microseconds from the first diagram on. */
+/* Solves a Boolean machine that is written as lines (crates/hp_games/data/README.md) over BuDDy, by the rounds that hp_synth does. The arguments are the file; `own`
+   for the order of variables that hp_synth makes, where they stand else in the order of their numbers, as in certificates; and `functions`, by which the functions of
+   the controller are made too, as hp_control does, each control preferred true. It prints the verdict, the rounds, and the microseconds from the first diagram on. */
 #include <bdd.h>
 #include <stdio.h>
 #include <stdlib.h>
@@ -89,11 +89,32 @@ static void order(int all, int own) {
       if (first[x] == k) place[x] = next++;
 }
 
+static BDD with(BDD f, int x, int value) {
+  return bdd_addref(bdd_restrict(f, value ? bdd_ithvar(place[x]) : bdd_nithvar(place[x])));
+}
+
+/* The functions of the controller, one after the other: each is true unless only false leaves a choice, and takes its control's place in what is left. */
+static int functions(BDD choice, BDD bad, BDD late_range, int control, int late) {
+  BDD left = bdd_addref(bdd_and(choice, bdd_addref(bdd_forall(bdd_addref(bdd_not(bad)), late_range))));
+  for (int k = control; k < late; k++) {
+    BDD some = bdd_addref(bdd_exist(left, range(k + 1, late)));
+    BDD fun = bdd_addref(bdd_or(with(some, k, 1), bdd_addref(bdd_not(with(some, k, 0)))));
+    left = bdd_addref(bdd_ite(fun, with(left, k, 1), with(left, k, 0)));
+  }
+  return late - control;
+}
+
+static int is_asked(int argc, char **argv, const char *word) {
+  for (int k = 2; k < argc; k++)
+    if (!strcmp(argv[k], word)) return 1;
+  return 0;
+}
+
 int main(int argc, char **argv) {
   if (argc < 2) return 2;
   read_machine(argv[1]);
   int early = counts[0], control = early + counts[1], late = control + counts[2], all = late + counts[3];
-  order(all, argc > 2 && !strcmp(argv[2], "own"));
+  order(all, is_asked(argc, argv, "own"));
   bdd_init(1000000, 100000);
   bdd_setvarnum(all);
   bdd_setmaxincrease(1000000);
@@ -121,6 +142,10 @@ int main(int argc, char **argv) {
     BDD at = set;
     while (at != bddtrue && at != bddfalse) at = initial[bdd_var(at)] ? bdd_high(at) : bdd_low(at);
     loses = at == bddtrue;
+  }
+  if (!loses && is_asked(argc, argv, "functions")) {
+    BDD bad = bdd_addref(bdd_and(meant, bdd_or(lost, bdd_addref(bdd_veccompose(set, by)))));
+    functions(choice, bad, late_range, control, late);
   }
   printf("%s %d %ld\n", loses ? "lose" : "win", rounds, microseconds() - start);
   return 0;

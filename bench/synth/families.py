@@ -4,6 +4,8 @@
 families.py tasks N     N tasks that wait, are active, or idle; a controllable variable for each lets it begin; no two are active at once
 families.py ring N      a token that N stations pass on when they are asked to and may; a station that is served holds the token; the token is never lost nor doubled
 families.py lift N      a lift with N floors, whose motor is controlled: it never leaves the shaft, and a call is served within a number of instants that grows with N
+families.py pool N      the tasks of `tasks`, of which at most N/2 are active at once
+families.py heat N      N rooms, each with a heater that is controlled, a window, and the sun, which is known after the choice: no room is hot, and no heater is on at an open window
 """
 import sys
 
@@ -60,9 +62,10 @@ class Builder:
         return m
 
 
-def tasks(n):
-    """The circuits of the program `tasks`: two bits for the state of each task, Idle, Wait and Active, and one for a pending restart."""
-    b = Builder('tasks', 3 * n, 2 * n, n)
+def delayed_tasks(name, n):
+    """A builder with the tasks of the program `tasks`: two bits for the state of each task, Idle, Wait and Active, and one for a pending restart. With it come the
+    next values, and of each task whether it is active."""
+    b = Builder(name, 3 * n, 2 * n, n)
     next_, active = [], []
     for k in range(n):
         high, low = b.register(3 * k), b.register(3 * k + 1)
@@ -73,8 +76,49 @@ def tasks(n):
         ends = b.both(busy, e)
         active.append(busy)
         next_ += [b.either(begins, b.both(busy, b.no(e))), b.either(waits, b.both(wait, b.no(c))), b.either(begins, waits, ends)]
+    return b, next_, active
+
+
+def tasks(n):
+    """The circuits of the program `tasks`: no two tasks are active at once."""
+    b, next_, active = delayed_tasks('tasks', n)
     clash = [b.both(active[i], active[j]) for i in range(n) for j in range(i)]
     return b.finish([0] * (3 * n), next_, b.constant(True), b.no(b.either(*clash)))
+
+
+def pool(n):
+    """Of the tasks at most half are active at once. They are counted in a row of numbers: behind each task, for each number up to that, whether as many are active so far."""
+    b, next_, active = delayed_tasks('pool', n)
+    most = n // 2
+    so_far = [b.constant(k == 0) for k in range(most + 2)]
+    for busy in active:
+        so_far = [b.either(b.both(so_far[k], b.no(busy)), b.both(so_far[k - 1], busy) if k else b.constant(False)) for k in range(most + 1)] + [b.either(so_far[-1], b.both(so_far[most], busy))]
+    return b.finish([0] * (3 * n), next_, b.constant(True), b.no(so_far[-1]))
+
+
+def heat(n):
+    """A room is cold, fair, warm or hot. Where its window is open it gets colder by one step; where it is closed, warmer by one if it is heated, and by one more in the sun, else colder
+    by one. It is assumed that the sun shines into one room at most, and never through an open window."""
+    b = Builder('heat', 2 * n, n, n, n)
+    next_, hots, wasted = [], [], []
+    sun = [b.gate('v', b.count[0] + b.count[1] + b.count[2] + k) for k in range(n)]
+    for k in range(n):
+        high, low = b.register(2 * k), b.register(2 * k + 1)
+        window, on = b.early(k), b.control(k)
+        heated = b.both(b.no(window), on)
+        warmer = b.both(heated, b.no(sun[k]))
+        much = b.both(heated, sun[k])
+        still = b.both(b.no(window), b.no(on), sun[k])
+        colder = b.both(b.no(still), b.no(heated))
+        cold, fair, warm, hot = b.both(b.no(high), b.no(low)), b.both(b.no(high), low), b.both(high, b.no(low)), b.both(high, low)
+        goes_high = b.either(b.both(warmer, b.no(cold)), much, b.both(still, high), b.both(colder, hot))
+        goes_low = b.either(b.both(warmer, b.no(fair)), b.both(much, b.no(cold)), b.both(still, low), b.both(colder, warm))
+        next_ += [goes_high, goes_low]
+        hots.append(hot)
+        wasted.append(b.both(window, on))
+    two_suns = b.either(*[b.both(sun[k], b.either(*sun[:k])) for k in range(1, n)])
+    through = b.either(*[b.both(sun[k], b.early(k)) for k in range(n)])
+    return b.finish([0, 0] * n, next_, b.no(b.either(two_suns, through)), b.no(b.either(*hots, *wasted)))
 
 
 def ring(n):
@@ -142,6 +186,6 @@ def lift(n):
 
 
 if __name__ == '__main__':
-    family = {'tasks': tasks, 'ring': ring, 'lift': lift}[sys.argv[1]]
+    family = {'tasks': tasks, 'ring': ring, 'lift': lift, 'pool': pool, 'heat': heat}[sys.argv[1]]
     for line in family(int(sys.argv[2])).lines():
         print(line)

@@ -39,4 +39,6 @@ pub mod InlineLaws
 pub mod CalledLaws
 pub mod WholeLaws
 mod FlatKinds
-mod KindedLaws
+pub mod KindedLaws
+mod InKind
+mod UnchangedLaws

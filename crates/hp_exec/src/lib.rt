@@ -1,4 +1,4 @@
-//! The executor of machines: one step after another, without memory and without refusal. Invariant: what a step answers and leaves is what the machine's definition says; all memory is taken before the first step. Used by `hp_driver`; its specs by `law_history`. Hooks, `memory` and `load` are used by tests alone.
+//! The executor of machines: one step after another, without memory and without refusal. Invariant: what a step answers and leaves is what the machine's definition says; all memory is taken before the first step. Used by `hp_driver`, and its hooks by `hp_native`; its specs by `law_history`.
 #![tactic(auto)]
 
 mod build;

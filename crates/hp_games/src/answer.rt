@@ -4,7 +4,7 @@ ghost use Rattle.hp_boolx.specs.Machine.{game, variables};
 ghost use Rattle.hp_synth.specs.Verdicts.{IsWon};
 
 use hp_boolx::BoolMachine;
-use hp_control::functions;
+use hp_control::{functions, placed_functions};
 use hp_diagram::{Ref, Table};
 use hp_synth::{Solved, Verdict, solve};
 use std::alloc::{AllocError, Global};
@@ -15,6 +15,8 @@ use std::io;
 pub enum Detail {
     /// The verdict, and the number of instants.
     Verdict,
+    /// The number of a controller's functions, which are made in the solver's order.
+    Functions,
     /// The states too, and the choices.
     Whole,
 }
@@ -92,6 +94,20 @@ fn say_win(
     println!(rt; "choices {choices}")
 }
 
+/// Makes the functions of a controller, and says how many there are.
+fn say_functions(
+    rt: &(impl Print + AllocGlobal),
+    m: &BoolMachine,
+    solved: &mut Solved,
+) -> io::Result<()>
+    requires fits { variables m.now ≡ solved.old.table.vars }
+    requires won { IsWon (game m.now) solved.old.table solved.old.verdict }
+{
+    let placed = placed_functions(rt.alloc(), solved, m)?;
+    let count = placed.funs.len();
+    println!(rt; "functions {count}")
+}
+
 fn say_lose(
     rt: &(impl Print + AllocGlobal),
     m: &BoolMachine,
@@ -115,11 +131,12 @@ pub fn say_answer(
     match &solved.verdict {
         Verdict::Win { inv } => {
             println!(rt; "win")?;
-            if detail == Detail::Whole {
-                let inv = *inv;
-                say_win(rt, m, &mut solved, inv)?;
+            let inv = *inv;
+            match detail {
+                Detail::Verdict => Ok(()),
+                Detail::Functions => say_functions(rt, m, &mut solved),
+                Detail::Whole => say_win(rt, m, &mut solved, inv),
             }
-            Ok(())
         }
         Verdict::Lose { ranks } => {
             let count = ranks.len();

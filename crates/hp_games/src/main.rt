@@ -108,11 +108,14 @@ fn take_file(
     }
 }
 
-/// What a word asks of the machines of the files behind it, if it is no file itself: `brief` verdicts alone, `certify` certificates and what they prove, and `prove`
-/// only that.
+/// What a word asks of the machines of the files behind it, if it is no file itself: `brief` verdicts alone, `functions` that the controller is made too, `certify`
+/// certificates and what they prove, and `prove` only that.
 fn wanted_by(word: &str) -> Option<Wanted> {
     if word == "brief" {
         return Some(Wanted::Answer(Detail::Verdict));
+    }
+    if word == "functions" {
+        return Some(Wanted::Answer(Detail::Functions));
     }
     if word == "certify" {
         return Some(Wanted::Certificate);
