@@ -15,3 +15,4 @@ pub mod Watched
 pub mod Whole
 pub mod Surveyed
 pub mod Choosing
+pub mod Called

@@ -4,6 +4,7 @@
 #![tactic(auto)]
 
 ghost use Rattle.law_choices.specs.Adding.Base.{BaseLaw};
+ghost use Rattle.law_choices.specs.Adding.Called.{CalledLaw};
 ghost use Rattle.law_choices.specs.Adding.Choosing.{ChoosingLaw, WatchingLaw};
 ghost use Rattle.law_choices.specs.Adding.Controls.{ControlledStaysLaw, StepsKeepLaw};
 ghost use Rattle.law_choices.specs.Adding.Embeds.{EmbeddedLaw};
@@ -38,6 +39,11 @@ pub fn a_worked_addition()
 /// The inputs of a node that is well built may be on the base clock.
 pub fn inputs_are_on_the_base_clock()
     ensures { BasedLaw }
+{}
+
+/// What is said of nodes that it does not call does not matter.
+pub fn callees_may_differ_elsewhere()
+    ensures { CalledLaw }
 {}
 
 /// A variable may be lifted to the base clock, its bits may be added there, and a copy: the node stays well built, and these are variables of their types on the base clock.

@@ -103,7 +103,7 @@ module _ (types : List ObcType) (callees : Callees) where
       let kind = Constructors t (constructors types t) in
       let args = Read value ∷ Fixed (E t i) ∷ [] in
       let one = define made k.clocks Truth Eq args (kind ∷ kind ∷ []) k.built tt ((here.variable, here.there), tt) (kind_on made k.clocks [] (Enum t) value here, (((refl, omega (arith, l)), refl), tt))
-          (ap (λ b. if b then Some Bools else None) (same_number t)) in
+      (ap (λ b. if b then Some Bools else None) (same_number t)) in
       let other = with_test t value i made in
       let h = one.0 in
       let size = before.count in

@@ -234,16 +234,16 @@ module _ (types : List ObcType) (callees : Callees) (other : FlatNode) (clock : 
       let value = tree e.number e.constructors b width 0 next in
       let count = tree-count e.number e.constructors b width 0 next in
       let all = tree-always e.number e.constructors b width 0 next h.1 h.2 bits
-          (λ x m u.
-          let place : next + (x - next) ≡ x = omega (arith, m) in
-          let short : x - next < length value.variables = omega (arith, m, u, count) in
-          let w = s.within in
-          let below : x < length other.variables = omega (arith, u, count, w) in
-          record {
-            variable = below;
-            there = new x m below;
-            kind = ap (variable_kind types other.variables) (sym place) ∙ s.kinds (x - next) short ∙ all-kind types (Enum e.number) value.variables (x - next) (tree-types e.number e.constructors b width 0 next) short;
-          }) in
+      (λ x m u.
+      let place : next + (x - next) ≡ x = omega (arith, m) in
+      let short : x - next < length value.variables = omega (arith, m, u, count) in
+      let w = s.within in
+      let below : x < length other.variables = omega (arith, u, count, w) in
+      record {
+        variable = below;
+        there = new x m below;
+        kind = ap (variable_kind types other.variables) (sym place) ∙ s.kinds (x - next) short ∙ all-kind types (Enum e.number) value.variables (x - next) (tree-types e.number e.constructors b width 0 next) short;
+      }) in
       both A value.eqns (equation 0 target Copy (value.atom ∷ []) ∷ []) all.0 (copy-always (K e.number) target value.atom (record { variable = l; there = f; kind = h.0 }) all.1, tt)
 
   controls-always : (target b next : ℕ) (cs : List Control) → HaveControlKinds types other.variables target cs → ((x : ℕ) → target ≤ x → x < target + length cs → (x < length other.variables) × IsFrontOf (clock x) []) → AllByRecursion (λ (c : Control). HasBits c.kind c.width) cs

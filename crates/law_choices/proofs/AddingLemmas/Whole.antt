@@ -29,6 +29,7 @@ use Rattle.law_choices.specs.Adding.Lifts.{IsOn}
 use Rattle.law_choices.specs.Adding.Placed.{IsPlaced}
 use Rattle.law_choices.specs.Adding.Whole.{IsBit, IsWhole, MayChoose, WholeLaw}
 use Rattle.law_choices.proofs.ClosedLemmas.ClosedLaws.{each_other}
+use Rattle.law_choices.proofs.AnsweredLemmas.ControlledLoops.{set_front}
 use Rattle.law_choices.proofs.AddingLemmas.Adding.{both}
 use Rattle.law_choices.proofs.AddingLemmas.One.{kind-at, keeps-both, on-kept, grows-length}
 use Rattle.law_choices.proofs.AddingLemmas.Rows.{Between, between, rows_grow}
@@ -41,15 +42,6 @@ truth_type : (types : List ObcType) (ty : FlatTy) → kind_of_type types ty ≡ 
 truth_type types Truth e = refl
 truth_type types Int e = absurd cc
 truth_type types (Enum t) e = absurd cc
-
--- what is set stays so where equations are added
-set_front : (es fs : List FlatEqn) (now : Instant) (x : ℕ) → is_set es now x ≡ true → is_set (es ++ fs) now x ≡ true
-set_front [] fs now x h = absurd cc
-set_front (e ∷ es) fs now x h = by (holds e.clock now && has e.targets x) h (λ g. set_front es fs now x g)
-  where
-    by : (b : Bool) → (b || is_set es now x) ≡ true → (is_set es now x ≡ true → is_set (es ++ fs) now x ≡ true) → (b || is_set (es ++ fs) now x) ≡ true
-    by true h rest = refl
-    by false h rest = rest h
 
 module _ (types : List ObcType) (callees : Callees) (clock : ℕ → Clock) (plant n other : FlatNode) (m : Machine) (name early late : List ℕ) (controls : List Control) (k : Keeps types callees clock plant n)
     (may : MayChoose types callees k.clocks n m name early late controls) (whole : IsWhole n m name early late controls other) where
