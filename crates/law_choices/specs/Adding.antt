@@ -12,3 +12,4 @@ pub mod Whole
 pub mod Surveyed
 pub mod Choosing
 pub mod Called
+pub mod Made

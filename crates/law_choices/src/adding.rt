@@ -11,13 +11,15 @@ ghost use Rattle.law_choices.specs.Adding.Embeds.{EmbeddedLaw};
 ghost use Rattle.law_choices.specs.Adding.Keeping.{BasedLaw};
 ghost use Rattle.law_choices.specs.Adding.Laws.{AddingLaw, BuiltLaw, OrderedLaw, SomeAddingLaw};
 ghost use Rattle.law_choices.specs.Adding.Lifts.{BitsLaw, CopyLaw, LiftLaw, SomeLiftLaw};
+ghost use Rattle.law_choices.specs.Adding.Made.{BytesLaw, ReadyMadeLaw};
 ghost use Rattle.law_choices.specs.Adding.Placed.{PlacedLaw, PlacedLoopLaw, PlacedReactionLaw};
 ghost use Rattle.law_choices.specs.Adding.Surveyed.{SurveyedLaw};
 ghost use Rattle.law_choices.specs.Adding.Watched.{WatchedLaw};
 ghost use Rattle.law_choices.specs.Adding.Whole.{WholeLaw};
-ghost use Rattle.law_choices.specs.Adding.Worked.{SomeControlledLaw, SomeEmbeddedLaw, SomeWatchedLaw, SomeWholeLaw};
+ghost use Rattle.law_choices.specs.Adding.Worked.{SomeControlledLaw, SomeEmbeddedLaw, SomeWatchedLaw, SomeWatchingLaw, SomeWholeLaw};
 
 use crate::answered::extended_nodes_close;
+use law_equations::fitting::targets_differ;
 
 /// A node that has shape, is closed, defines nothing twice and has clocks is well built; it stays so where equations are added to it, and with ranks it is well made.
 pub fn equations_may_be_added()
@@ -45,6 +47,14 @@ pub fn inputs_are_on_the_base_clock()
 pub fn callees_may_differ_elsewhere()
     ensures { CalledLaw }
 {}
+
+/// The clocked equations that are made of a ready program without its automata are well built; the constructors of its types have numbers of one byte.
+pub fn made_nodes_may_be_added_to()
+    ensures made { ReadyMadeLaw }
+    ensures bytes { BytesLaw }
+{
+    targets_differ();
+}
 
 /// A variable may be lifted to the base clock, its bits may be added there, and a copy: the node stays well built, and these are variables of their types on the base clock.
 pub fn values_may_be_lifted()
@@ -104,4 +114,5 @@ pub fn worked_steps()
     ensures whole { SomeWholeLaw }
     ensures embedded { SomeEmbeddedLaw }
     ensures watched { SomeWatchedLaw }
+    ensures watching { SomeWatchingLaw }
 {}

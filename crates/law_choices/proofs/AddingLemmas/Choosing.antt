@@ -22,7 +22,7 @@ use Rattle.law_choices.specs.Adding.Choosing.{IsOfNode, WatchingLaw, ChoosingLaw
 use Rattle.law_choices.specs.Adding.Controls.{IsThereAlways, IsAskedFor, HaveControlKinds}
 use Rattle.law_choices.specs.Adding.Keeping.{Keeps}
 use Rattle.law_choices.specs.Adding.Lifts.{HaveBytes, IsOn}
-use Rattle.law_choices.specs.Adding.Surveyed.{AllSuit, IsNoCopy}
+use Rattle.law_choices.specs.Adding.Surveyed.{AllSuit, IsNoCopy, MayBeSurveyed}
 use Rattle.law_choices.specs.Adding.Watched.{AreBitsOf, HasBits}
 use Rattle.law_choices.specs.Adding.Whole.{IsWhole, MayChoose, WholeLaw}
 use Rattle.law_choices.proofs.ClosedLemmas.ClosedLaws.{each_other}
@@ -51,17 +51,18 @@ at_last (d ∷ before) e es = at_last before e es
 
 events_are : (before es : List FlatEqn) → AllByRecursion (HasEvent (before ++ es)) (events_from (length before) es)
 events_are before [] = tt
-events_are before (e ∷ es) = by (is_event e.right) refl
+events_are before (e ∷ es) = by (is_event e.right) refl (turned (events_are (before ++ e ∷ []) es))
   where
     longer : length (before ++ e ∷ []) ≡ suc (length before)
     longer = let l = length-append before (e ∷ []) in omega (arith, l)
 
-    rest : AllByRecursion (HasEvent (before ++ e ∷ es)) (events_from (suc (length before)) es)
-    rest = subst (λ k. AllByRecursion (HasEvent (before ++ e ∷ es)) (events_from k es)) longer (subst (λ ds. AllByRecursion (HasEvent ds) (events_from (length (before ++ e ∷ [])) es)) (append_assoc before (e ∷ []) es) (events_are (before ++ e ∷ []) es))
+    turned : AllByRecursion (HasEvent ((before ++ e ∷ []) ++ es)) (events_from (length (before ++ e ∷ [])) es) → AllByRecursion (HasEvent (before ++ e ∷ es)) (events_from (suc (length before)) es)
+    turned h = subst (λ k. AllByRecursion (HasEvent (before ++ e ∷ es)) (events_from k es)) longer (subst (λ ds. AllByRecursion (HasEvent ds) (events_from (length (before ++ e ∷ [])) es)) (append_assoc before (e ∷ []) es) h)
 
-    by : (b : Bool) → is_event e.right ≡ b → AllByRecursion (HasEvent (before ++ e ∷ es)) (if b then length before ∷ events_from (suc (length before)) es else events_from (suc (length before)) es)
-    by true q = ((e, at_last before e es, no_copy e.right q), rest)
-    by false q = rest
+    by : (b : Bool) → is_event e.right ≡ b → AllByRecursion (HasEvent (before ++ e ∷ es)) (events_from (suc (length before)) es)
+        → AllByRecursion (HasEvent (before ++ e ∷ es)) (if b then length before ∷ events_from (suc (length before)) es else events_from (suc (length before)) es)
+    by true q rest = ((e, at_last before e es, no_copy e.right q), rest)
+    by false q rest = rest
 
 -- ---- a walk finds no more than is there
 
@@ -89,7 +90,7 @@ module _ (types : List ObcType) (callees : Callees) (clock : ℕ → Clock) (obs
       let fits = is.fits in
       let own = fits.own in
       let s = surveyed observers own (length node.inputs) (walked node n) n in
-      let may = record { few = of_node.few; takes = of_node.takes; gives = of_node.gives; own = of_node.own; events = order_free } in
+      let may : MayBeSurveyed types callees clock (length node.inputs) (walked node n) n = record { few = of_node.few; takes = of_node.takes; gives = of_node.gives; own = of_node.own; events = order_free } in
       let seen = surveyed_law types callees clock observers own (length node.inputs) (walked node n) n bytes of_node.based may suit fits.has in
       let k = seen.keeps in
       let bits = watched_law types callees k.clocks s.node s.free is_early bytes k.built seen.free in

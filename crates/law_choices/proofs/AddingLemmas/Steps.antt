@@ -117,7 +117,7 @@ module _ (types : List ObcType) (callees : Callees) (clock : ℕ → Clock) (n :
   input_base : (x : ℕ) → x < n.inputs → based n clock x ≡ []
   input_base x l = let e : nat_lt x n.inputs ≡ true = grind (arith, nat_tests, l) in ap (λ b. if b then [] else (if nat_lt x V then clock x else [])) e
 
-  own_same : (x : ℕ) → n.inputs ≤ x → x < V → based n clock x ≡ clock x
+  pub own_same : (x : ℕ) → n.inputs ≤ x → x < V → based n clock x ≡ clock x
   own_same x l u =
       let e : nat_lt x n.inputs ≡ false = grind (arith, nat_tests, l) in
       let f : nat_lt x V ≡ true = grind (arith, nat_tests, u) in

@@ -1,5 +1,5 @@
 -- A variable that is lifted, and a node that chooses.
-use Rattle.std.proofs.Common.{◌≡◌, inl, inr, ℕ, zero, suc, ◌<◌, Bool, true, false, List, [], ◌∷◌, length, refl, sym, subst, arith}
+use Rattle.std.proofs.Common.{◌≡◌, inl, inr, ℕ, zero, suc, ◌<◌, Bool, true, false, List, [], ◌∷◌, length, Some, refl, sym, subst, arith}
 use Rattle.std.specs.Prelude.{codes}
 use Rattle.std.specs.List.{AllByRecursion, IsDistinct}
 use Rattle.std.proofs.lemmas.List.Elements.{All-contains, All-from_recursion}
@@ -11,13 +11,16 @@ use Rattle.law_equations.specs.Meaning.Kinding.{Callees, EqnKinds}
 use Rattle.law_equations.specs.Meaning.Reactions.{has}
 use Rattle.law_equations.specs.Meaning.Scheduling.{EqnWithin}
 use Rattle.law_equations.specs.Meaning.Solving.{IsExclusive, TargetsDiffer}
+use Rattle.hp_watch.specs.Watching.{surveyed, Watched, watched_by, IsWatched}
+use Rattle.law_choices.specs.Adding.Choosing.{IsOfNode}
 use Rattle.law_choices.specs.Adding.Keeping.{IsBased}
+use Rattle.law_choices.specs.Adding.Surveyed.{Suits, AllSuit}
 use Rattle.law_choices.specs.Adding.Lifts.{SomeLiftLaw}
 use Rattle.hp_flat.specs.Nodes.{FlatNode}
 use Rattle.hp_controller.specs.Controlled.{controlled}
 use Rattle.hp_watch.specs.Adding.{with_variable, with_eqn, with_copy}
 use Rattle.law_choices.specs.Adding.Whole.{IsWhole}
-use Rattle.law_choices.specs.Adding.Worked.{handed_on, free_node, free_machine, one_control, asked_alone, SomeControlledLaw, SomeWholeLaw, SomeEmbeddedLaw, SomeWatchedLaw}
+use Rattle.law_choices.specs.Adding.Worked.{handed_on, free_node, free_machine, one_control, asked_alone, SomeControlledLaw, SomeWholeLaw, one_observer, some_tree, SomeEmbeddedLaw, SomeWatchedLaw, SomeWatchingLaw}
 use Rattle.law_choices.specs.Closed.Closed.{IsTarget, IsGiven}
 use Rattle.law_choices.specs.Closed.Clocking.{IsDefinedOn, IsSplit, copy_where, by_cases}
 use Rattle.law_choices.proofs.ClosedLemmas.Cases.{base, is_one, split}
@@ -193,3 +196,23 @@ some_watched_law = record {
   stands = record { within = (omega arith, tt); steps = (([], refl), tt); arms = (omega arith, tt) };
   there = record { variable = omega arith; there = ((0, 1) ∷ [], refl); type = refl };
 }
+
+-- ---- a node that is watched
+
+some_suits : (f : List ℕ) → Suits [] asked_alone f one_observer
+some_suits f = record { own = λ x. []; based = free_based; takes = refl; free = tt }
+
+all_suit : AllSuit [] asked_alone (λ f. Some one_observer)
+all_suit f o e = let same : one_observer ≡ o = cc in subst (Suits [] asked_alone f) same (some_suits f)
+
+abbrev some_watched : Watched
+some_watched = watched_by [] [] (surveyed (λ f. Some one_observer) one_observer 0 [] free_node)
+
+is_watched : IsWatched [] (λ f. Some one_observer) some_tree [] free_node some_watched
+is_watched = record { fits = record { events = refl; own = one_observer; has = refl; places = refl }; is = refl }
+
+of_some_tree : IsOfNode [] asked_alone (λ x. []) some_tree free_node
+of_some_tree = record { based = free_based; few = omega arith; takes = refl; gives = refl; own = ((inl refl, tt), tt) }
+
+pub some_watching_law : SomeWatchingLaw
+some_watching_law = (some_watched, is_watched, of_some_tree, all_suit)
