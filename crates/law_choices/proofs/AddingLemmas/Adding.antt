@@ -1,13 +1,12 @@
 -- Equations that are added keep what a well-made node has.
-use Rattle.std.proofs.Common.{◌≡◌, ◌⊎◌, inl, inr, ℕ, zero, suc, ◌+◌, ◌<◌, ◌≤◌, Bool, true, false, ◌||◌, ◌&&◌, nat_eq, nat_lt, get_or, length, List, [], ◌∷◌, ◌++◌, map, Some, refl, sym, ap, ap₂, subst, ◌∙◌, arith}
+use Rattle.std.proofs.Common.{◌≡◌, ◌⊎◌, inl, inr, ℕ, zero, suc, ◌<◌, ◌≤◌, Bool, true, false, ◌||◌, nat_eq, nat_lt, get_or, length, List, [], ◌∷◌, ◌++◌, map, refl, sym, ap, ap₂, subst, ◌∙◌, arith}
 use Rattle.std.specs.Prelude.{Contains}
 use Rattle.std.specs.List.{AllByRecursion, IsDistinct, flat_map}
 use Rattle.std.proofs.lemmas.List.{length-append}
 use Rattle.std.proofs.lemmas.Bool.Decides.{nat_tests}
 use Rattle.std.proofs.lemmas.List.Elements.{All-contains, All-from_recursion, Contains-append_left, Contains-append_right, Contains-append_cases}
-use Rattle.hp_base.specs.Kinds.{KindData, Bools, Ints, Constructors}
+use Rattle.hp_base.specs.Kinds.{KindData, Bools}
 use Rattle.hp_obc.specs.Machines.{ObcType}
-use Rattle.hp_obc.specs.Form.{result_kind}
 use Rattle.hp_flat.specs.declared.equation.Atom.{Atom}
 use Rattle.hp_flat.specs.declared.equation.Atom.TheVariants.{Variable as Named, Value as Fixed}
 use Rattle.hp_flat.specs.declared.node.FlatTy.TheVariants.{Int as FlatInt}
@@ -16,13 +15,12 @@ use Rattle.hp_flat.specs.Equations.{Clock, Right, operator, register, called, Fl
 use Rattle.hp_flat.specs.Nodes.{FlatNode}
 use Rattle.law_equations.specs.Meaning.Fitting.{atom_variables, operands}
 use Rattle.law_equations.specs.Meaning.Instants.{Instant, holds}
-use Rattle.law_equations.specs.Meaning.Kinding.{Callees, HasArm, HasValue, IsTyped, variable_kind, kind_of_type, AtomHasKind, HaveKinds, RightHasKinds, EqnKinds, IsWellMade}
+use Rattle.law_equations.specs.Meaning.Kinding.{Callees, HasArm, HasValue, variable_kind, kind_of_type, AtomHasKind, HaveKinds, RightHasKinds, EqnKinds}
 use Rattle.law_equations.specs.Meaning.Reactions.{has}
-use Rattle.law_equations.specs.Meaning.Scheduling.{clock_variables, AreBelow, EqnWithin, IsWithin, DefinesNoInput, IsRanked}
-use Rattle.law_equations.specs.Meaning.Solving.{NoOther, IsExclusive, TargetsDiffer}
-use Rattle.law_choices.specs.Closed.Closed.{IsTarget, IsGiven, variables_in, IsClosed}
+use Rattle.law_equations.specs.Meaning.Scheduling.{clock_variables, AreBelow, EqnWithin, IsWithin}
+use Rattle.law_equations.specs.Meaning.Solving.{NoOther, IsExclusive}
+use Rattle.law_choices.specs.Closed.Closed.{IsTarget, IsGiven, variables_in}
 use Rattle.law_choices.specs.Closed.Clocking.{IsFrontOf, IsDefinedOn, StepsStand, IsSplit, AreClocks}
-use Rattle.law_choices.specs.Closed.Exclusive.{IsAlwaysExclusive}
 use Rattle.law_choices.specs.Adding.Adding.{IsWellBuilt, IsNewIn, ClocksAgree, Adds}
 use Rattle.law_choices.specs.Adding.Laws.{BuiltLaw, AddingLaw, OrderedLaw}
 use Rattle.law_choices.proofs.ClosedLemmas.Clocking.{fit_law}

@@ -1,5 +1,5 @@
 -- The bits of a value on the base clock.
-use Rattle.std.proofs.Common.{◌≡◌, ◌⊎◌, inl, inr, ℕ, zero, suc, ◌+◌, ◌<◌, ◌≤◌, Bool, true, false, if◌then◌else◌, nat_eq, List, [], ◌∷◌, ◌++◌, length, Some, None, refl, sym, ap, subst, ◌∙◌, arith}
+use Rattle.std.proofs.Common.{◌≡◌, inl, ℕ, zero, suc, ◌+◌, ◌<◌, ◌≤◌, Bool, true, false, if◌then◌else◌, nat_eq, List, [], ◌∷◌, length, Some, None, refl, sym, ap, subst, ◌∙◌, arith}
 use Rattle.std.specs.Prelude.{Contains, ◌==◌}
 use Rattle.std.specs.List.{AllByRecursion, flat_map, range_with_len}
 use Rattle.std.proofs.lemmas.Bool.Decides.{nat_tests}
@@ -20,12 +20,12 @@ use Rattle.hp_flat.specs.Nodes.{FlatNode}
 use Rattle.law_equations.specs.Meaning.Fitting.{atom_variables}
 use Rattle.law_equations.specs.Meaning.Kinding.{Callees, HasValue, HaveKinds, constructors, kind_of_type, variable_kind}
 use Rattle.hp_watch.specs.Adding.{type_at, next_variable, added_variable, with_variable, operator_eqn, with_operator}
-use Rattle.hp_watch.specs.Lifting.{count_of, with_each, with_test, has_bit, Valued, with_either, either, with_bit, Spelled, with_bits, width_of, with_code, with_spelling}
+use Rattle.hp_watch.specs.Lifting.{count_of, with_each, with_test, has_bit, Valued, with_either, either, with_bit, with_bits, width_of, with_spelling}
 use Rattle.law_choices.specs.Adding.Keeping.{IsBased, Keeps}
 use Rattle.law_choices.specs.Adding.Lifts.{HaveBytes, IsOn, BitsLaw, CopyLaw}
 use Rattle.law_choices.specs.Closed.Clocking.{IsFrontOf, IsDefinedOn}
 use Rattle.law_choices.proofs.ClosedLemmas.ClosedLaws.{each_other, first_one}
-use Rattle.law_choices.proofs.AddingLemmas.One.{grows-length, variable-behind, eqn-behind, kind-at, keeps-self, keeps-both, on-kept, Defines, one-keeps, one-on}
+use Rattle.law_choices.proofs.AddingLemmas.One.{variable-behind, eqn-behind, kind-at, keeps-self, keeps-both, on-kept, Defines, one-keeps, one-on}
 use Rattle.law_choices.proofs.AddingLemmas.Lifts.{bytes_at}
 use Rattle.law_choices.proofs.AddingLemmas.Rows.{each_range}
 

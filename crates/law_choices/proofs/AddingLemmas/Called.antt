@@ -1,16 +1,13 @@
 -- What is said of nodes that are not called.
-use Rattle.std.proofs.Common.{◌≡◌, ℕ, List, [], ◌∷◌, length, map, sym, subst, ◌∙◌}
-use Rattle.std.specs.List.{AllByRecursion}
+use Rattle.std.proofs.Common.{List, [], ◌∷◌, map, sym, subst, ◌∙◌}
 use Rattle.hp_base.specs.Kinds.{KindData}
 use Rattle.hp_obc.specs.Machines.{ObcType}
 use Rattle.hp_flat.specs.declared.equation.Atom.{Atom}
 use Rattle.hp_flat.specs.declared.equation.Atom.TheVariants.{Variable as Named, Value as Fixed}
 use Rattle.hp_flat.specs.declared.node.Variable.{Variable}
-use Rattle.hp_flat.specs.Equations.{Clock, Right, operator, register, called, FlatEqn}
-use Rattle.hp_flat.specs.Nodes.{FlatNode}
+use Rattle.hp_flat.specs.Equations.{Right, operator, register, called, FlatEqn}
 use Rattle.law_equations.specs.Meaning.Kinding.{Callees, AtomHasKind, HaveKinds, RightHasKinds, EqnKinds, variable_kind}
 use Rattle.law_choices.specs.Adding.Called.{SaysSame, CalledLaw}
-use Rattle.law_choices.specs.Adding.Keeping.{IsBased}
 use Rattle.law_choices.proofs.ClosedLemmas.ClosedLaws.{each_both}
 
 module _ (types : List ObcType) (callees others : Callees) (vs : List Variable) where

@@ -1,9 +1,8 @@
 -- The node that chooses, made of the clocked equations of a node.
-use Rattle.std.proofs.Common.{◌≡◌, ℕ, zero, suc, ◌+◌, ◌-◌, ◌≤◌, Bool, true, false, if◌then◌else◌, List, [], ◌∷◌, ◌++◌, length, slice_get, Some, refl, sym, ap, subst, ◌∙◌, arith}
+use Rattle.std.proofs.Common.{◌≡◌, ℕ, suc, ◌-◌, Bool, true, false, if◌then◌else◌, List, [], ◌∷◌, ◌++◌, length, slice_get, Some, refl, sym, subst, arith}
 use Rattle.std.specs.List.{AllByRecursion}
 use Rattle.std.proofs.lemmas.List.{append_assoc, length-append}
 use Rattle.hp_base.specs.Kinds.{Bools}
-use Rattle.hp_boolx.specs.Machine.{Machine}
 use Rattle.hp_obc.specs.Machines.{ObcType}
 use Rattle.hp_obc.specs.declared.command.ObcOp.TheVariants.{Copy}
 use Rattle.hp_tree.specs.Blocks.{Block}
@@ -13,21 +12,18 @@ use Rattle.hp_flat.specs.Equations.{Clock, Right, operator, register, called, Fl
 use Rattle.hp_flat.specs.Nodes.{FlatNode}
 use Rattle.law_automata.specs.Lowered.Standing.{Along}
 use Rattle.law_equations.specs.Meaning.Kinding.{Callees}
-use Rattle.hp_controller.specs.declared.decoding.Control.{Control}
-use Rattle.hp_controller.specs.Controlled.{IsControllable}
 use Rattle.hp_watch.specs.Walk.{is_event, events_from, walk_block}
 use Rattle.hp_watch.specs.Watching.{Observing, surveyed, unwatched, Watched, with_places, walked, IsWatched}
 use Rattle.law_choices.specs.Closed.Clocking.{IsCopy}
 use Rattle.law_choices.specs.Adding.Choosing.{IsOfNode, WatchingLaw, ChoosingLaw}
-use Rattle.law_choices.specs.Adding.Controls.{IsThereAlways, IsAskedFor, HaveControlKinds}
-use Rattle.law_choices.specs.Adding.Keeping.{Keeps}
+use Rattle.law_choices.specs.Adding.Controls.{IsThereAlways, HaveControlKinds}
 use Rattle.law_choices.specs.Adding.Lifts.{HaveBytes, IsOn}
 use Rattle.law_choices.specs.Adding.Surveyed.{AllSuit, IsNoCopy, MayBeSurveyed}
 use Rattle.law_choices.specs.Adding.Watched.{AreBitsOf, HasBits}
-use Rattle.law_choices.specs.Adding.Whole.{IsWhole, MayChoose, WholeLaw}
+use Rattle.law_choices.specs.Adding.Whole.{WholeLaw}
 use Rattle.law_choices.proofs.ClosedLemmas.ClosedLaws.{each_other}
 use Rattle.law_choices.proofs.PlacesLemmas.Relating.{block-goes}
-use Rattle.law_choices.proofs.AddingLemmas.One.{keeps-both, kind-at}
+use Rattle.law_choices.proofs.AddingLemmas.One.{keeps-both}
 use Rattle.law_choices.proofs.AddingLemmas.Bits.{kind_on}
 use Rattle.law_choices.proofs.AddingLemmas.Decoding.{kinds-more}
 use Rattle.law_choices.proofs.AddingLemmas.Surveyed.{surveyed_law}

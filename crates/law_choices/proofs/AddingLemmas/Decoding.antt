@@ -1,12 +1,11 @@
 -- The equations that make the values of control variables.
-use Rattle.std.proofs.Common.{◌≡◌, ◌⊎◌, inl, inr, ℕ, zero, suc, ◌+◌, ◌-◌, ◌<◌, ◌≤◌, Bool, true, false, if◌then◌else◌, nat_lt, get_or, List, [], ◌∷◌, ◌++◌, length, map, Some, None, refl, sym, ap, ap₂, subst, ◌∙◌, arith}
+use Rattle.std.proofs.Common.{◌≡◌, inl, inr, ℕ, zero, suc, ◌+◌, ◌-◌, ◌<◌, ◌≤◌, Bool, true, false, if◌then◌else◌, nat_lt, List, [], ◌∷◌, ◌++◌, length, Some, None, refl, sym, ap, subst, ◌∙◌, arith}
 use Rattle.std.specs.Prelude.{◌==◌}
-use Rattle.std.specs.List.{AllByRecursion, flat_map, range_with_len}
+use Rattle.std.specs.List.{AllByRecursion}
 use Rattle.std.proofs.lemmas.Bool.Decides.{nat_tests}
 use Rattle.std.proofs.lemmas.List.{length-append, append_assoc}
 use Rattle.hp_base.specs.Kinds.{KindData, Bools, Constructors, IsOfKind}
-use Rattle.hp_boolx.specs.Machine.{Machine, IsMachine}
-use Rattle.hp_obc.specs.Form.{result_kind}
+use Rattle.hp_boolx.specs.Machine.{Machine}
 use Rattle.hp_obc.specs.Machines.{ObcType}
 use Rattle.hp_obc.specs.declared.command.ObcOp.TheVariants.{Copy, Mux}
 use Rattle.hp_flat.specs.declared.equation.Atom.{Atom}
@@ -30,7 +29,7 @@ use Rattle.law_choices.specs.Adding.Controls.{always, IsThereAlways, IsAskedFor,
 use Rattle.law_choices.specs.Closed.Clocking.{IsFrontOf}
 use Rattle.law_choices.proofs.ClosedLemmas.ClosedLaws.{each_other}
 use Rattle.law_choices.proofs.AddingLemmas.Adding.{same_kind, both}
-use Rattle.law_choices.proofs.AddingLemmas.Rows.{InRows, rows-behind, IsAlways, rows_based, always_same}
+use Rattle.law_choices.proofs.AddingLemmas.Rows.{InRows, rows-behind, IsAlways, rows_based}
 use Rattle.law_choices.proofs.AddingLemmas.Machine.{kind-behind, total, new, steps_keep}
 
 -- ---- rows

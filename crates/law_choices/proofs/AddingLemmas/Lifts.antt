@@ -1,5 +1,5 @@
 -- Values on the base clock.
-use Rattle.std.proofs.Common.{rules, ◌≡◌, ◌⊎◌, inl, inr, ℕ, zero, suc, ◌+◌, ◌<◌, ◌≤◌, Bool, true, false, ◌&&◌, if◌then◌else◌, nat_eq, nat_lt, min, List, [], ◌∷◌, ◌++◌, length, slice_get, refl, sym, ap, subst, ◌∙◌, arith}
+use Rattle.std.proofs.Common.{rules, ◌≡◌, inr, ℕ, zero, suc, ◌<◌, Bool, true, false, ◌&&◌, if◌then◌else◌, nat_lt, min, List, [], ◌∷◌, ◌++◌, length, slice_get, refl, sym, ap, subst, ◌∙◌, arith}
 use Rattle.std.specs.Prelude.{Contains, ◌==◌}
 use Rattle.std.specs.List.{AllByRecursion, flat_map}
 use Rattle.std.proofs.lemmas.Bool.Decides.{nat_tests}
@@ -20,12 +20,12 @@ use Rattle.law_equations.specs.Meaning.Kinding.{Callees, HasValue, HasArm, HaveK
 use Rattle.law_equations.specs.Meaning.Reactions.{has}
 use Rattle.law_equations.specs.Meaning.Scheduling.{clock_variables, AreBelow}
 use Rattle.law_equations.specs.Meaning.Solving.{IsExclusive}
-use Rattle.hp_watch.specs.Adding.{type_at, some_value, added_variable, with_variable, with_eqn}
+use Rattle.hp_watch.specs.Adding.{type_at, some_value, added_variable, with_variable}
 use Rattle.hp_watch.specs.Lifting.{constructors as count_in, count_of, Valued, case_eqn, with_cases, with_step, lifted}
 use Rattle.law_choices.specs.Adding.Keeping.{IsBased, Keeps}
 use Rattle.law_choices.specs.Adding.Lifts.{HaveBytes, IsOn, CanStand, LiftLaw}
 use Rattle.law_choices.specs.Closed.Closed.{IsTarget}
-use Rattle.law_choices.specs.Closed.Clocking.{IsFrontOf, IsDefinedOn, StepsStand, IsSplit}
+use Rattle.law_choices.specs.Closed.Clocking.{IsFrontOf, StepsStand, IsSplit}
 use Rattle.law_choices.proofs.ClosedLemmas.ClosedLaws.{each_other, first_one}
 use Rattle.law_choices.proofs.AddingLemmas.Adding.{same_kind, both}
 use Rattle.law_choices.proofs.AddingLemmas.One.{Behind, variable-behind, eqn-behind, grows-length, kind-at, value-at, keeps-self, keeps-both, one_more, Defines, one-keeps, one-on}

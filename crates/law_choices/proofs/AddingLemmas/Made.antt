@@ -1,17 +1,16 @@
 -- The clocked equations of a program are well built.
-use Rattle.std.proofs.Common.{◌≡◌, ◌⊎◌, inl, inr, ℕ, ◌<◌, ◌≤◌, Bool, true, false, nat_lt, if◌then◌else◌, List, [], ◌∷◌, length, ap, sym, ◌∙◌, arith}
+use Rattle.std.proofs.Common.{◌≡◌, ◌⊎◌, inl, inr, ℕ, ◌<◌, ◌≤◌, List, [], ◌∷◌, length, ◌∙◌, arith}
 use Rattle.std.specs.Prelude.{All}
 use Rattle.std.specs.List.{AllByRecursion}
-use Rattle.std.proofs.lemmas.Bool.Decides.{nat_tests}
 use Rattle.std.proofs.lemmas.List.Elements.{All-head, All-tail}
 use Rattle.hp_obc.specs.Form.{HasConstructors}
 use Rattle.hp_obc.specs.Machines.{ObcType}
-use Rattle.hp_flat.specs.Equations.{Clock, FlatEqn}
+use Rattle.hp_flat.specs.Equations.{FlatEqn}
 use Rattle.hp_flat.specs.Nodes.{FlatNode}
 use Rattle.law_equations.specs.Fitting.Fitting.{TargetsLaw}
 use Rattle.law_equations.specs.Made.Types.{obc_types}
 use Rattle.law_equations.specs.Meaning.Kinding.{Callees}
-use Rattle.law_equations.specs.Meaning.Scheduling.{AreBelow, EqnWithin, IsWithin}
+use Rattle.law_equations.specs.Meaning.Scheduling.{EqnWithin, IsWithin}
 use Rattle.hp_tree.specs.Meaning.{types_of}
 use Rattle.law_choices.specs.Closed.Clocking.{IsCopy, DefinesOwn, HasOwnClocks}
 use Rattle.law_choices.specs.OnClocks.WellMade.{callees_of}

@@ -1,13 +1,11 @@
 -- One new variable, with the equations that define it.
-use Rattle.std.proofs.Common.{◌≡◌, ◌⊎◌, inl, inr, ℕ, zero, suc, ◌+◌, ◌<◌, ◌≤◌, Bool, true, false, if◌then◌else◌, nat_eq, nat_lt, List, [], ◌∷◌, ◌++◌, length, map, slice_get, Option, Some, None, refl, sym, ap, ap₂, subst, ◌∙◌, arith}
-use Rattle.std.specs.Prelude.{Contains}
+use Rattle.std.proofs.Common.{◌≡◌, ◌⊎◌, inl, inr, ℕ, zero, suc, ◌+◌, ◌<◌, ◌≤◌, true, false, if◌then◌else◌, nat_eq, nat_lt, List, [], ◌∷◌, ◌++◌, length, map, slice_get, refl, sym, ap, subst, ◌∙◌, arith}
 use Rattle.std.specs.List.{AllByRecursion, IsDistinct}
 use Rattle.std.proofs.lemmas.Bool.Decides.{nat_tests}
 use Rattle.std.proofs.lemmas.List.{append_assoc, append-nil, length-append}
 use Rattle.hp_base.specs.Kinds.{KindData, Bools}
 use Rattle.hp_obc.specs.Machines.{ObcType}
 use Rattle.hp_flat.specs.declared.node.FlatTy.{FlatTy}
-use Rattle.hp_flat.specs.declared.node.FlatTy.TheVariants.{Int as FlatInt}
 use Rattle.hp_flat.specs.declared.node.Variable.{Variable}
 use Rattle.hp_flat.specs.Equations.{Clock, FlatEqn}
 use Rattle.hp_flat.specs.Nodes.{FlatNode}
@@ -23,7 +21,7 @@ use Rattle.law_choices.specs.Adding.Keeping.{IsBased, Keeps}
 use Rattle.law_choices.specs.Adding.Lifts.{IsOn}
 use Rattle.law_choices.specs.Closed.Closed.{IsTarget}
 use Rattle.law_choices.specs.Closed.Clocking.{IsFrontOf, IsDefinedOn, StepsStand, IsSplit}
-use Rattle.law_choices.proofs.AddingLemmas.Adding.{same_kind, right_kinds, clock_kinds, both}
+use Rattle.law_choices.proofs.AddingLemmas.Adding.{right_kinds, clock_kinds, both}
 use Rattle.law_choices.proofs.AddingLemmas.Steps.{IsStep, stepped, higher}
 use Rattle.law_choices.proofs.ClosedLemmas.ClosedLaws.{each_other, each_both}
 

@@ -1,5 +1,5 @@
 -- Observers in a node.
-use Rattle.std.proofs.Common.{◌≡◌, ◌⊎◌, inl, inr, ℕ, zero, suc, ◌+◌, ◌<◌, ◌≤◌, Bool, true, false, if◌then◌else◌, nat_lt, List, [], ◌∷◌, ◌++◌, length, map, slice_get, Option, None, Some, refl, sym, ap, subst, ◌∙◌, arith}
+use Rattle.std.proofs.Common.{◌≡◌, ◌⊎◌, inl, inr, ℕ, zero, suc, ◌<◌, ◌≤◌, Bool, true, false, if◌then◌else◌, nat_lt, List, [], ◌∷◌, ◌++◌, length, map, slice_get, Option, None, Some, refl, sym, ap, subst, ◌∙◌, arith}
 use Rattle.std.specs.List.{AllByRecursion, flat_map, range_with_len}
 use Rattle.std.proofs.lemmas.Bool.Decides.{nat_tests}
 use Rattle.std.proofs.lemmas.List.{append-nil, length-append}
@@ -7,19 +7,18 @@ use Rattle.hp_base.specs.Kinds.{KindData, Bools}
 use Rattle.hp_obc.specs.Machines.{ObcType}
 use Rattle.hp_flat.specs.declared.equation.Atom.{Atom}
 use Rattle.hp_flat.specs.declared.equation.Atom.TheVariants.{Variable as Read, Value as Fixed}
-use Rattle.hp_flat.specs.declared.node.FlatTy.{FlatTy}
 use Rattle.hp_flat.specs.declared.node.Variable.{Variable}
 use Rattle.hp_flat.specs.Equations.{Clock, Right, operator, register, called, FlatEqn}
 use Rattle.hp_flat.specs.Nodes.{FlatNode}
 use Rattle.law_equations.specs.Meaning.Fitting.{atom_variables, operands}
 use Rattle.law_equations.specs.Meaning.Kinding.{Callees, HaveKinds, RightHasKinds, EqnKinds, kinds_at, variable_kind}
 use Rattle.law_equations.specs.Meaning.Reactions.{inputs_of}
-use Rattle.law_equations.specs.Meaning.Scheduling.{clock_variables, AreBelow, EqnWithin}
+use Rattle.law_equations.specs.Meaning.Scheduling.{AreBelow, EqnWithin}
 use Rattle.hp_watch.specs.declared.embedding.Shift.{Shift}
 use Rattle.hp_watch.specs.declared.watching.Free.{Free}
 use Rattle.hp_watch.specs.Adding.{type_at}
 use Rattle.hp_watch.specs.Embedding.{Site, embedded, shift_of}
-use Rattle.hp_watch.specs.Watching.{is_integer, compares_integers, free_target, free_by, free_input, free_inputs, Observed, Observing, moved_free, reads, own_site, args_of, site_of, called_by, Placed, with_observer, with_called, with_called_at, placed, or_none, shift_at, free_moved, free_placed_by, free_placed, clock_by, clock_of, surveyed}
+use Rattle.hp_watch.specs.Watching.{is_integer, compares_integers, free_target, free_by, free_input, free_inputs, Observed, Observing, moved_free, reads, own_site, args_of, site_of, called_by, Placed, with_observer, with_called, placed, or_none, shift_at, free_moved, free_placed_by, free_placed, clock_by, clock_of, surveyed}
 use Rattle.law_choices.specs.Adding.Adding.{IsWellBuilt}
 use Rattle.law_choices.specs.Adding.Embeds.{FitsSite}
 use Rattle.law_choices.specs.Adding.Keeping.{IsBased, Keeps}

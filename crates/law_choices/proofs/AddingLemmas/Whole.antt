@@ -1,38 +1,32 @@
 -- The node that chooses.
-use Rattle.std.proofs.Common.{◌≡◌, ◌⊎◌, inl, inr, ℕ, zero, suc, ◌+◌, ◌-◌, ◌<◌, ◌≤◌, Bool, true, false, ◌&&◌, ◌||◌, List, [], ◌∷◌, ◌++◌, length, refl, sym, ap, subst, ◌∙◌, arith}
+use Rattle.std.proofs.Common.{◌≡◌, ◌⊎◌, inl, inr, ℕ, ◌+◌, ◌<◌, ◌≤◌, true, List, [], ◌++◌, length, refl, sym, ap, subst, ◌∙◌, arith}
 use Rattle.std.specs.List.{AllByRecursion, range_with_len}
-use Rattle.std.proofs.lemmas.List.{append_assoc, append-nil, length-append}
+use Rattle.std.proofs.lemmas.List.{append_assoc, length-append}
 use Rattle.hp_base.specs.Kinds.{Bools}
 use Rattle.hp_boolx.specs.Machine.{Machine}
 use Rattle.hp_obc.specs.Machines.{ObcType}
-use Rattle.hp_obc.specs.declared.command.ObcOp.TheVariants.{Copy}
-use Rattle.hp_flat.specs.declared.equation.Atom.TheVariants.{Variable as Read}
 use Rattle.hp_flat.specs.declared.node.FlatTy.{FlatTy}
 use Rattle.hp_flat.specs.declared.node.FlatTy.TheVariants.{Bool as Truth, Int, Enum}
-use Rattle.hp_flat.specs.declared.node.Variable.{Variable}
 use Rattle.hp_flat.specs.Equations.{Clock, FlatEqn}
 use Rattle.hp_flat.specs.Nodes.{FlatNode}
-use Rattle.law_equations.specs.Meaning.Instants.{Instant, holds}
 use Rattle.law_equations.specs.Meaning.Kinding.{Callees, IsWellMade, kind_of_type}
-use Rattle.law_equations.specs.Meaning.Reactions.{Answers, has, is_set}
-use Rattle.law_equations.specs.Meaning.Scheduling.{AreBelow, EqnWithin, IsRanked}
+use Rattle.law_equations.specs.Meaning.Reactions.{Answers, is_set}
 use Rattle.hp_controller.specs.declared.decoding.Control.{Control}
-use Rattle.hp_controller.specs.Controlled.{placing_of, bits_added, bit_variables, decoded_controls, controlled, IsControllable}
+use Rattle.hp_controller.specs.Controlled.{placing_of, bit_variables, decoded_controls, controlled, IsControllable}
 use Rattle.hp_controller.specs.Extending.{Extends}
 use Rattle.hp_controller.specs.Steps.{step_eqns}
 use Rattle.hp_watch.specs.Adding.{type_at, next_variable, with_copy}
-use Rattle.law_choices.specs.Answered.Loops.{Loop, IsLoop, IsClosed, SameOutputs, ExtendedLoopLaw, ThenLaw, ControlledLoopLaw}
+use Rattle.law_choices.specs.Answered.Loops.{IsLoop, IsClosed, SameOutputs, ExtendedLoopLaw, ThenLaw, ControlledLoopLaw}
 use Rattle.law_choices.specs.Adding.Controls.{with_steps}
 use Rattle.law_choices.specs.Adding.Keeping.{IsBased, Keeps}
 use Rattle.law_choices.specs.Adding.Laws.{OrderedLaw}
 use Rattle.law_choices.specs.Adding.Lifts.{IsOn}
-use Rattle.law_choices.specs.Adding.Placed.{IsPlaced}
 use Rattle.law_choices.specs.Adding.Whole.{IsBit, IsWhole, MayChoose, WholeLaw}
 use Rattle.law_choices.proofs.ClosedLemmas.ClosedLaws.{each_other}
 use Rattle.law_choices.proofs.AnsweredLemmas.ControlledLoops.{set_front}
 use Rattle.law_choices.proofs.AddingLemmas.Adding.{both}
-use Rattle.law_choices.proofs.AddingLemmas.One.{kind-at, keeps-both, on-kept, grows-length}
-use Rattle.law_choices.proofs.AddingLemmas.Rows.{Between, between, rows_grow}
+use Rattle.law_choices.proofs.AddingLemmas.One.{kind-at, keeps-both, on-kept}
+use Rattle.law_choices.proofs.AddingLemmas.Rows.{Between, between}
 use Rattle.law_choices.proofs.AddingLemmas.Bits.{copy_law}
 use Rattle.law_choices.proofs.AddingLemmas.Machine.{rows as step_rows}
 use Rattle.law_choices.proofs.AddingLemmas.Decoding.{stays, bit_there, middle_total, rows as decoded_rows}

@@ -1,14 +1,13 @@
 -- A variable that is lifted, and a node that chooses.
-use Rattle.std.proofs.Common.{◌≡◌, inl, inr, ℕ, zero, suc, ◌<◌, Bool, true, false, List, [], ◌∷◌, length, Some, refl, sym, subst, arith}
+use Rattle.std.proofs.Common.{◌≡◌, inl, inr, ℕ, zero, suc, ◌<◌, true, false, List, [], ◌∷◌, Some, refl, sym, subst, arith}
 use Rattle.std.specs.Prelude.{codes}
-use Rattle.std.specs.List.{AllByRecursion, IsDistinct}
+use Rattle.std.specs.List.{IsDistinct}
 use Rattle.std.proofs.lemmas.List.Elements.{All-contains, All-from_recursion}
 use Rattle.hp_base.specs.Kinds.{Bools}
 use Rattle.hp_boolx.specs.Machine.{IsMachine}
-use Rattle.hp_flat.specs.Equations.{Clock, FlatEqn}
-use Rattle.law_equations.specs.Meaning.Instants.{Instant, holds}
+use Rattle.hp_flat.specs.Equations.{FlatEqn}
+use Rattle.law_equations.specs.Meaning.Instants.{Instant}
 use Rattle.law_equations.specs.Meaning.Kinding.{Callees, EqnKinds}
-use Rattle.law_equations.specs.Meaning.Reactions.{has}
 use Rattle.law_equations.specs.Meaning.Scheduling.{EqnWithin}
 use Rattle.law_equations.specs.Meaning.Solving.{IsExclusive, TargetsDiffer}
 use Rattle.hp_watch.specs.Watching.{surveyed, Watched, watched_by, IsWatched}

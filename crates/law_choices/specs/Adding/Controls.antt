@@ -15,7 +15,7 @@ use Rattle.hp_controller.specs.declared.decoding.ControlKind.TheVariants.{Truth,
 use Rattle.hp_controller.specs.Controlled.{placing_of, bit_variables, controlled, IsControllable}
 use Rattle.hp_controller.specs.Steps.{step_eqns}
 use Rattle.law_choices.specs.Closed.Clocking.{IsFrontOf}
-use Rattle.law_choices.specs.Adding.Keeping.{IsBased, Keeps, Stays}
+use Rattle.law_choices.specs.Adding.Keeping.{IsBased, Stays}
 
 -- the clocks of a node's variables, and the base clock for all others
 abbrev pub always : FlatNode → (ℕ → Clock) → ℕ → Clock

@@ -1,6 +1,6 @@
 -- A node whose output is its control variable, and a machine that permits it both values.
 -- Source: own.
-use Rattle.std.specs.Prelude.{codes, ℕ, true, List, [], ◌∷◌, None, Some}
+use Rattle.std.specs.Prelude.{codes, true, List, [], ◌∷◌, None, Some}
 use Rattle.hp_base.specs.Kinds.{Bools}
 use Rattle.hp_base.specs.declared.span.Span.{Span}
 use Rattle.hp_boolx.specs.declared.gate.Gate.TheVariants.{Const}
