@@ -1,3 +1,15 @@
 pub mod Adding
 pub mod Laws
 pub mod Base
+pub mod Keeping
+pub mod Lifts
+pub mod Controls
+pub mod Placed
+pub mod Worked
+pub mod Embeds
+pub mod Watched
+pub mod Whole
+pub mod Surveyed
+pub mod Choosing
+pub mod Called
+pub mod Made

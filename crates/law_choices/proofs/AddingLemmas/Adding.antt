@@ -1,13 +1,12 @@
 -- Equations that are added keep what a well-made node has.
-use Rattle.std.proofs.Common.{◌≡◌, ◌⊎◌, inl, inr, ℕ, zero, suc, ◌+◌, ◌<◌, ◌≤◌, Bool, true, false, ◌||◌, ◌&&◌, nat_eq, nat_lt, get_or, length, List, [], ◌∷◌, ◌++◌, map, Some, refl, sym, ap, ap₂, subst, ◌∙◌, arith}
+use Rattle.std.proofs.Common.{◌≡◌, ◌⊎◌, inl, inr, ℕ, zero, suc, ◌<◌, ◌≤◌, Bool, true, false, ◌||◌, nat_eq, nat_lt, get_or, length, List, [], ◌∷◌, ◌++◌, map, refl, sym, ap, ap₂, subst, ◌∙◌, arith}
 use Rattle.std.specs.Prelude.{Contains}
 use Rattle.std.specs.List.{AllByRecursion, IsDistinct, flat_map}
 use Rattle.std.proofs.lemmas.List.{length-append}
 use Rattle.std.proofs.lemmas.Bool.Decides.{nat_tests}
 use Rattle.std.proofs.lemmas.List.Elements.{All-contains, All-from_recursion, Contains-append_left, Contains-append_right, Contains-append_cases}
-use Rattle.hp_base.specs.Kinds.{KindData, Bools, Ints, Constructors}
+use Rattle.hp_base.specs.Kinds.{KindData, Bools}
 use Rattle.hp_obc.specs.Machines.{ObcType}
-use Rattle.hp_obc.specs.Form.{result_kind}
 use Rattle.hp_flat.specs.declared.equation.Atom.{Atom}
 use Rattle.hp_flat.specs.declared.equation.Atom.TheVariants.{Variable as Named, Value as Fixed}
 use Rattle.hp_flat.specs.declared.node.FlatTy.TheVariants.{Int as FlatInt}
@@ -16,20 +15,19 @@ use Rattle.hp_flat.specs.Equations.{Clock, Right, operator, register, called, Fl
 use Rattle.hp_flat.specs.Nodes.{FlatNode}
 use Rattle.law_equations.specs.Meaning.Fitting.{atom_variables, operands}
 use Rattle.law_equations.specs.Meaning.Instants.{Instant, holds}
-use Rattle.law_equations.specs.Meaning.Kinding.{Callees, HasArm, HasValue, IsTyped, variable_kind, kind_of_type, AtomHasKind, HaveKinds, RightHasKinds, EqnKinds, IsWellMade}
+use Rattle.law_equations.specs.Meaning.Kinding.{Callees, HasArm, HasValue, variable_kind, kind_of_type, AtomHasKind, HaveKinds, RightHasKinds, EqnKinds}
 use Rattle.law_equations.specs.Meaning.Reactions.{has}
-use Rattle.law_equations.specs.Meaning.Scheduling.{clock_variables, AreBelow, EqnWithin, IsWithin, DefinesNoInput, IsRanked}
-use Rattle.law_equations.specs.Meaning.Solving.{NoOther, IsExclusive, TargetsDiffer}
-use Rattle.law_choices.specs.Closed.Closed.{IsTarget, IsGiven, variables_in, IsClosed}
+use Rattle.law_equations.specs.Meaning.Scheduling.{clock_variables, AreBelow, EqnWithin, IsWithin}
+use Rattle.law_equations.specs.Meaning.Solving.{NoOther, IsExclusive}
+use Rattle.law_choices.specs.Closed.Closed.{IsTarget, IsGiven, variables_in}
 use Rattle.law_choices.specs.Closed.Clocking.{IsFrontOf, IsDefinedOn, StepsStand, IsSplit, AreClocks}
-use Rattle.law_choices.specs.Closed.Exclusive.{IsAlwaysExclusive}
 use Rattle.law_choices.specs.Adding.Adding.{IsWellBuilt, IsNewIn, ClocksAgree, Adds}
 use Rattle.law_choices.specs.Adding.Laws.{BuiltLaw, AddingLaw, OrderedLaw}
 use Rattle.law_choices.proofs.ClosedLemmas.Clocking.{fit_law}
 
 -- ---- lists
 
-both : {A : Type 0} (P : A → Type 0) (xs ys : List A) → AllByRecursion P xs → AllByRecursion P ys → AllByRecursion P (xs ++ ys)
+pub both : {A : Type 0} (P : A → Type 0) (xs ys : List A) → AllByRecursion P xs → AllByRecursion P ys → AllByRecursion P (xs ++ ys)
 both P [] ys h k = k
 both P (x ∷ xs) ys h k = (h.0, both P xs ys h.1 k)
 
@@ -54,7 +52,7 @@ get-beyond (v ∷ xs) (suc x) d h = get-beyond xs x d (omega (arith, h))
 -- ---- kinds
 
 module _ (types : List ObcType) (callees : Callees) (vs added : List Variable) where
-  same_kind : (x : ℕ) → x < length vs → variable_kind types (vs ++ added) x ≡ variable_kind types vs x
+  pub same_kind : (x : ℕ) → x < length vs → variable_kind types (vs ++ added) x ≡ variable_kind types vs x
   same_kind x h = ap (λ (v : Variable). kind_of_type types v.ty) (get-front vs added x (record { name = []; ty = FlatInt }) h)
 
   -- what has an arm is a variable
@@ -71,7 +69,7 @@ module _ (types : List ObcType) (callees : Callees) (vs added : List Variable) w
       by true e = below e
       by false e = absurd (subst (λ (v : Variable). HasArm (kind_of_type types v.ty) c) (get-beyond vs x (record { name = []; ty = FlatInt }) (above e)) h)
 
-  atom_kind : (a : Atom) (k : KindData) → AreBelow (length vs) (atom_variables a) → AtomHasKind types callees vs a k → AtomHasKind types callees (vs ++ added) a k
+  pub atom_kind : (a : Atom) (k : KindData) → AreBelow (length vs) (atom_variables a) → AtomHasKind types callees vs a k → AtomHasKind types callees (vs ++ added) a k
   atom_kind (Named x) k w h = same_kind x w.0 ∙ h
   atom_kind (Fixed v) k w h = h
 
@@ -79,7 +77,7 @@ module _ (types : List ObcType) (callees : Callees) (vs added : List Variable) w
   first_below (Named x) rest w = ((w.0, tt), w.1)
   first_below (Fixed v) rest w = (tt, w)
 
-  args_kinds : (args : List Atom) (ks : List KindData) → AreBelow (length vs) (flat_map atom_variables args) → HaveKinds types callees vs args ks → HaveKinds types callees (vs ++ added) args ks
+  pub args_kinds : (args : List Atom) (ks : List KindData) → AreBelow (length vs) (flat_map atom_variables args) → HaveKinds types callees vs args ks → HaveKinds types callees (vs ++ added) args ks
   args_kinds [] [] w h = tt
   args_kinds [] (k ∷ ks) w h = absurd h
   args_kinds (a ∷ args) [] w h = absurd h
@@ -87,7 +85,7 @@ module _ (types : List ObcType) (callees : Callees) (vs added : List Variable) w
       let p = first_below a (flat_map atom_variables args) w in
       (atom_kind a k p.0 h.0, args_kinds args ks p.1 h.1)
 
-  right_kinds : (right : Right) (ks : List KindData) → AreBelow (length vs) (operands right) → RightHasKinds types callees vs right ks → RightHasKinds types callees (vs ++ added) right ks
+  pub right_kinds : (right : Right) (ks : List KindData) → AreBelow (length vs) (operands right) → RightHasKinds types callees vs right ks → RightHasKinds types callees (vs ++ added) right ks
   right_kinds (operator op args) ks w h = (h.0, args_kinds args h.0 w h.1, h.2, h.3, h.4)
   right_kinds (register first next) ks w h = (h.0, h.1, atom_kind next h.0 w h.2, h.3)
   right_kinds (called f args) ks w h = (args_kinds args (callees.takes f) w h.0, h.1)
@@ -96,12 +94,12 @@ module _ (types : List ObcType) (callees : Callees) (vs added : List Variable) w
   targets_kinds [] w = refl
   targets_kinds (x ∷ xs) w = ap₂ (λ k ks. k ∷ ks) (same_kind x w.0) (targets_kinds xs w.1)
 
-  clock_kinds : (clock : Clock) → AreBelow (length vs) (clock_variables clock) → AllByRecursion (λ (on : ℕ × ℕ). HasArm (variable_kind types vs on.0) on.1) clock
+  pub clock_kinds : (clock : Clock) → AreBelow (length vs) (clock_variables clock) → AllByRecursion (λ (on : ℕ × ℕ). HasArm (variable_kind types vs on.0) on.1) clock
       → AllByRecursion (λ (on : ℕ × ℕ). HasArm (variable_kind types (vs ++ added) on.0) on.1) clock
   clock_kinds [] w h = tt
   clock_kinds (on ∷ clock) w h = (subst (λ k. HasArm k on.1) (sym (same_kind on.0 w.0)) h.0, clock_kinds clock w.1 h.1)
 
-  restart_kinds : (xs : List ℕ) → AreBelow (length vs) xs → AllByRecursion (λ x. variable_kind types vs x ≡ Bools) xs → AllByRecursion (λ x. variable_kind types (vs ++ added) x ≡ Bools) xs
+  pub restart_kinds : (xs : List ℕ) → AreBelow (length vs) xs → AllByRecursion (λ x. variable_kind types vs x ≡ Bools) xs → AllByRecursion (λ x. variable_kind types (vs ++ added) x ≡ Bools) xs
   restart_kinds [] w h = tt
   restart_kinds (x ∷ xs) w h = (same_kind x w.0 ∙ h.0, restart_kinds xs w.1 h.1)
 

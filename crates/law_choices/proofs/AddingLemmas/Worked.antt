@@ -1,5 +1,5 @@
 -- A copy that is added to a node.
-use Rattle.std.proofs.Common.{◌≡◌, ◌⊎◌, inl, inr, ℕ, ◌<◌, ◌≤◌, nat_eq, [], ◌∷◌, ◌++◌, refl, sym, subst, arith}
+use Rattle.std.proofs.Common.{◌≡◌, inl, inr, ℕ, nat_eq, [], ◌∷◌, refl, sym, subst, arith}
 use Rattle.std.specs.Prelude.{Contains}
 use Rattle.std.specs.List.{IsDistinct}
 use Rattle.std.proofs.lemmas.List.Elements.{All-contains, All-from_recursion, Contains-append_right}
@@ -8,7 +8,7 @@ use Rattle.hp_flat.specs.Equations.{FlatEqn}
 use Rattle.law_equations.specs.Meaning.Kinding.{Callees}
 use Rattle.law_choices.specs.Closed.Closed.{IsTarget}
 use Rattle.law_choices.specs.Closed.Clocking.{IsDefinedOn, by_cases}
-use Rattle.law_choices.specs.Adding.Adding.{IsNewIn, ClocksAgree, Adds}
+use Rattle.law_choices.specs.Adding.Adding.{IsNewIn, Adds}
 use Rattle.law_choices.specs.Adding.Laws.{copied, with_copy, SomeAddingLaw}
 use Rattle.law_choices.proofs.ClosedLemmas.ClosedLaws.{first_one}
 

@@ -23,7 +23,7 @@ true_right true = refl
 true_right false = refl
 
 -- what is set stays so where equations are added
-set_front : (es fs : List FlatEqn) (now : Instant) (x : ℕ) → is_set es now x ≡ true → is_set (es ++ fs) now x ≡ true
+pub set_front : (es fs : List FlatEqn) (now : Instant) (x : ℕ) → is_set es now x ≡ true → is_set (es ++ fs) now x ≡ true
 set_front [] fs now x h = absurd cc
 set_front (e ∷ es) fs now x h = by (holds e.clock now && has e.targets x) h (λ g. set_front es fs now x g)
   where

@@ -3,14 +3,13 @@ use Rattle.std.proofs.Common.{◌≡◌, ℕ, ◌≤◌, List, [], ◌∷◌, �
 use Rattle.std.specs.List.{AllByRecursion}
 use Rattle.std.proofs.lemmas.List.{map-append}
 use Rattle.hp_base.specs.Kinds.{KindData, AreOfKinds}
-use Rattle.hp_base.specs.declared.value.Value.{Value}
 use Rattle.hp_obc.specs.Form.{TypesForm}
 use Rattle.hp_obc.specs.Machines.{ObcType}
 use Rattle.hp_tree.specs.declared.program.Item.{Item}
 use Rattle.hp_tree.specs.declared.program.Item.TheVariants.{TypeItem, NodeItem}
 use Rattle.hp_tree.specs.Blocks.{Decl}
-use Rattle.hp_tree.specs.Programs.{TypeDecl, Node}
-use Rattle.hp_tree.specs.Meaning.{types_of, controls_of, node_among}
+use Rattle.hp_tree.specs.Programs.{Node}
+use Rattle.hp_tree.specs.Meaning.{types_of, controls_of}
 use Rattle.law_judged.specs.Named.Scoped.{EachNode}
 use Rattle.law_values.specs.Accepted.Laws.{IsReady}
 use Rattle.law_values.proofs.AcceptedLemmas.Assembled.{types_replaced, types_clocked}
@@ -23,9 +22,9 @@ use Rattle.law_automata.proofs.LowerableLemmas.Runs.{lowered_there}
 use Rattle.law_automata.proofs.LowerableLemmas.Texts.{clocked_of, each_reverse}
 use Rattle.hp_flat.specs.Nodes.{FlatNode}
 use Rattle.law_equations.specs.Fitting.Fitting.{CallsLaw, TargetsLaw}
-use Rattle.law_equations.specs.Meaning.Kinding.{OneReactionLaw, kind_of_type, kinds_at}
+use Rattle.law_equations.specs.Meaning.Kinding.{kind_of_type}
 use Rattle.law_equations.specs.Meaning.Reactions.{Answers, inputs_of}
-use Rattle.law_equations.specs.Made.Making.{Known, flat_type, outputs_of}
+use Rattle.law_equations.specs.Made.Making.{Known, flat_type}
 use Rattle.law_equations.specs.Made.Types.{obc_types, obc_types_of}
 use Rattle.hp_complete.specs.Declaring.{known_of}
 use Rattle.hp_complete.specs.Made.{AreMadeOf}
@@ -37,14 +36,13 @@ use Rattle.law_wellmade.proofs.TimelyLemmas.KindLaws.{are_of}
 use Rattle.law_wellmade.specs.Regular.Kinds.{kinds_of_decls}
 use Rattle.law_history.proofs.StreamsLemmas.NamesApart.{name_found, each_found}
 use Rattle.law_choices.specs.OnClocks.Meaning.{AnswersAlike, HasSome}
-use Rattle.law_choices.specs.OnClocks.WellMade.{given_to, calls_of, callees_of}
+use Rattle.law_choices.specs.OnClocks.WellMade.{given_to, callees_of}
 use Rattle.law_choices.proofs.OnClocksLemmas.ArmNumbers.{AreFew}
 use Rattle.law_choices.proofs.OnClocksLemmas.Meanings.{kinds_some}
 use Rattle.law_choices.proofs.OnClocksLemmas.OneMeaning.{AreTurned, ready_nodes}
 use Rattle.law_choices.proofs.OnClocksLemmas.Programs.{few_of, some_of, number_of, types_low, names_of_types}
 use Rattle.law_choices.proofs.OnClocksLemmas.Texts.{when_accepted}
 use Rattle.law_choices.specs.Choosing.Choices.{Choices}
-use Rattle.law_choices.specs.Choosing.Meaning.{AreInTurn}
 use Rattle.law_choices.specs.Choosing.Programs.{steered_by, controls_in, AreChoices, ReadyLaw}
 use Rattle.law_choices.specs.Runs.Laws.{ChoosesValues}
 use Rattle.law_choices.specs.Streams.Alike.{AlikeLaw}
@@ -53,7 +51,7 @@ use Rattle.law_choices.proofs.StreamsLemmas.Signatures.{controls_lowered}
 use Rattle.law_choices.proofs.StreamsLemmas.Streams.{alike_answers, in_turn}
 use Rattle.law_choices.proofs.StreamsLemmas.TypeKinds.{kinds_same}
 use Rattle.law_choices.specs.Answered.Loops.{plants, LoopsLaw}
-use Rattle.law_choices.specs.Answered.Programs.{AreAllowed, AlwaysOfKinds, AllowedLaw, ClosedProgramLaw, ClosedTextLaw}
+use Rattle.law_choices.specs.Answered.Programs.{AlwaysOfKinds, AllowedLaw, ClosedProgramLaw, ClosedTextLaw}
 
 -- ---- what is known of the nodes of a ready program
 

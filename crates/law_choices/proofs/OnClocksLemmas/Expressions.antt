@@ -29,10 +29,10 @@ use Rattle.law_equations.specs.Flattened.Flatten.{obc_one, obc_two, constant_in}
 use Rattle.law_equations.specs.Made.Making.{Known, Sketch, Site, Sight, Made, next, new_name, with_new, register_at, mux_at, type_at, copy_of, type_one, type_two, flat_type, first_value, constant_value, type_of_value, cons_number, outputs_of, numbers_from, flag_at, by_constant, fby_at, arrow_at, on_site, off_site, tested, merged_variable, part_at, or_new, first_output, with_outputs, called_at, sketch_expr, sketch_parts, sketch_exprs}
 use Rattle.law_wellmade.proofs.BegunLemmas.Keeping.{HasType, moved}
 use Rattle.law_wellmade.proofs.RegularLemmas.Good.{IsSeen, seen_moved}
-use Rattle.law_choices.specs.Closed.Clocking.{IsFrontOf, StepsStand, IsSplit}
+use Rattle.law_choices.specs.Closed.Clocking.{IsFrontOf, StepsStand, IsSplit, IsCopy}
 use Rattle.law_choices.proofs.ClosedLemmas.Filling.{has_one}
 use Rattle.law_choices.proofs.ClosedLemmas.Expressions.{has_type}
-use Rattle.law_choices.proofs.OnClocksLemmas.Steps.{front_itself, front_further, DefinedOn, defined_last, Grows, both_grow, Within, Step, then_step, weaker, no_step, Reads, eqn_step, variable_step, value_step, Gives, read_step, OwnSite, flag_step}
+use Rattle.law_choices.proofs.OnClocksLemmas.Steps.{front_itself, front_further, DefinedOn, defined_last, Grows, both_grow, Within, Step, then_step, weaker, no_step, Reads, eqn_step, variable_step, value_step, Gives, read_step, OwnSite, flag_step, copied}
 use Rattle.law_choices.proofs.OnClocksLemmas.Sites.{off_stands, stand_more, resolved, Stood, own_site, on_stood, off_stood, off_front, SeesTimed}
 use Rattle.law_choices.proofs.OnClocksLemmas.Arms.{ArmFacts, same_number, split_by}
 
@@ -103,9 +103,9 @@ module _ (types : List ObcType) (n : FlatNode) (b : Clock) where
         (variable_step types n b c (new_name o.name (next d)) t d) (outputs_step c os e) (λ g w h r. tt)
         (λ g w h r s. (r, subst (λ m. OnClock c (numbers_from m os) g) long s))
 
-    on_targets : (c : Clock) (xs : List ℕ) (g : ℕ → Clock) → OnClock c xs g → AllByRecursion (λ x. (g x ≡ c) ⊎ IsSplit n types g x) xs
-    on_targets c [] g h = tt
-    on_targets c (x ∷ xs) g h = (inl h.0, on_targets c xs g h.1)
+    on_targets : (Q : ℕ → Type 0) (c : Clock) (xs : List ℕ) (g : ℕ → Clock) → OnClock c xs g → AllByRecursion (λ x. (g x ≡ c) ⊎ Q x) xs
+    on_targets Q c [] g h = tt
+    on_targets Q c (x ∷ xs) g h = (inl h.0, on_targets Q c xs g h.1)
 
     abbrev pub Given : Site → List Atom → (ℕ → Clock) → Type 0
     Given at args g = AllByRecursion (λ x. IsFrontOf (g x) at.clock) (flat_map atom_variables args)
@@ -115,10 +115,10 @@ module _ (types : List ObcType) (n : FlatNode) (b : Clock) where
         let e = with_outputs k os d in
         let made = OnClock at.clock (numbers_from (next d) os) in
         then_step types n b d e (called_at k at f args os d).0 (λ g. Stands at g × Given at args g) made
-        (λ g. Reads types n at (called f args) g × AllByRecursion (λ x. (g x ≡ at.clock) ⊎ IsSplit n types g x) (numbers_from (next d) os)) (λ g. ⊤) made
+        (λ g. Reads types n at (called f args) g × AllByRecursion (λ x. (g x ≡ at.clock) ⊎ (IsSplit n types g x × IsCopy (called f args))) (numbers_from (next d) os)) (λ g. ⊤) made
         (weaker types n b d e (λ g. ⊤) made (λ g. Stands at g × Given at args g) made (outputs_step at.clock os d) (λ g w h. tt) (λ g w h r. r))
         (eqn_step types n b at (numbers_from (next d) os) (called f args) e)
-        (λ g w h r. (h, on_targets at.clock (numbers_from (next d) os) g r))
+        (λ g w h r. (h, on_targets (λ x. IsSplit n types g x × IsCopy (called f args)) at.clock (numbers_from (next d) os) g r))
         (λ g w h r s. r)
 
     first_step : (at : Site) (os : List Decl) (m : Made) → Step types n b m.0 (first_output at os m).0 (λ g. Stands at g × OnClock at.clock (numbers_from m.1 os) g) (There at (first_output at os m).1)
@@ -162,9 +162,9 @@ module _ (types : List ObcType) (n : FlatNode) (k : Known) (decls : List TypeDec
 
   part_step : (on : Site) (x : ℕ) (m : Made) → Step types n b m.0 (part_at on (Some x) m).0 (λ g. StepsStand n types g [] on.clock × (Here on m.1 g × ((g x ≡ on.clock) ⊎ IsSplit n types g x))) (λ g. ⊤)
   part_step on x m =
-      weaker types n b m.0 (part_at on (Some x) m).0 (λ g. Reads types n on (copy_of (Variable m.1)) g × AllByRecursion (λ y. (g y ≡ on.clock) ⊎ IsSplit n types g y) (x ∷ [])) (λ g. ⊤)
+      weaker types n b m.0 (part_at on (Some x) m).0 (λ g. Reads types n on (copy_of (Variable m.1)) g × AllByRecursion (λ y. (g y ≡ on.clock) ⊎ (IsSplit n types g y × IsCopy (copy_of (Variable m.1)))) (x ∷ [])) (λ g. ⊤)
       (λ g. StepsStand n types g [] on.clock × (Here on m.1 g × ((g x ≡ on.clock) ⊎ IsSplit n types g x))) (λ g. ⊤)
-      (eqn_step types n b on (x ∷ []) (copy_of (Variable m.1)) m.0) (λ g w h. ((h.0, (h.1.0, tt)), (h.1.1, tt))) (λ g w h r. tt)
+      (eqn_step types n b on (x ∷ []) (copy_of (Variable m.1)) m.0) (λ g w h. ((h.0, (h.1.0, tt)), (copied types n on.clock (Variable m.1) x g h.1.1, tt))) (λ g w h r. tt)
 
   parts_same : (ps : Parts) (at : Site) (t x : ℕ) (d : Sketch) → (sketch_parts k see at t (Some x) ps d).1 ≡ Some x
   parts_same no_part at t x d = refl

@@ -18,7 +18,7 @@ use Rattle.law_equations.specs.Made.Laws.{unplaced}
 use Rattle.law_equations.specs.Made.Making.{Known, next, nothing_made, signature, sketch_node}
 use Rattle.hp_complete.specs.Made.{IsMadeOf}
 use Rattle.law_choices.specs.Closed.Closed.{IsTarget}
-use Rattle.law_choices.specs.Closed.Clocking.{IsFrontOf, IsDefinedOn, StepsStand, IsSplit, AreClocks, HasClocks}
+use Rattle.law_choices.specs.Closed.Clocking.{IsFrontOf, IsDefinedOn, StepsStand, IsSplit, AreClocks, IsCopy, DefinesOwn, HasOwnClocks}
 use Rattle.law_choices.proofs.ClosedLemmas.ClosedLaws.{first_one, later_one, each_other}
 use Rattle.law_choices.proofs.OnClocksLemmas.Steps.{DefinedOn, Within, Timed, Step}
 use Rattle.law_choices.proofs.OnClocksLemmas.Nodes.{Based, numbers_based, signature_long}
@@ -76,12 +76,20 @@ module _ (types : List ObcType) (f : FlatNode) (g : ℕ → Clock) where
         reads = each_other (Timed types f g) (λ (e : FlatEqn). AllByRecursion (λ x. IsFrontOf (g x) e.clock) (operands e.right)) (λ e t. t.reads) f.eqns h;
         defined = λ x t.
             let own = All-contains (Timed types f g) f.eqns t.0 (All-from_recursion (Timed types f g) f.eqns h) t.1 in
-            by x t (All-contains (λ y. (g y ≡ t.0.clock) ⊎ IsSplit f types g y) t.0.targets x (All-from_recursion (λ y. (g y ≡ t.0.clock) ⊎ IsSplit f types g y) t.0.targets own.targets) t.2);
+            let Has : ℕ → Type 0 = λ y. (g y ≡ t.0.clock) ⊎ (IsSplit f types g y × IsCopy t.0.right) in
+            by x t (All-contains Has t.0.targets x (All-from_recursion Has t.0.targets own.targets) t.2);
       }
     where
-      by : (x : ℕ) (t : IsTarget f.eqns x) → (g x ≡ t.0.clock) ⊎ IsSplit f types g x → IsDefinedOn f x (g x) ⊎ IsSplit f types g x
+      by : (x : ℕ) (t : IsTarget f.eqns x) → (g x ≡ t.0.clock) ⊎ (IsSplit f types g x × IsCopy t.0.right) → IsDefinedOn f x (g x) ⊎ IsSplit f types g x
       by x t (inl e) = inl (t.0, t.1, t.2, sym e)
-      by x t (inr s) = inr s
+      by x t (inr s) = inr s.0
+
+  timed_own : (e : FlatEqn) → Timed types f g e → DefinesOwn g e
+  timed_own e t = each_other (λ x. (g x ≡ e.clock) ⊎ (IsSplit f types g x × IsCopy e.right)) (λ x. (g x ≡ e.clock) ⊎ IsCopy e.right) by e.targets t.targets
+    where
+      by : (x : ℕ) → (g x ≡ e.clock) ⊎ (IsSplit f types g x × IsCopy e.right) → (g x ≡ e.clock) ⊎ IsCopy e.right
+      by x (inl h) = inl h
+      by x (inr h) = inr h.1
 
 module _ (types : List ObcType) (k : Known) (n : Node) (f : FlatNode) (made : IsMadeOf k n f) where
   pub within : Within types f (sketch_node k n)
@@ -94,10 +102,14 @@ module _ (types : List ObcType) (k : Known) (n : Node) (f : FlatNode) (made : Is
         eqns = λ x c h. finds f.eqns x c (from_unplaced f.eqns x c (subst (λ es. DefinedOn es x c) (sym made.eqns) (to_unplaced (sketch_node k n).eqns x c h)));
       }
 
-  pub made_clocks : Step types f [] nothing_made (sketch_node k n) (λ g. ⊤) (Based k types f (next (signature k n).1)) → HasClocks types f
+  pub made_clocks : Step types f [] nothing_made (sketch_node k n) (λ g. ⊤) (Based k types f (next (signature k n).1)) → HasOwnClocks types f
   made_clocks s =
       let g = s.clocks in
       let r = s.timed g (λ x i j. refl) within (record { eqns = tt; flag = tt }) tt in
       let d = sketch_node k n in
       let eqns = timed_placed types f g f.eqns (subst (λ es. AllByRecursion (Timed types f g) es) (sym made.eqns) (timed_unplaced types f g d.eqns r.0.eqns)) in
-      (g, timed_clocks types f g eqns (subst (λ xs. AllByRecursion (λ x. g x ≡ []) xs) (sym made.outputs) (numbers_based k types f (next (signature k n).1) (length n.inputs + length (controls_of n.contract)) n.outputs g r.1 (signature_long k n))))
+      record {
+        clock = g;
+        clocks = timed_clocks types f g eqns (subst (λ xs. AllByRecursion (λ x. g x ≡ []) xs) (sym made.outputs) (numbers_based k types f (next (signature k n).1) (length n.inputs + length (controls_of n.contract)) n.outputs g r.1 (signature_long k n)));
+        own = each_other (Timed types f g) (DefinesOwn g) (timed_own types f g) f.eqns eqns;
+      }

@@ -49,9 +49,9 @@ use Rattle.law_wellmade.proofs.BegunLemmas.NamesApart.{lowered_apart}
 use Rattle.law_wellmade.proofs.BegunLemmas.Grounds.{grounded}
 use Rattle.law_wellmade.proofs.RegularLemmas.Expressions.{TypeFacts}
 use Rattle.law_wellmade.proofs.RegularLemmas.TypeLaws.{AreNumbered, OwnNumbers, own_numbers, are_numbered, type_facts}
-use Rattle.law_choices.specs.Closed.Clocking.{HasClocks}
-use Rattle.law_choices.proofs.ClosedLemmas.ClosedLaws.{twice}
-use Rattle.law_choices.specs.OnClocks.Clocks.{ClocksLaw}
+use Rattle.law_choices.specs.Closed.Clocking.{HasClocks, HasOwnClocks}
+use Rattle.law_choices.proofs.ClosedLemmas.ClosedLaws.{each_other, twice}
+use Rattle.law_choices.specs.OnClocks.Clocks.{ClocksLaw, OwnClocksLaw}
 use Rattle.law_choices.proofs.OnClocksLemmas.Arms.{ArmFacts}
 use Rattle.law_choices.proofs.OnClocksLemmas.Nodes.{node_step}
 use Rattle.law_choices.proofs.OnClocksLemmas.MadeClocks.{made_clocks}
@@ -62,9 +62,9 @@ use Rattle.law_choices.proofs.OnClocksLemmas.ArmNumbers.{AreFew, arm_facts}
 
 -- what is made of a node has clocks, and the kinds of the node
 abbrev pub Clocked : List ObcType → Known → Node → Type 0
-Clocked obc k n = (f : FlatNode) → IsMadeOf k n f → HasClocks obc f × KindsSigned obc k n f
+Clocked obc k n = (f : FlatNode) → IsMadeOf k n f → HasOwnClocks obc f × KindsSigned obc k n f
 
-all_clocked : (obc : List ObcType) (k : Known) (items : List Item) (fs : List FlatNode) → AreMadeOf k items fs → EachNode (Clocked obc k) items → AllByRecursion (HasClocks obc) fs
+all_clocked : (obc : List ObcType) (k : Known) (items : List Item) (fs : List FlatNode) → AreMadeOf k items fs → EachNode (Clocked obc k) items → AllByRecursion (HasOwnClocks obc) fs
 all_clocked obc k [] [] made h = tt
 all_clocked obc k [] (f ∷ fs) made h = absurd made
 all_clocked obc k (TypeItem t ∷ items) fs made h = all_clocked obc k items fs made h
@@ -204,6 +204,11 @@ ready_clocked program after r ok form =
     let all = nodes_clocked (obc_types (types_of low)) low (types_of low) arms facts apart sound have plain tested right in
     subst (λ ts. EachNode (Clocked (obc_types ts) (known_of low)) low) same all
 
+pub own_clocks_law : OwnClocksLaw
+own_clocks_law program after r ok form fs made =
+    all_clocked (obc_types (types_of after)) (known_of (lowered_program after)) (lowered_program after) fs made (ready_clocked program after r ok form)
+
 pub clocks_law : ClocksLaw
 clocks_law program after r ok form fs made =
-    all_clocked (obc_types (types_of after)) (known_of (lowered_program after)) (lowered_program after) fs made (ready_clocked program after r ok form)
+    let types = obc_types (types_of after) in
+    each_other (HasOwnClocks types) (HasClocks types) (λ f h. (h.clock, h.clocks)) fs (own_clocks_law program after r ok form fs made)

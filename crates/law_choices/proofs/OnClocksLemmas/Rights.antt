@@ -22,9 +22,9 @@ use Rattle.hp_flat.specs.Nodes.{FlatNode}
 use Rattle.law_equations.specs.Made.Making.{Known, Sketch, Site, Sight, Layer, cons_number, outputs_of, numbers_from, on_site, tested, called_at, atom_of, copy_of, bind, bind_all, bind_outputs, others, output_left, given_by, link_all, is_in, enter_path, path_for, sketch_expr, sketch_exprs, sketch_right, sketch_definition}
 use Rattle.law_equations.proofs.MadeLemmas.ClockLaws.{clock-path}
 use Rattle.law_equations.proofs.MadeLemmas.LayerLaws.{same_name, is_same}
-use Rattle.law_choices.specs.Closed.Clocking.{IsFrontOf, StepsStand, IsSplit}
+use Rattle.law_choices.specs.Closed.Clocking.{IsFrontOf, StepsStand, IsSplit, IsCopy}
 use Rattle.law_choices.proofs.ClosedLemmas.Filling.{has_one}
-use Rattle.law_choices.proofs.OnClocksLemmas.Steps.{front_itself, DefinedOn, defined_last, Grows, Step, then_step, weaker, no_step, Reads, eqn_step, Gives, copy_reads}
+use Rattle.law_choices.proofs.OnClocksLemmas.Steps.{front_itself, DefinedOn, defined_last, Grows, Step, then_step, weaker, no_step, Reads, eqn_step, Gives, copy_reads, copied}
 use Rattle.law_choices.proofs.OnClocksLemmas.Sites.{stand_more, resolved, Stood, on_stood, SeesTimed}
 use Rattle.law_choices.proofs.OnClocksLemmas.Arms.{ArmFacts}
 use Rattle.law_choices.proofs.OnClocksLemmas.Expressions.{finish, Stands, There, OnClock, Given, called_step, Seen, Ready, expr_step, exprs_step}
@@ -51,8 +51,8 @@ module _ (types : List ObcType) (n : FlatNode) (b : Clock) where
   bind_step at None source d =
       weaker types n b d d (λ g. ⊤) (λ g. ⊤) (λ g. Stands types n b at g × (TargetsOn at None g × Gives types n at source g)) (λ g. ⊤) (no_step types n b d (λ g. ⊤)) (λ g w h. tt) (λ g w h r. tt)
   bind_step at (Some x) source d =
-      weaker types n b d _ (λ g. Reads types n at (copy_of (atom_of source)) g × AllByRecursion (λ y. (g y ≡ at.clock) ⊎ IsSplit n types g y) (x ∷ [])) (λ g. ⊤) (λ g. Stands types n b at g × (TargetsOn at (Some x) g × Gives types n at source g)) (λ g. ⊤)
-      (eqn_step types n b at (x ∷ []) (copy_of (atom_of source)) d) (λ g w h. (copy_reads types n at source g h.0 h.1.1, (h.1.0 x refl, tt))) (λ g w h r. tt)
+      weaker types n b d _ (λ g. Reads types n at (copy_of (atom_of source)) g × AllByRecursion (λ y. (g y ≡ at.clock) ⊎ (IsSplit n types g y × IsCopy (copy_of (atom_of source)))) (x ∷ [])) (λ g. ⊤) (λ g. Stands types n b at g × (TargetsOn at (Some x) g × Gives types n at source g)) (λ g. ⊤)
+      (eqn_step types n b at (x ∷ []) (copy_of (atom_of source)) d) (λ g w h. (copy_reads types n at source g h.0 h.1.1, (copied types n at.clock (atom_of source) x g (h.1.0 x refl), tt))) (λ g w h r. tt)
 
   lefts_step : (see : Sight) (at : Site) (ys : List (List ℕ × Span)) (x : ℕ) (d : Sketch) → Step types n b d (bind_all see at ys x d) (λ g. Stands types n b at g × (MayDefine at see (is_among ys) g × There types n b at x g)) (λ g. ⊤)
   lefts_step see at [] x d = weaker types n b d d (λ g. ⊤) (λ g. ⊤) _ (λ g. ⊤) (no_step types n b d (λ g. ⊤)) (λ g w h. tt) (λ g w h r. tt)

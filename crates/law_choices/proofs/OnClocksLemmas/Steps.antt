@@ -5,6 +5,7 @@ use Rattle.std.specs.List.{AllByRecursion}
 use Rattle.std.proofs.lemmas.Bool.Decides.{nat_tests}
 use Rattle.std.proofs.lemmas.List.{length-append}
 use Rattle.hp_obc.specs.Machines.{ObcType}
+use Rattle.hp_flat.specs.declared.equation.Atom.{Atom}
 use Rattle.hp_flat.specs.declared.node.FlatTy.{FlatTy}
 use Rattle.hp_flat.specs.declared.node.FlatTy.TheVariants as flat
 use Rattle.hp_flat.specs.Equations.{Clock, Right, FlatEqn}
@@ -15,7 +16,7 @@ use Rattle.law_equations.specs.Meaning.Reactions.{has}
 use Rattle.law_equations.specs.Made.Making.{Sketch, Site, Made, next, with_variable, new_name, with_new, with_eqn, named_value, value_of, read_at, new_flag, block_flag, flag_at, with_flag, atom_of, copy_of}
 use Rattle.law_wellmade.proofs.BegunLemmas.Keeping.{HasType, Keeps}
 use Rattle.law_wellmade.proofs.RegularLemmas.Good.{longer, each_append}
-use Rattle.law_choices.specs.Closed.Clocking.{IsFrontOf, IsDefinedOn, StepsStand, IsSplit}
+use Rattle.law_choices.specs.Closed.Clocking.{IsFrontOf, IsDefinedOn, StepsStand, IsSplit, IsCopy}
 
 -- ---- fronts
 
@@ -107,11 +108,16 @@ module _ (types : List ObcType) (n : FlatNode) where
   pub within_before : (d e : Sketch) → Grows d e → Within e → Within d
   within_before d e g w = record { kinds = λ x t h. w.kinds x t (h.0, g.types.kept x h.0 h.1, h.2); eqns = λ x c h. w.eqns x c (g.eqns x c h) }
 
-  -- What is asked of the clock of an equation: what it tests and reads is there where it is, and what it defines has its clock or is split.
+  -- What is asked of the clock of an equation: what it tests and reads is there where it is, and what it defines has its clock, or is split if the equation is a copy.
   pub record Timed (g : ℕ → Clock) (e : FlatEqn) : Type 0 where
     pub steps : StepsStand n types g [] e.clock
     pub reads : AllByRecursion (λ x. IsFrontOf (g x) e.clock) (operands e.right)
-    pub targets : AllByRecursion (λ x. (g x ≡ e.clock) ⊎ IsSplit n types g x) e.targets
+    pub targets : AllByRecursion (λ x. (g x ≡ e.clock) ⊎ (IsSplit n types g x × IsCopy e.right)) e.targets
+
+  -- so it is of what a copy defines
+  pub copied : (c : Clock) (a : Atom) (x : ℕ) (g : ℕ → Clock) → (g x ≡ c) ⊎ IsSplit n types g x → (g x ≡ c) ⊎ (IsSplit n types g x × IsCopy (copy_of a))
+  copied c a x g (inl e) = inl e
+  copied c a x g (inr s) = inr (s, tt)
 
   -- the flag of a block is there where the block is
   abbrev pub FlagTimed : (ℕ → Clock) → Clock → Option ℕ → Type 0
@@ -169,7 +175,7 @@ module _ (types : List ObcType) (n : FlatNode) where
   Reads at right g = StepsStand n types g [] at.clock × AllByRecursion (λ x. IsFrontOf (g x) at.clock) (operands right)
 
   pub eqn_step : (b : Clock) (at : Site) (targets : List ℕ) (right : Right) (d : Sketch)
-      → Step b d (with_eqn at targets right d) (λ g. Reads at right g × AllByRecursion (λ x. (g x ≡ at.clock) ⊎ IsSplit n types g x) targets) (λ g. ⊤)
+      → Step b d (with_eqn at targets right d) (λ g. Reads at right g × AllByRecursion (λ x. (g x ≡ at.clock) ⊎ (IsSplit n types g x × IsCopy right)) targets) (λ g. ⊤)
   eqn_step b at targets right d =
       let e : FlatEqn = record { targets = targets; clock = at.clock; right = right; restart = at.restart; at = 0 } in
       record {
@@ -192,7 +198,7 @@ module _ (types : List ObcType) (n : FlatNode) where
   pub named_step : (b : Clock) (at : Site) (x : List ℕ) (t : FlatTy) (right : Right) (d : Sketch) → Step b d (named_value at x t right d).0 (Reads at right) (λ g. g (next d) ≡ at.clock)
   named_step b at x t right d =
       then_step b d (with_new x t d) (named_value at x t right d).0 (Reads at right) (λ g. g (next d) ≡ at.clock)
-      (λ g. Reads at right g × AllByRecursion (λ y. (g y ≡ at.clock) ⊎ IsSplit n types g y) (next d ∷ [])) (λ g. ⊤) (λ g. g (next d) ≡ at.clock)
+      (λ g. Reads at right g × AllByRecursion (λ y. (g y ≡ at.clock) ⊎ (IsSplit n types g y × IsCopy right)) (next d ∷ [])) (λ g. ⊤) (λ g. g (next d) ≡ at.clock)
       (weaker b d (with_new x t d) (λ g. ⊤) (λ g. g (next d) ≡ at.clock) (Reads at right) (λ g. g (next d) ≡ at.clock) (variable_step b at.clock (new_name x (next d)) t d) (λ g w h. tt) (λ g w h r. r))
       (eqn_step b at (next d ∷ []) right (with_new x t d))
       (λ g w h r. (h, (inl r, tt)))

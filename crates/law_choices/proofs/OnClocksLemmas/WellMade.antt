@@ -49,6 +49,7 @@ use Rattle.law_wellmade.specs.Begun.Laws.{Begins}
 use Rattle.law_wellmade.proofs.BegunLemmas.BegunLaws.{begun}
 use Rattle.law_wellmade.specs.Regular.Kinds.{IsKnownType}
 use Rattle.law_wellmade.proofs.RegularLemmas.RegularLaws.{variables_typed}
+use Rattle.law_wellmade.specs.Spelled.Integers.{NodeShort}
 use Rattle.law_choices.specs.Closed.Closed.{IsClosed}
 use Rattle.law_choices.specs.Closed.Clocking.{HasClocks}
 use Rattle.law_choices.specs.Closed.Exclusive.{IsAlwaysExclusive}
@@ -148,12 +149,22 @@ module _ (program : List Item) (outputs : List ℕ → List (List ℕ)) (knows :
 -- ---- nodes that are well made
 
 -- what is known of a node, but for its clocks
-record IsSound (types : List ObcType) (callees : Callees) (f : FlatNode) : Type 0 where
-  ranked : IsRanked f.eqns
-  no_inputs : DefinesNoInput f
-  targets_differ : TargetsDiffer f
-  values : AllByRecursion (λ (v : Variable). HasValue types v.ty) f.variables
-  kinds : AllByRecursion (EqnKinds types callees f.variables) f.eqns
+pub record IsSound (types : List ObcType) (callees : Callees) (f : FlatNode) : Type 0 where
+  pub ranked : IsRanked f.eqns
+  pub no_inputs : DefinesNoInput f
+  pub targets_differ : TargetsDiffer f
+  pub values : AllByRecursion (λ (v : Variable). HasValue types v.ty) f.variables
+  pub kinds : AllByRecursion (EqnKinds types callees f.variables) f.eqns
+
+-- and that it reads nothing undefined, and defines nothing twice
+abbrev pub IsKnown : List ObcType → Callees → FlatNode → Type 0
+IsKnown types callees f = IsSound types callees f × (IsClosed f × IsAlwaysExclusive f)
+
+-- so it is of each node of a ready program without its automata
+abbrev pub KnownLaw : Type 0
+KnownLaw =
+    (program after : List Item) → IsReady program after → IsRemovable after → TypesForm (obc_types_of program) → EachNode NodeShort after
+    → (fs : List FlatNode) → AreMadeOf (known_of (lowered_program after)) (lowered_program after) fs → AllByRecursion (IsKnown (obc_types (types_of after)) (callees_of after)) fs
 
 well_made : (types : List ObcType) (callees : Callees) (f : FlatNode) → IsSound types callees f → (IsClosed f × IsAlwaysExclusive f) × HasClocks types f → IsWellMade types callees f
 well_made types callees f s h =
@@ -183,8 +194,8 @@ ready_knows program after r ok form =
     let fit : ItemsFit low = items_fit low (subst (λ ts. All HasConstructors (obc_types ts)) (sym same_all) form.counts) (whole_law program after r ok) in
     known filled low apart_names many fit
 
-pub made_law : TargetsLaw → MadeLaw
-made_law law program after r ok form short fs made =
+pub known_law : TargetsLaw → KnownLaw
+known_law law program after r ok form short fs made =
     let full = some_of (types_of program) form.counts in
     let few = number_of (types_of program) form.number in
     let enums = enumerations [] after in
@@ -203,7 +214,6 @@ made_law law program after r ok form short fs made =
     let tested : AreTested (types_of low) (reverse low) = subst (λ ts. AreTested ts (reverse low)) (sym same) tested_after in
     let closed = closed_law program after r ok full few fs made in
     let exclusive = exclusive_law (types_of low) outputs k low fs knows apart (each_plain low whole) tested made in
-    let clocks = clocks_law program after r ok form fs made in
     let ranked = all_where k (λ f. IsRanked f.eqns) low fs made (each_where k (λ f. IsRanked f.eqns) low (λ n f m. m.ranked)) in
     let differ_all = all_where k TargetsDiffer low fs made (each_where k TargetsDiffer low (targets_differ law k)) in
     let inputs_behind = no_inputs_behind low outputs knows [] (reverse low) refl (begun program after r ok full few) (each_reverse IsWhole low whole) in
@@ -222,8 +232,13 @@ made_law law program after r ok form short fs made =
     let sound : AllByRecursion (IsSound types callees) fs =
     each_both (λ f. (IsRanked f.eqns × DefinesNoInput f) × TargetsDiffer f) (λ f. Values f × Kinds f) (IsSound types callees)
     (λ f p q. record { ranked = p.0.0; no_inputs = p.0.1; targets_differ = p.1; values = q.0; kinds = q.1 }) fs third second in
-    each_both (IsSound types callees) (λ f. (IsClosed f × IsAlwaysExclusive f) × HasClocks types f) (IsWellMade types callees) (λ f s h. well_made types callees f s h) fs sound
-    (pair_up (λ f. IsClosed f × IsAlwaysExclusive f) (HasClocks types) fs (pair_up IsClosed IsAlwaysExclusive fs closed exclusive) clocks)
+    pair_up (IsSound types callees) (λ f. IsClosed f × IsAlwaysExclusive f) fs sound (pair_up IsClosed IsAlwaysExclusive fs closed exclusive)
+
+pub made_law : TargetsLaw → MadeLaw
+made_law law program after r ok form short fs made =
+    let types = obc_types (types_of after) in
+    let callees = callees_of after in
+    each_both (IsKnown types callees) (HasClocks types) (IsWellMade types callees) (λ f k h. well_made types callees f k.0 (k.1, h)) fs (known_law law program after r ok form short fs made) (clocks_law program after r ok form fs made)
 
 pub reactions_law : TargetsLaw → OneReactionLaw → ReactionsLaw
 reactions_law law one program after r ok form short fs made answers typed =

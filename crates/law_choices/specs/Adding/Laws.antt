@@ -11,7 +11,7 @@ use Rattle.law_equations.specs.Meaning.Kinding.{Callees, IsWellMade}
 use Rattle.law_equations.specs.Meaning.Scheduling.{IsRanked}
 use Rattle.law_equations.specs.Shaped.Shaped.{NodeShape}
 use Rattle.law_choices.specs.Closed.Closed.{IsClosed}
-use Rattle.law_choices.specs.Closed.Clocking.{AreClocks, HasClocks, copy_where, by_cases}
+use Rattle.law_choices.specs.Closed.Clocking.{AreClocks, by_cases}
 use Rattle.law_choices.specs.Closed.Exclusive.{IsAlwaysExclusive}
 use Rattle.law_choices.specs.Adding.Adding.{IsWellBuilt, ClocksAgree, Adds}
 

@@ -6,7 +6,7 @@ use Rattle.hp_obc.specs.Machines.{ObcType}
 use Rattle.hp_obc.specs.declared.command.ObcOp.TheVariants.{Copy}
 use Rattle.hp_flat.specs.declared.equation.Atom.TheVariants.{Variable}
 use Rattle.hp_flat.specs.declared.node.FlatTy.TheVariants as flat
-use Rattle.hp_flat.specs.Equations.{Clock, operator, FlatEqn}
+use Rattle.hp_flat.specs.Equations.{Clock, Right, operator, register, called, FlatEqn}
 use Rattle.hp_flat.specs.Nodes.{FlatNode}
 use Rattle.law_equations.specs.Meaning.Fitting.{operands}
 use Rattle.law_equations.specs.Meaning.Instants.{Instant}
@@ -45,9 +45,26 @@ module _ (n : FlatNode) where
       pub reads : AllByRecursion (λ (e : FlatEqn). AllByRecursion (λ x. IsFrontOf (clock x) e.clock) (operands e.right)) n.eqns
       pub defined : (x : ℕ) → IsTarget n.eqns x → IsDefinedOn x (clock x) ⊎ IsSplit x
 
+-- what gives a value only copies one
+abbrev pub IsCopy : Right → Type 0
+IsCopy (operator Copy args) = ⊤
+IsCopy (operator op args) = ⊥
+IsCopy (register first next) = ⊥
+IsCopy (called f args) = ⊥
+
+-- an equation defines variables of its own clock, but for a copy, which may define one case of a variable
+abbrev pub DefinesOwn : (ℕ → Clock) → FlatEqn → Type 0
+DefinesOwn clock e = AllByRecursion (λ x. (clock x ≡ e.clock) ⊎ IsCopy e.right) e.targets
+
 -- the variables of a node have clocks
 abbrev pub HasClocks : List ObcType → FlatNode → Type 0
 HasClocks types n = (clock : ℕ → Clock) × AreClocks n types clock
+
+-- and each equation that is no copy defines variables of its own clock
+pub record HasOwnClocks (types : List ObcType) (n : FlatNode) : Type 0 where
+  pub clock : ℕ → Clock
+  pub clocks : AreClocks n types clock
+  pub own : AllByRecursion (DefinesOwn clock) n.eqns
 
 -- Where the variables of a closed node have clocks, its clocks fit at each possible instant of its kinds.
 abbrev pub FitLaw : Type 0

@@ -12,10 +12,16 @@ use Rattle.hp_flat.specs.Nodes.{FlatNode}
 use Rattle.law_equations.specs.Made.Types.{obc_types, obc_types_of}
 use Rattle.hp_complete.specs.Declaring.{known_of}
 use Rattle.hp_complete.specs.Made.{AreMadeOf}
-use Rattle.law_choices.specs.Closed.Clocking.{HasClocks}
+use Rattle.law_choices.specs.Closed.Clocking.{HasClocks, HasOwnClocks}
 
 -- So it is of each node that is made of a ready program without its automata, whose types have form.
 abbrev pub ClocksLaw : Type 0
 ClocksLaw =
     (program after : List Item) → IsReady program after → IsRemovable after → TypesForm (obc_types_of program)
     → (fs : List FlatNode) → AreMadeOf (known_of (lowered_program after)) (lowered_program after) fs → AllByRecursion (HasClocks (obc_types (types_of after))) fs
+
+-- Each equation that is no copy, as a comparison or a call, defines variables of its own clock.
+abbrev pub OwnClocksLaw : Type 0
+OwnClocksLaw =
+    (program after : List Item) → IsReady program after → IsRemovable after → TypesForm (obc_types_of program)
+    → (fs : List FlatNode) → AreMadeOf (known_of (lowered_program after)) (lowered_program after) fs → AllByRecursion (HasOwnClocks (obc_types (types_of after))) fs
