@@ -36,8 +36,8 @@ module _ (law : OutcomesLaw) (program ordered : List Item) (kept : AreKept order
   choosing_are some o machines found files file held same = (
     of_machine o node,
     AreRun.that_choose found.0
-    (record { program = program; held = held; kept = in_games law program ordered kept files file held same; machines = subst (λ (z : List Item). AreControlledMachines z o) (sym same) machines })
-    some (ap (λ z. node_among z node) same ∙ found.1) found.2,
+        (record { program = program; held = held; kept = in_games law program ordered kept files file held same; machines = subst (λ (z : List Item). AreControlledMachines z o) (sym same) machines })
+        some (ap (λ z. node_among z node) same ∙ found.1) found.2,
   )
 
   pub all_choosing : has_controls program ≡ true → (r : Result Runnable Status) → IfOk r (λ x. AreControlledMachines ordered x.machines) →
@@ -49,13 +49,13 @@ module _ (law : OutcomesLaw) (program ordered : List Item) (kept : AreKept order
   plain_are none o machines files file held same = (
     of_node held.clocked node,
     AreRun.of_program
-    (record {
-      program = program;
-      held = held;
-      uncontrolled = none;
-      kept = in_games law program ordered kept files file held same;
-      machines = subst (λ (z : List Item). AreMachinesOf z o) (sym same) machines;
-    }),
+        (record {
+          program = program;
+          held = held;
+          uncontrolled = none;
+          kept = in_games law program ordered kept files file held same;
+          machines = subst (λ (z : List Item). AreMachinesOf z o) (sym same) machines;
+        }),
   )
 
   pub all_plain : has_controls program ≡ false → (r : Result Runnable Status) → IfOk r (λ x. AreMachinesOf ordered x.machines) → IfOk r (λ x. RunDecided node program ordered x.machines)

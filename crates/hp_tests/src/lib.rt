@@ -4,7 +4,6 @@
 #[cfg(test)]
 mod canonical;
 #[cfg(test)]
-mod checkpoints;
 #[cfg(test)]
 mod contracts;
 #[cfg(test)]

@@ -47,4 +47,4 @@ returns-clause-told g c =
     told_or_not (NotRestoredFrom o node text) (λ line b rest status f files mem gives. NotRestored.line_failed line b rest (f files mem gives)) (λ files mem gives. NotRestored.no_memory) (g.E.Sink.took c.args.diag.now) (g.E.Sink.took c.report_checkpoint.new.diag)
     (checkpoint_line cause) 9 (code_of c.report_checkpoint.result) c.report_checkpoint.ensures.reports
     (λ files mem gives. NotRestored.refused text cause gives (refused_checkpoint o node text c.args.exec.now cause c.requires.stands c.in-Err.ensures.refused
-      (λ name ws says. c.in-Err.ensures.fits name ws says ∙ ap (λ values. misfit node (kinds_at o.types values) name ws) c.memory-2.ensures.values)))
+    (λ name ws says. c.in-Err.ensures.fits name ws says ∙ ap (λ values. misfit node (kinds_at o.types values) name ws) c.memory-2.ensures.values)))

@@ -16,5 +16,5 @@ returns-in-Err-clause-outcome g c =
       heard_nothing (g.C.Console.left c.args.console.now),
       told.1,
       λ words file w gives.
-        SegmentRun.stopped (Stops.not_run (told.2 (run_words file s.node.now) (g.F.Folder.files c.args.files.now) file (as_run words file s.node.now (option_copied s.from) s.out.now w) gives)) c.in-Err.ensures.fails refl,
+          SegmentRun.stopped (Stops.not_run (told.2 (run_words file s.node.now) (g.F.Folder.files c.args.files.now) file (as_run words file s.node.now (option_copied s.from) s.out.now w) gives)) c.in-Err.ensures.fails refl,
     )

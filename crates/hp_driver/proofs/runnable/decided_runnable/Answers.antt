@@ -31,7 +31,7 @@ returns-then-has_controls-clause-told g c =
       told.0,
       told.1,
       ends_map (ChoosingRun c.args.node.now ordered []) (DecidedOutcome (Run c.args.node) program ordered [])
-      (λ line status. choosing_run c.outcomes_are_so.ensures program ordered c.in_default.ensures.kept some c.args.node [] line status) c.choosing_runnable.result told.0 told.2,
+          (λ line status. choosing_run c.outcomes_are_so.ensures program ordered c.in_default.ensures.kept some c.args.node [] line status) c.choosing_runnable.result told.0 told.2,
     )
 
 pub returns-clause-are : goal.returns-clause-are
@@ -49,7 +49,7 @@ returns-clause-told g c =
       told.0,
       told.1,
       ends_map (OrderedRun c.args.node.now ordered []) (DecidedOutcome (Run c.args.node) program ordered [])
-      (λ line status. ordered_run c.outcomes_are_so.ensures program ordered c.in_default.ensures.kept none c.args.node [] line status) c.plain_runnable.result told.0 told.2,
+          (λ line status. ordered_run c.outcomes_are_so.ensures program ordered c.in_default.ensures.kept none c.args.node [] line status) c.plain_runnable.result told.0 told.2,
     )
 
 pub plain_runnable-requires : goal.plain_runnable-requires

@@ -20,7 +20,7 @@ returns-in-Ok-clause-told g c =
       told.0,
       told.1,
       ends_map (DecidedOutcome (Run c.args.node) program ordered.program []) (ProgramOutcome (Run c.args.node) program [])
-      (λ line status. arranged_outcome program ordered.program (lists ordered.ranks.items) c.in-Ok.ensures.arranged (Run c.args.node) [] line status) c.decided_runnable.result told.0 told.2,
+          (λ line status. arranged_outcome program ordered.program (lists ordered.ranks.items) c.in-Ok.ensures.arranged (Run c.args.node) [] line status) c.decided_runnable.result told.0 told.2,
     )
 
 pub returns-in-Err-clause-told : goal.returns-in-Err-clause-told

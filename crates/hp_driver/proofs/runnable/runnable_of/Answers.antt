@@ -16,7 +16,7 @@ returns-in-Ok-clause-told g c =
       told.0,
       told.1,
       ends_map (ProgramOutcome (Run c.args.node) c.in-Ok.program []) (OutcomeOf (Run c.args.node) c.args.text.now [])
-      (λ line status f. f c.args.text.now c.in-Ok.ensures.judged (λ other judged. sym (c.in-Ok.ensures.given other judged))) c.program_runnable.result told.0 told.2,
+          (λ line status f. f c.args.text.now c.in-Ok.ensures.judged (λ other judged. sym (c.in-Ok.ensures.given other judged))) c.program_runnable.result told.0 told.2,
     )
 
 pub returns-in-Err-clause-told : goal.returns-in-Err-clause-told
