@@ -24,6 +24,7 @@ CLAIMS = {
     '3 `E11` is exact': ('contracts', 'hp_diagram hp_quant hp_synth hp_drawing hp_abstract hp_circuit'),
     '4 `compile`, then `exec`': ('machines machine_forms run', 'hp_obc hp_toobc hp_fuse'),
     '5 `prove` and `verify`': ('contracts', 'hp_cert hp_quant'),
+    '6 a stopped run goes on': ('checkpoints resumed', 'hp_exec hp_obctext'),
     'each status has its cause': ('words faults system', 'hp_io'),
     'values that are chosen (tested)': ('controlled worked', 'hp_control hp_watch hp_controlled'),
 }
