@@ -1,4 +1,4 @@
-//! Used by no command yet. Natives: functions that answer calls of machines in place of their steps. Invariant: a native gives what the step of its machine gives, in every file, so a run with natives is the run without. Used by `hp_tests`.
+//! Natives: functions that answer calls of machines in place of their steps. Invariant: a native gives what the step of its machine gives, in every file, so a run with natives is the run without. No other crate uses it yet.
 #![tactic(auto)]
 
 mod commands;
