@@ -4,7 +4,6 @@
 #[cfg(test)]
 mod canonical;
 #[cfg(test)]
-#[cfg(test)]
 mod contracts;
 #[cfg(test)]
 mod diagrams;
