@@ -213,9 +213,9 @@ as_run words file node from out (IsSegmentOf.to_resume w) = record { spelled = r
 
 -- ---- a call
 
-runnable_of : (files : Option Files) (file node : List ℕ) (o : Obc) (from : Option (List ℕ)) (memory : Memory) (s : System) → Begins files file node o from memory s → IsRunnable files file node o
-runnable_of files file node o from memory s (Begins.from_reset are is) = record { system = s; are = are; machine = is }
-runnable_of files file node o from memory s (Begins.from_checkpoint there gives is) = there
+runnable_of : (files : Option Files) (file node : List ℕ) (o : Obc) (from : Option (List ℕ)) (kept : Memory) (s : System) → Begins files file node o from kept s → IsRunnable files file node o
+runnable_of files file node o from kept s (Begins.from_reset are is) = record { system = s; are = are; machine = is }
+runnable_of files file node o from kept s (Begins.from_checkpoint there gives is) = there
 
 pub segment_leaves : (words : List (List ℕ)) (before after : Option Files) (file node : List ℕ) (from : Option (List ℕ)) (out : List ℕ) → IsSegmentOf words file node from out →
     (log : List Event) (line : List ℕ) (status : ℕ) → SegmentRun before after file node from out log line status → Leaves words before after status

@@ -72,9 +72,9 @@ fn restore_text<E: Sink>(
     let Ok(mut values) = Vec::from_slice(alloc, exec.memory()) else {
         return Err(Status::NoMemory);
     };
-    match read_memory(text, machines, node, exec.memory(), values.as_mut_slice()) {
+    match read_memory(text, machines, node, exec.memory(), &mut values) {
         Ok(()) => {
-            exec.load(values.as_slice());
+            exec.load(&values);
             Ok(())
         }
         Err(error) => Err(report_checkpoint(alloc, diag, error)),

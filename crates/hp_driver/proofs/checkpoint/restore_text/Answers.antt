@@ -1,4 +1,5 @@
 use Rattle.std.proofs.Common.{[], sym, ap, subst, rules, ◌≡◌, ◌∙◌}
+use Rattle.std.proofs.lemmas.List.{with_items_is}
 use Rattle.hp_base.specs.Kinds.{AreOfKinds}
 use Rattle.hp_exec.specs.Executors.{Executor}
 use Rattle.hp_exec.specs.Layouts.{flat_kinds}
@@ -25,7 +26,7 @@ returns-in-Ok-read_memory-clause-stands g c =
     let node = c.args.node.now in
     let old = c.args.exec.now in
     let h = c.requires.stands in
-    let place : c.read_memory.new.into ≡ c.as_slice.result.now = sym c.as_slice.ensures.value in
+    let place : c.read_memory.new.into ≡ c.deref.result.now = sym (with_items_is c.in-Ok.values c.read_memory.new.into (c.read_memory.auto.into ∙ c.deref_mut.ensures.len)) ∙ sym c.deref.ensures.value in
     let kinds = ap (kinds_at o.types) c.memory-2.ensures.values ∙ kinds_are o node old h in
     let fit = subst (λ values. AreOfKinds (flat_kinds (machine_keeps o node)) values) place (subst (λ ks. AreOfKinds ks c.read_memory.new.into) kinds c.in-Ok-read_memory.ensures.values) in
     stands_loaded o node old c.load.new.self h c.load.ensures.signature (c.load.ensures.runs (machine_behaviour o node) h.runs) (c.load.ensures.kinds (machine_behaviour o node) (machine_keeps o node) h.runs h.kinds fit)
@@ -34,8 +35,8 @@ pub returns-in-Ok-read_memory-clause-memory : goal.returns-in-Ok-read_memory-cla
 returns-in-Ok-read_memory-clause-memory g c =
     let o = c.args.machines.now in
     let node = c.args.node.now in
-    let place : c.read_memory.new.into ≡ c.as_slice.result.now = sym c.as_slice.ensures.value in
-    let values : c.load.new.self.values ≡ c.as_slice.result.now = ap (λ (e : Executor). e.values) c.load.ensures.loaded in
+    let place : c.read_memory.new.into ≡ c.deref.result.now = sym (with_items_is c.in-Ok.values c.read_memory.new.into (c.read_memory.auto.into ∙ c.deref_mut.ensures.len)) ∙ sym c.deref.ensures.value in
+    let values : c.load.new.self.values ≡ c.deref.result.now = ap (λ (e : Executor). e.values) c.load.ensures.loaded in
     is_checkpoint o node c.load.new.self (returns-in-Ok-read_memory-clause-stands g c) c.args.text.now (c.in-Ok-read_memory.ensures.text ∙ ap (memory_text o.types node) (place ∙ sym values))
 
 pub returns-clause-told : goal.returns-clause-told

@@ -1,4 +1,4 @@
-use Rattle.std.proofs.Common.{[], ◌≡◌, ◌≢◌, ◌++◌, ◌∙◌, ℕ, List, true, refl, sym, ap, subst, rules, arith}
+use Rattle.std.proofs.Common.{[], ◌≡◌, ◌≢◌, ◌++◌, ◌∙◌, ◌⊎◌, ⊎_elim, inl, ℕ, List, true, refl, sym, ap, subst, rules, arith}
 use Rattle.std.specs.Vec.{vec_len}
 use Rattle.hp_io.specs.Told.{Grows}
 use Rattle.hp_io.proofs.ToldLaws.{Grows-nil}
@@ -93,3 +93,17 @@ returns-clause-outcome g c =
       subst (λ l. Grows (g.E.Sink.took c.args.diag.now) (g.E.Sink.took c.run_trace-status.new.diag) l) none ran.4,
       KeepsRun.written behind whole takes is c.write_text.ensures.leaves,
     )
+
+-- a run that ended well had no fault, and a write of a file is no take
+pub returns-clause-takes : goal.returns-clause-takes
+returns-clause-takes g c =
+    let done : code_of c.run_trace-status.result ≡ 0 = search rules in
+    let status = c.write_text.ensures.status in
+    let other : code_of c.write_text.result ≢ 4 = λ four. ⊎_elim (λ e. omega (arith, e, four)) (λ r. ⊎_elim (λ e. omega (arith, e, four)) (λ e. omega (arith, e, four)) r) status in
+    ((λ four. absurd (other four)), (λ no. c.run_trace-status.ensures.takes.1 (λ four. omega (arith, done, four))))
+
+pub returns-clause-writes : goal.returns-clause-writes
+returns-clause-writes g c =
+    let done : code_of c.run_trace-status.result ≡ 0 = search rules in
+    let puts = c.run_trace-status.ensures.puts.1 (λ five. omega (arith, done, five)) in
+    ((λ five. inl (c.write_text.ensures.writes.0 five, puts.0, puts.1)), (λ no. (c.write_text.ensures.writes.1 no, puts.0, puts.1)))

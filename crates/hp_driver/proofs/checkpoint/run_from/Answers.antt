@@ -1,6 +1,7 @@
-use Rattle.std.proofs.Common.{[], subst}
+use Rattle.std.proofs.Common.{[], ◌⊎◌, ⊎_elim, inl, inr, subst, arith}
 use Rattle.std.specs.Option.{option_copied}
 use Rattle.hp_io.specs.Told.{Grows}
+use Rattle.hp_io.proofs.FaultLaws.{Same-refl, Same-trans, Rose-behind, AllSame-trans}
 use Rattle.hp_io.proofs.ToldLaws.{Grows-nil, Grows-trans}
 use Rattle.hp_driver.specs.Restoring.{KeepsRun}
 use Rattle.hp_driver.specs.Status.{code_of}
@@ -40,4 +41,29 @@ returns-clause-outcome g c =
       Grows-trans (g.E.Sink.took c.args.diag.now) (g.E.Sink.took c.begin.new.diag) (g.E.Sink.took c.run_and_save.new.diag) [] ran.1 quiet ran.4,
       segment_of_machines c.machines_run_the_nodes_of_texts.ensures c.machines_keep_contracts.ensures.run before after s.node.now (option_copied s.from) s.out.now o e c.in_default.ensures.stands c.in_default.ensures.memory ran.0 ran.1 status
           (subst (λ files. KeepsRun o s.node.now e s.out.now files after ran.0 ran.1 status) c.begin.ensures.files ran.5),
+    )
+
+pub returns-in-Err-clause-reads : goal.returns-in-Err-clause-reads
+returns-in-Err-clause-reads g c =
+    let same = Same-refl (g.C.Console.take_faults c.args.console.now) in
+    ((λ four. inl (c.in-Err.ensures.reads.0 four, same)), (λ no. (c.in-Err.ensures.reads.1 no, same)))
+
+-- The checkpoint was read well, so what failed is behind it.
+pub returns-clause-reads : goal.returns-clause-reads
+returns-clause-reads g c =
+    let first = c.in_default.ensures.reads.1 (λ e. omega (arith, e)) in
+    let all =
+    AllSame-trans (g.F.Folder.reads c.args.files.now).faults (g.F.Folder.reads c.begin.new.files).faults (g.F.Folder.reads c.run_and_save.new.files).faults first c.run_and_save.ensures.reads.1 in
+    ((λ four. inr (all, c.run_and_save.ensures.takes.0 four)), (λ no. (all, c.run_and_save.ensures.takes.1 no)))
+
+pub returns-clause-writes : goal.returns-clause-writes
+returns-clause-writes g c =
+    let first = c.begin.ensures.writes in
+    let told = c.in_default.ensures.faults.1 (λ e. omega (arith, e)) in
+    let all = AllSame-trans (g.F.Folder.write_faults c.args.files.now) (g.F.Folder.write_faults c.begin.new.files) (g.F.Folder.write_faults c.run_and_save.new.files) first in
+    let r = c.run_and_save.ensures.writes in (
+      λ five.
+          ⊎_elim (λ z. inl (Rose-behind (first c.args.segment.out.now) z.0, z.1, Same-trans told z.2))
+          (λ z. inr (all z.0, ⊎_elim (λ q. inl (q.0, Same-trans told q.1)) (λ q. inr (q.0, Rose-behind told q.1)) z.1)) (r.0 five),
+      λ no. let z = r.1 no in (all z.0, z.1, Same-trans told z.2),
     )
