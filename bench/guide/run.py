@@ -87,7 +87,7 @@ def run_document(name):
         for path in FOLDERS:
             os.symlink(os.path.join(TOP, path), os.path.join(folder, path))
         for first, words, lines in blocks(read(os.path.join(TOP, name))):
-            if len(words) == 2 and words[0] in ('ept', 'obc', 'cert', 'trace'):
+            if len(words) == 2 and words[0] in ('ept', 'obc', 'cert', 'mem', 'trace'):
                 faults += put_file(name, first, words[1], lines, folder)
             elif words == ['console']:
                 for number, command, shown in commands(first, lines):

@@ -12,7 +12,7 @@ except ImportError:
 
 # what stands for a word of a line
 WORDS = {'PLACE': r'\d+:\d+', 'WHERE': r'\d+:\d+|-|[a-z]\w*', 'POINTS': r'\S+@\d+:\d+(?: \S+@\d+:\d+)+', 'N': r'\d+', 'K': r'\d+',
-         'FOUND': r'\d+', 'LIMIT': r'\d+', 'LINE': r'\d+', 'WORD': r'\d+', 'NAME': r'[A-Za-z]\w*', 'NODE': r'[a-z]\w*',
+         'FOUND': r'\d+', 'NUMBER': r'\d+', 'LIMIT': r'\d+', 'LINE': r'\d+', 'WORD': r'\d+', 'NAME': r'[A-Za-z]\w*', 'NODE': r'[a-z]\w*',
          'WANTED': r'row:\d+|[a-z]\w*', 'GOT': r'row:\d+|[a-z]\w*'}
 
 
