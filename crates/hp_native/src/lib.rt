@@ -15,4 +15,4 @@ pub use linked::{Linked, link};
 pub use native::{Answer, Answers, Native};
 pub use order::{give_greater, give_lesser, max_machine, min_machine};
 pub use simple::plain;
-pub use stepping::{NativeExec, links_change_nothing, step_natively};
+pub use stepping::{NativeExec, Steps, links_change_nothing, step_natively};
