@@ -21,14 +21,14 @@ fn machine(alloc: Global, text: &[u8], name: &str) -> Result<Exec, Fail> {
     Ok(Exec::new(alloc, &obc, name)?)
 }
 
-fn input_count(exec: &Exec) -> usize
+pub(crate) fn input_count(exec: &Exec) -> usize
     ensures { result ≡ length exec.now.signature.inputs }
 {
     let signature = exec.signature();
     signature.inputs.len()
 }
 
-fn output_count(exec: &Exec) -> usize
+pub(crate) fn output_count(exec: &Exec) -> usize
     ensures { result ≡ length exec.now.signature.outputs }
 {
     let signature = exec.signature();
