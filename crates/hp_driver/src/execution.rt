@@ -50,7 +50,7 @@ pub(crate) fn room_for(
     Ok((inputs, outputs))
 }
 
-impl<S: Steps> Execution<S> {
+impl<S: Steps + Drop> Execution<S> {
     pub(crate) fn new(alloc: Global, exec: S) -> Result<Execution<S>, AllocError>
         requires few { HaveFewConstructors (kinds_of (S.executor exec).signature.inputs) }
         requires behaves { HasBehaviour (S.executor exec) }

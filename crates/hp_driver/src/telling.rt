@@ -187,7 +187,7 @@ fn shown_for(
     Ok((shown, words))
 }
 
-impl<S: Steps> Telling<S> {
+impl<S: Steps + Drop> Telling<S> {
     pub(crate) fn new(alloc: Global, exec: S, ending: Ending) -> Result<Telling<S>, AllocError>
         requires few { HaveFewConstructors (kinds_of (S.executor exec).signature.inputs) }
         requires behaves { HasBehaviour (S.executor exec) }
