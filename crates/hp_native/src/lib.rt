@@ -1,4 +1,4 @@
-//! Natives: functions that answer calls of machines in place of their steps. Invariant: a native gives what the step of its machine gives, in every file, so a run with natives is the run without. No other crate uses it yet.
+//! Natives: functions that answer calls of machines in place of their steps. Invariant: a native gives what the step of its machine gives, in every file, so a run with natives is the run without. Used by `hp_driver`.
 #![tactic(auto)]
 
 mod commands;
