@@ -1,5 +1,6 @@
--- The kinds of what a machine keeps are those of its values, and a checkpoint of it is one.
+-- The kinds of what a machine keeps are those of its values, and a checkpoint of it is taken.
 use Rattle.std.proofs.Common.{◌≡◌, ℕ, suc, ◌+◌, Bool, true, false, if◌then◌else◌, List, [], ◌∷◌, ◌++◌, length, map, None, Some, refl, sym, ap, subst, ◌∙◌, arith}
+use Rattle.std.specs.Prelude.{IsSome}
 use Rattle.std.specs.List.{slice_get}
 use Rattle.std.specs.Option.{unwrap_or}
 use Rattle.std.specs.Str.{bytes_eq}
@@ -8,14 +9,21 @@ use Rattle.hp_base.specs.declared.ty.Ty.{Ty}
 use Rattle.hp_base.specs.declared.ty.Ty.TheVariants.{Bool as BoolTy, Int as IntTy, Enum as EnumTy}
 use Rattle.hp_base.specs.declared.value.Value.{Value}
 use Rattle.hp_base.specs.declared.value.Value.TheVariants.{B, E, I}
-use Rattle.hp_obc.specs.Form.{mem_vars}
+use Rattle.hp_obc.specs.Form.{HasObcForm, machine_named, mem_vars}
 use Rattle.hp_obc.specs.Kinded.{MemoryKinds, InnerKinds, memory_kinds, no_kinds, more_kinds, inner_kinds, HasKinds, HaveKinds, kinds_in, kinds_of_kept, kinds_behind, machine_keeps, none_kept}
 use Rattle.hp_obc.specs.Machines.{ObcType, Machine, Obc}
 use Rattle.hp_obc.specs.Steps.{Memory, Memories, memory, no_memory, more_memories, Names, given}
 use Rattle.hp_obc.specs.Values.{enum_from, kind_of}
 use Rattle.hp_obc.specs.declared.machine.Var.{Var}
-use Rattle.hp_obctext.specs.MemoryKinds.{constructors_at, constructors_of, kind_at, kinds_at}
+use Rattle.hp_lines.specs.Lines.{texts_of}
+use Rattle.hp_obctext.specs.MemoryKinds.{AreOfTypes, constructors_at, constructors_of, kind_at, kinds_at, misfit}
+use Rattle.hp_obctext.specs.MemoryTexts.{Says}
+use Rattle.hp_obctext.specs.declared.memory.error.MemErr.{MemErr}
+use Rattle.hp_obctext.specs.declared.memory.error.MemErr.TheVariants as error
+use Rattle.hp_obctext.proofs.MemoryFitting.{Fitting, fitting, same_misfit}
+use Rattle.hp_obctext.proofs.MemoryRefusing.{no_place}
 use Rattle.hp_exec.specs.Layouts.{flattened, all_flattened, flat_kinds, all_flat_kinds}
+use Rattle.hp_driver.specs.Checkpoints.{IsCheckpointOf, RefusesCheckpoint}
 
 -- ---- a memory as one list
 
@@ -123,3 +131,40 @@ keeps_declared o node = behind_declared o.types o.machines (λ x. none_kept) (λ
 -- values of them tell them
 pub keeps_found : (o : Obc) (node : List ℕ) (values : List Value) → AreOfKinds (flat_kinds (machine_keeps o node)) values → kinds_at o.types values ≡ flat_kinds (machine_keeps o node)
 keeps_found o node values h = kinds_found o.types (flat_kinds (machine_keeps o node)) values (keeps_declared o node) h
+
+-- ---- a checkpoint of a machine is not refused
+
+module _ (o : Obc) (node text : List ℕ) (memory : Memory) (form : HasObcForm o.types o.machines) (there : IsSome (machine_named o.machines node)) (is : IsCheckpointOf o node memory text) where
+  values : List Value
+  values = flattened memory
+
+  kept : AreOfKinds (flat_kinds (machine_keeps o node)) values
+  kept = has_flat (machine_keeps o node) memory is.kinded
+
+  same : kinds_at o.types values ≡ flat_kinds (machine_keeps o node)
+  same = keeps_found o node values kept
+
+  types : AreOfTypes o.types values
+  types = subst (λ kinds. AreOfKinds kinds values) (sym same) kept
+
+  words : List (List ℕ)
+  words = texts_of (kinds_at o.types values) values
+
+  fits : Fitting o.types node values values
+  fits = fitting o.types o.machines node values values form there types types
+
+  says : Says text node words
+  says = subst (λ t. Says t node words) (sym is.spelled) fits.says
+
+  none : misfit node (flat_kinds (machine_keeps o node)) node words ≡ None
+  none = ap (λ kinds. misfit node kinds node words) (sym same) ∙ fits.fits
+
+  no_misfit : (name : List ℕ) (ws : List (List ℕ)) (cause : MemErr) → Says text name ws → misfit node (flat_kinds (machine_keeps o node)) name ws ≡ Some cause → ⊥
+  no_misfit name ws cause s e =
+      let both : Some cause ≡ None = sym e ∙ same_misfit node (flat_kinds (machine_keeps o node)) text name node ws words s says ∙ none in cc
+
+  pub not_refused : (cause : MemErr) → RefusesCheckpoint o node text cause → ⊥
+  not_refused (error.Syntax span) r = no_place text node words span r says
+  not_refused error.Node r = no_misfit r.0 r.1 error.Node r.2 r.3
+  not_refused (error.Count found) r = no_misfit r.0 r.1 (error.Count found) r.2 r.3
+  not_refused (error.Word number) r = no_misfit r.0 r.1 (error.Word number) r.2 r.3
