@@ -65,19 +65,19 @@ pub returns-clause-complete_save : goal.returns-clause-complete_save
 returns-clause-complete_save g c =
     let ran = (numbered c.code.ensures c.perform.ensures).outcome in
     λ good f h. good_save (map string_bytes c.args.words.now) (g.F.Folder.files c.args.files.now) (g.F.Folder.files c.perform.new.files) (g.C.Console.left c.args.console.now) (g.C.Console.left c.perform.new.console)
-    ran.0 ran.1 c.code.result ran.3 good ran.5 f h
+    good ran.0 ran.1 c.code.result ran.3 ran.5 f h
 
 pub returns-clause-complete_resume : goal.returns-clause-complete_resume
 returns-clause-complete_resume g c =
     let ran = (numbered c.code.ensures c.perform.ensures).outcome in
     λ good f h. good_resume (map string_bytes c.args.words.now) (g.F.Folder.files c.args.files.now) (g.F.Folder.files c.perform.new.files) (g.C.Console.left c.args.console.now) (g.C.Console.left c.perform.new.console)
-    ran.0 ran.1 c.code.result ran.3 good ran.5 f h
+    good ran.0 ran.1 c.code.result ran.3 ran.5 f h
 
 pub returns-clause-refused_resume : goal.returns-clause-refused_resume
 returns-clause-refused_resume g c =
     let ran = (numbered c.code.ensures c.perform.ensures).outcome in
     λ good f h. resume_ends (map string_bytes c.args.words.now) (g.F.Folder.files c.args.files.now) (g.F.Folder.files c.perform.new.files) (g.C.Console.left c.args.console.now) (g.C.Console.left c.perform.new.console)
-    ran.0 ran.1 c.code.result ran.3 good ran.5 f h
+    good ran.0 ran.1 c.code.result ran.3 ran.5 f h
 
 pub returns-clause-complete_past : goal.returns-clause-complete_past
 returns-clause-complete_past g c =
