@@ -10,6 +10,7 @@ use Rattle.hp_obc.specs.Steps.{Memory}
 use Rattle.hp_driver.specs.Command.{IsRunOf, IsSegmentOf}
 use Rattle.hp_driver.specs.Given.{Gives, GivesMoreThan}
 use Rattle.hp_driver.specs.GoodCalls.{IsGoodResume, IsGoodRun, IsGoodSave, IsGoodSegment, IsRefused, IsResume}
+use Rattle.hp_driver.specs.Joined.{TakenLaw}
 use Rattle.hp_driver.specs.Lines.{lines_of}
 use Rattle.hp_driver.specs.Log.{heard, has_ended, HeardFrom}
 use Rattle.hp_driver.specs.NodeKinds.{input_kinds}
@@ -45,6 +46,11 @@ module _ (words : List (List ℕ)) (file node other name : List ℕ) where
       absurd (omega (arith, four, five))
   same_segment from before out y (IsSegmentOf.to_resume {mem = m} w) (IsSegmentOf.to_resume {mem = n} v) =
       let same = three_of_five (codes "resume") other name n y file node m out (sym v.spelled ∙ w.spelled) in (same.0, same.1, ap Some same.2)
+
+-- ---- a checkpoint of what is run is taken
+
+pub taken : TakenLaw
+taken files file node o text cause there is r = not_refused o node text is.0 there.form (ap is_some there.machine.named) is.1 cause r
 
 -- ---- what the call does
 
@@ -153,6 +159,5 @@ module _ (words : List (List ℕ)) (files behind : Option Files) (left after : O
       by : ((status ≡ 0) ⊎ (status ≡ 6)) ⊎ ((status ≡ 9) × IsRefused files good.resume.segment.file good.resume.segment.node good.resume.text) → (status ≡ 0) ⊎ (status ≡ 6)
       by (inl e) = e
       by (inr k) =
-          let there = k.1.there in
-          let taken = good.taken k.1.o there in
-          absurd (not_refused k.1.o good.resume.segment.node good.resume.text taken.0 there.form (ap is_some there.machine.named) taken.1 k.1.cause k.1.refuses)
+          let segment = good.resume.segment in
+          absurd (taken files segment.file segment.node k.1.o good.resume.text k.1.cause k.1.there (good.taken k.1.o k.1.there) k.1.refuses)
