@@ -10,7 +10,7 @@ use Rattle.hp_obc.specs.Steps.{Memory}
 use Rattle.hp_driver.specs.Command.{IsRunOf, IsSegmentOf}
 use Rattle.hp_driver.specs.Given.{Gives, GivesMoreThan}
 use Rattle.hp_driver.specs.GoodCalls.{IsGoodResume, IsGoodRun, IsGoodSave, IsGoodSegment, IsRefused, IsResume}
-use Rattle.hp_driver.specs.Joined.{TakenLaw}
+use Rattle.hp_driver.specs.Joined.{OneMemoryLaw, TakenLaw}
 use Rattle.hp_driver.specs.Lines.{lines_of}
 use Rattle.hp_driver.specs.Log.{heard, has_ended, HeardFrom}
 use Rattle.hp_driver.specs.NodeKinds.{input_kinds}
@@ -19,7 +19,7 @@ use Rattle.hp_driver.specs.Segments.{AreRun, Begins, CallOutcome, IsRunnable, Se
 use Rattle.hp_driver.specs.Systems.{System, inputs_of}
 use Rattle.hp_driver.specs.Values.{first_bad}
 use Rattle.hp_driver.specs.WrittenText.{WritesText}
-use Rattle.hp_driver.proofs.CheckpointLaws.{not_refused}
+use Rattle.hp_driver.proofs.CheckpointLaws.{not_refused, same_memory}
 use Rattle.hp_driver.proofs.Completeness.{same_text}
 use Rattle.hp_driver.proofs.SegmentLaws.{as_run}
 use Rattle.hp_driver.proofs.SourceCalls.{good_kinds, good_lines, good_run}
@@ -47,10 +47,13 @@ module _ (words : List (List ℕ)) (file node other name : List ℕ) where
   same_segment from before out y (IsSegmentOf.to_resume {mem = m} w) (IsSegmentOf.to_resume {mem = n} v) =
       let same = three_of_five (codes "resume") other name n y file node m out (sym v.spelled ∙ w.spelled) in (same.0, same.1, ap Some same.2)
 
--- ---- a checkpoint of what is run is taken
+-- ---- checkpoints of what is run
 
 pub taken : TakenLaw
 taken files file node o text cause there is r = not_refused o node text is.0 there.form (ap is_some there.machine.named) is.1 cause r
+
+pub one_memory : OneMemoryLaw
+one_memory files file node o text kept other there is also = same_memory o node text kept there.form (ap is_some there.machine.named) is other also
 
 -- ---- what the call does
 

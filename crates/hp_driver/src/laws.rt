@@ -1,6 +1,6 @@
 //! Laws on calls. The functions here do nothing: each is a law, which its contract states.
 ghost use Rattle.hp_driver.specs.GoodCalls.{PlainLaw, ProvedLaw};
-ghost use Rattle.hp_driver.specs.Joined.{JoinedLaw, JoinedRunLaw, TakenLaw};
+ghost use Rattle.hp_driver.specs.Joined.{JoinedLaw, JoinedRunLaw, OneMemoryLaw, TakenLaw};
 ghost use Rattle.hp_driver.specs.Written.{WrittenLaw};
 
 use hp_controlled::{machines_do_the_same_among_others, own_machines_do_the_same};
@@ -31,12 +31,17 @@ pub fn written_certificates_are_good()
     names_are_spelled();
 }
 
-/// A run that is stopped and resumed is one run. What is said to some lines, and from the memory behind them to more lines, is what is said to all of them, where none has a fault and they are few enough for one trace; and the memory behind them is the same. What the first part left the machine takes.
+/// A run that is stopped and resumed is one run. What is said to some lines, and from the memory behind them to more lines, is what is said to all of them, where none has a fault and they are few enough for one trace; and the memory behind them is the same.
 pub fn stopped_runs_are_joined()
     ensures lines { JoinedLaw }
     ensures runs { JoinedRunLaw }
-    ensures taken { TakenLaw }
 {
     machines_run_the_nodes_of_texts();
     machines_keep_contracts();
 }
+
+/// A machine that is run takes the checkpoint of each of its memories, and no text is the checkpoint of two.
+pub fn checkpoints_are_memories()
+    ensures taken { TakenLaw }
+    ensures one { OneMemoryLaw }
+{}

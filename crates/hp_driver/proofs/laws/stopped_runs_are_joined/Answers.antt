@@ -1,5 +1,4 @@
 use Rattle.hp_driver.proofs.JoinedLaws.{joined, joined_run}
-use Rattle.hp_driver.proofs.SegmentCalls.{taken}
 use Rattle.hp_driver.proofs.laws.stopped_runs_are_joined.Goals as goal
 
 pub returns-clause-lines : goal.returns-clause-lines
@@ -7,6 +6,3 @@ returns-clause-lines c = joined
 
 pub returns-clause-runs : goal.returns-clause-runs
 returns-clause-runs c = joined_run c.machines_run_the_nodes_of_texts.ensures c.machines_keep_contracts.ensures.run
-
-pub returns-clause-taken : goal.returns-clause-taken
-returns-clause-taken c = taken
