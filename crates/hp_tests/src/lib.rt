@@ -4,6 +4,8 @@
 #[cfg(test)]
 mod canonical;
 #[cfg(test)]
+mod checkpoints;
+#[cfg(test)]
 mod contracts;
 #[cfg(test)]
 mod diagrams;
