@@ -196,6 +196,16 @@ pub fn run_tool_with<F: Folder, C: Console, E: Sink>(
     // and each of its nodes is run over an input of good lines to its end.
     ensures complete_run { IsGoodRun (map string_bytes words.now) (F.files files.old) (C.left console.old) → result ≢ 4 → result ≢ 5 → (result ≡ 0) ⊎ (result ≡ 6) }
 
+    // A run that leaves a checkpoint does so, too, behind the end of such an input: from the memory after a reset,
+    ensures complete_save { IsGoodSave (map string_bytes words.now) (F.files files.old) (C.left console.old) → result ≢ 4 → result ≢ 5 → (result ≡ 0) ⊎ (result ≡ 6) }
+
+    // and from a checkpoint of each machine that may be run for the node.
+    ensures complete_resume { IsGoodResume (map string_bytes words.now) (F.files files.old) (C.left console.old) → result ≢ 4 → result ≢ 5 → (result ≡ 0) ⊎ (result ≡ 6) }
+
+    // From any other text, which is not too long, it ends so or with 9, and then such a machine refuses it.
+    ensures refused_resume { (r : IsResume (map string_bytes words.now) (F.files files.old) (C.left console.old)) → result ≢ 4 → result ≢ 5 →
+        ((result ≡ 0) ⊎ (result ≡ 6)) ⊎ ((result ≡ 9) × IsRefused (F.files files.old) r.segment.file r.segment.node r.text) }
+
     // The text of a program without the formulas of its contracts is written, where it is no longer than a text may be, nothing fails and there is memory.
     ensures complete_past { IsGoodPast (map string_bytes words.now) (F.files files.old) → result ≢ 4 → result ≢ 5 → (result ≡ 0) ⊎ (result ≡ 6) }
 
