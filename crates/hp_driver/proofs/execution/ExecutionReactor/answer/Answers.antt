@@ -30,6 +30,15 @@ invariant_of-self-2 g c =
       behaves = keeps_behaviour old (g.S.Steps.executor c.step.new.self) c.self.invariant.behaves c.step.ensures.runs c.step.ensures.kinded;
     }
 
+pub write_line-requires-clause-kinds : goal.write_line-requires-clause-kinds
+write_line-requires-clause-kinds g c =
+    let old : Executor = g.S.Steps.executor c.self.inside.exec in
+    let h = c.self.invariant.behaves in
+    let given : c.deref-2.result.now ≡ c.step.new.outputs = c.deref-2.ensures.value ∙ put_back c.self.inside.outputs.len c.step.new.outputs c.self.inside.outputs.items (search rules) in
+    let signature : c.signature-2.result.now ≡ old.signature = c.signature-2.ensures ∙ c.step.ensures.signature in
+    subst (λ vs. AreOfKinds (kinds_of c.signature-2.result.now.outputs) vs) (sym given)
+    (subst (λ (s : SignatureData). AreOfKinds (kinds_of s.outputs) c.step.new.outputs) (sym signature) (c.step.ensures.kinds h.behaviour h.runs h.kinded))
+
 pub returns-clause-answered : goal.returns-clause-answered
 returns-clause-answered g c =
     let old : Executor = g.S.Steps.executor c.self.inside.exec in
