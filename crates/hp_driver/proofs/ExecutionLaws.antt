@@ -71,9 +71,8 @@ pub tells_line : (t : Teller) (line : List ℕ) (values : List Value) → refusa
     telling t line ≡ Ok (told_of t values)
 tells_line t line values h k = ap (read_and_step told_of t) (read_ok (kinds_of t.executor.signature.inputs) line values h k)
 
-pub keeps_behaviour : (old new : Executor) (values : List Value) (h : HasBehaviour old) → ((b : Behaviour) → Runs old b → Runs new b) →
-    ((b : Behaviour) → Runs old b → IsKinded old b → AreOfKinds (kinds_of old.signature.inputs) values → IsKinded new b) → AreOfKinds (kinds_of old.signature.inputs) values → HasBehaviour new
-keeps_behaviour old new values h runs kinded fits = record { behaviour = h.behaviour; runs = runs h.behaviour h.runs; kinded = kinded h.behaviour h.runs h.kinded fits }
+pub keeps_behaviour : (old new : Executor) (h : HasBehaviour old) → ((b : Behaviour) → Runs old b → Runs new b) → ((b : Behaviour) → Runs old b → IsKinded old b → IsKinded new b) → HasBehaviour new
+keeps_behaviour old new h runs kinded = record { behaviour = h.behaviour; runs = runs h.behaviour h.runs; kinded = kinded h.behaviour h.runs h.kinded }
 
 -- ---- steps over lists of inputs
 

@@ -32,3 +32,4 @@ pub mod SegmentLaws
 pub mod JoinedLaws
 pub mod SegmentWords
 pub mod RunnableLaws
+pub mod SegmentCalls

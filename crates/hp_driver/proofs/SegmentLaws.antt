@@ -14,7 +14,7 @@ use Rattle.hp_io.specs.Reads.{Reading}
 use Rattle.hp_io.specs.Told.{Grows}
 use Rattle.hp_io.proofs.ToldLaws.{Grows-trans}
 use Rattle.hp_io.specs.declared.console.Event.{Event}
-use Rattle.hp_obc.specs.Form.{TypesForm, machine_named}
+use Rattle.hp_obc.specs.Form.{HasObcForm, TypesForm, machine_named}
 use Rattle.hp_obc.specs.Kinded.{machine_keeps}
 use Rattle.hp_obc.specs.Machines.{Obc}
 use Rattle.hp_obc.specs.Steps.{Memory, machine_behaviour, outputs_from}
@@ -45,7 +45,7 @@ use Rattle.hp_driver.specs.Values.{inputs_until}
 use Rattle.hp_driver.specs.WrittenText.{WritesText}
 use Rattle.hp_driver.proofs.CheckpointLaws.{has_flat, keeps_found}
 use Rattle.hp_driver.proofs.ExecutionLaws.{few_of_signature, ins_are, kept_through, kinds_through, left_by_lines, refuses_lines, runs_through, says_outputs, signature_through}
-use Rattle.hp_driver.proofs.HistoryLaws.{keeping, node_mirrors, runs_node}
+use Rattle.hp_driver.proofs.HistoryLaws.{inputs_same, keeping, node_mirrors, runs_node}
 use Rattle.hp_driver.proofs.MachineLaws.{machine_mirrors, not_done_or_not}
 use Rattle.hp_driver.proofs.OutcomeLaws.{Mirrors, answers, in_lockstep, refuses, told_or_not}
 use Rattle.hp_driver.proofs.ReadingLaws.{HasRead}
@@ -173,6 +173,13 @@ run_mirrors text_law run_law files file node o s (AreRun.of_program compiled) e 
     node_mirrors compiled.held.clocked o node h.machine h.named runs executing e (keeping run_law files file o compiled node) (machine_mirrors node o e h)
 run_mirrors text_law run_law files file node o s (AreRun.that_choose n chosen some named is) e h = machine_mirrors node o e h
 
+takes : TextLaw → (files : Option Files) (file node : List ℕ) (o : Obc) (s : System) → AreRun files file node o s → IsMachine node o → inputs_of (of_machine o node) ≡ inputs_of s
+takes text_law files file node o s (AreRun.of_program compiled) is = inputs_same compiled.held.clocked o node is.machine is.named (runs_node text_law files file o compiled node is.machine is.named)
+takes text_law files file node o s (AreRun.that_choose n chosen some named headed) is = refl
+
+runnable : TextLaw → (files : Option Files) (file node : List ℕ) (o : Obc) (s : System) → HasObcForm o.types o.machines → AreRun files file node o s → IsMachine node o → IsRunnable files file node o
+runnable text_law files file node o s form are is = record { system = s; are = are; machine = is; inputs = takes text_law files file node o s are is; form = form }
+
 -- from what was run and written
 module _ (before after : Option Files) (file node : List ℕ) (from : Option (List ℕ)) (out : List ℕ) (o : Obc) (e : Executor) (h : StandsFor o node e) (s : System) (m : Mirrors executing e s)
     (memory : Memory) (begins : Begins before file node o from memory s) (same : kept e ≡ memory) where
@@ -183,13 +190,13 @@ module _ (before after : Option Files) (file node : List ℕ) (from : Option (Li
       let memories = kept_behind o node e h behind lines (said log) takes ∙ ap (λ kept. memory_behind (machine_behaviour o node) kept (inputs_until (inputs_of (of_machine o node)) 1 lines)) same in
       SegmentRun.written begins (done_traced executing e s m log [] 0 r refl) (subst (λ kept. IsCheckpointOf o node kept text) memories is) wrote
 
-pub segment_of_machines : TextLaw → RunLaw → (before after : Option Files) (node : List ℕ) (from : Option (List ℕ)) (out : List ℕ) (o : Obc) (e : Executor) → StandsFor o node e → IsBegun before o node from e →
-    (log : List Event) (line : List ℕ) (status : ℕ) → KeepsRun o node e out before after log line status → SegmentOfMachines o node from out before after log line status
-segment_of_machines text_law run_law before after node None out o e h fresh log line status r file s are =
-    segment_ran before after file node None out o e h s (run_mirrors text_law run_law before file node o s are e fresh) (machine_behaviour o node).reset (Begins.from_reset are (is_machine o node e fresh)) fresh.fresh log line status r
-segment_of_machines text_law run_law before after node (Some mem) out o e h begun log line status r file s are =
+pub segment_of_machines : TextLaw → RunLaw → (before after : Option Files) (node : List ℕ) (from : Option (List ℕ)) (out : List ℕ) (o : Obc) (e : Executor) → HasObcForm o.types o.machines → StandsFor o node e →
+    IsBegun before o node from e → (log : List Event) (line : List ℕ) (status : ℕ) → KeepsRun o node e out before after log line status → SegmentOfMachines o node from out before after log line status
+segment_of_machines text_law run_law before after node None out o e form h fresh log line status r file s are =
+    segment_ran before after file node None out o e h s (run_mirrors text_law run_law before file node o s are e fresh) (machine_behaviour o node).reset (Begins.from_reset (runnable text_law before file node o s form are (is_machine o node e fresh))) fresh.fresh log line status r
+segment_of_machines text_law run_law before after node (Some mem) out o e form h begun log line status r file s are =
     segment_ran before after file node (Some mem) out o e h (from_memory o node (kept e)) (memory_mirrors o node e h) (kept e)
-    (Begins.from_checkpoint (record { system = s; are = are; machine = h.is }) begun.1 begun.2) refl log line status r
+    (Begins.from_checkpoint (runnable text_law before file node o s form are h.is) begun.1 begun.2) refl log line status r
 
 -- ---- what is not run
 
@@ -201,10 +208,10 @@ module _ (files : Option Files) (file node mem : List ℕ) (from : Option (List 
   not_restored line status (NotRestored.refused text cause gives refuses) = Stops.checkpoint_refused text cause asked there gives refuses
   not_restored line status (NotRestored.line_failed l b rest r) = Stops.line_failed line b rest (not_restored (line ++ b ∷ rest) _ r)
 
-pub not_begun : (before after : Option Files) (node : List ℕ) (from : Option (List ℕ)) (out : List ℕ) (o : Obc) → IsMachine node o → (line : List ℕ) (status : ℕ) → NotBegun before o node from line status → status ≢ 0 → after ≡ before →
-    SegmentOfMachines o node from out before after [] line status
-not_begun before after node from out o is line status h fails same file s are =
-    SegmentRun.stopped (not_restored before file node h.0 from o h.1 (record { system = s; are = are; machine = is }) line status h.2) fails same
+pub not_begun : TextLaw → (before after : Option Files) (node : List ℕ) (from : Option (List ℕ)) (out : List ℕ) (o : Obc) → HasObcForm o.types o.machines → IsMachine node o → (line : List ℕ) (status : ℕ) →
+    NotBegun before o node from line status → status ≢ 0 → after ≡ before → SegmentOfMachines o node from out before after [] line status
+not_begun text_law before after node from out o form is line status h fails same file s are =
+    SegmentRun.stopped (not_restored before file node h.0 from o h.1 (runnable text_law before file node o s form are is) line status h.2) fails same
 
 -- the words of `run` for the same node
 pub as_run : (words : List (List ℕ)) (file node : List ℕ) (from : Option (List ℕ)) (out : List ℕ) → IsSegmentOf words file node from out → IsRunOf (run_words file node) file node
@@ -214,7 +221,7 @@ as_run words file node from out (IsSegmentOf.to_resume w) = record { spelled = r
 -- ---- a call
 
 runnable_of : (files : Option Files) (file node : List ℕ) (o : Obc) (from : Option (List ℕ)) (kept : Memory) (s : System) → Begins files file node o from kept s → IsRunnable files file node o
-runnable_of files file node o from kept s (Begins.from_reset are is) = record { system = s; are = are; machine = is }
+runnable_of files file node o from kept s (Begins.from_reset there) = there
 runnable_of files file node o from kept s (Begins.from_checkpoint there gives is) = there
 
 pub segment_leaves : (words : List (List ℕ)) (before after : Option Files) (file node : List ℕ) (from : Option (List ℕ)) (out : List ℕ) → IsSegmentOf words file node from out →

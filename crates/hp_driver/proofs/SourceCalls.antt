@@ -375,3 +375,21 @@ good_run words files left after log line status good h r f g =
     let source = good.source in
     run_by words source.held good.file good.node source.text good.program good.asked (subst (λ z. Gives z good.file source.text) source.folder source.gives) source.judged source.arrangeable good.contracts good.uncontrolled good.there
     good.input after log line status good.lines (subst (λ z. HeardFrom z after log) good.console h) (subst (λ z. Outcome words z log line status) source.folder r) f g
+
+-- what is run takes what the node takes
+pub good_kinds : (words : List (List ℕ)) (files : Option Files) (left : Option (List ℕ)) (good : IsGoodRun words files left) (s : System) → IsAskedFor words files s → inputs_of s ≡ input_kinds good.program good.node
+good_kinds words files left good s asked =
+    let source = good.source in
+    system_kinds words source.held good.file good.node source.text good.program good.asked (subst (λ z. Gives z good.file source.text) source.folder source.gives) source.judged source.arrangeable good.contracts good.uncontrolled good.there
+    s (subst (λ z. IsAskedFor words z s) source.folder asked)
+
+-- so no line that is heard of its input has a fault
+pub good_lines : (kinds : List KindData) (input : List ℕ) (left after : Option (List ℕ)) (log : List Event) (bad_line : BadLine) → left ≡ Some input → first_bad kinds 1 (lines_of true input) ≡ None → HeardFrom left after log →
+    first_bad kinds 1 (lines_of (has_ended log) (heard log)) ≡ Some bad_line → ⊥
+good_lines kinds input left after log bad_line console good h e = by after (subst (λ z. HeardFrom z after log) console h)
+  where
+    by : (rest : Option (List ℕ)) → HeardFrom (Some input) rest log → ⊥
+    by None k = let lost = k.0 in cc
+    by (Some rest) k =
+        let split : input ≡ heard log ++ rest = (let lost = k.0 in cc) in
+        no_bad_line kinds (has_ended log) (heard log) rest bad_line k.1 (subst (λ z. first_bad kinds 1 (lines_of true z) ≡ None) split good) e

@@ -22,6 +22,10 @@ pub record IsCheckpointOf (o : Obc) (node : List ℕ) (memory : Memory) (text : 
   pub kinded : HasKinds (machine_keeps o node) memory
   pub spelled : text ≡ memory_text o.types node (flattened memory)
 
+-- It is that of some memory of the machine.
+abbrev pub IsTaken : Obc → List ℕ → List ℕ → Type 0
+IsTaken o node text = (memory : Memory) × IsCheckpointOf o node memory text
+
 -- The text of a checkpoint is refused: it is none, from a place on; or it does not fit the machine of this name.
 abbrev pub RefusesCheckpoint : Obc → List ℕ → List ℕ → MemErr → Type 0
 RefusesCheckpoint o node text (Syntax span) = IsNoCheckpoint text span

@@ -1,8 +1,8 @@
--- Calls of which nothing is wrong: those that are to run a machine or a node to the end of the input, those that are to check a program or to write its machines, and those that are to write a certificate or to verify one.
+-- Calls of which nothing is wrong: those that are to run a machine or a node to the end of the input, those that are to check a program or to write its machines, those that are to write a certificate or to verify one, and those that are to leave a checkpoint.
 use Rattle.std.specs.Prelude.{◌≡◌, ◌≤◌, length, ℕ, Bool, true, false, IsTrue, List, reverse, Option, None, Some, IsSome, is_some}
 use Rattle.hp_abstract.specs.Machines.{IsMachineOf}
 use Rattle.hp_base.specs.Limits.{most}
-use Rattle.hp_base.specs.declared.limit.What.TheVariants.{Size}
+use Rattle.hp_base.specs.declared.limit.What.TheVariants.{Size, Text}
 use Rattle.hp_boolx.specs.Machine.{Machine}
 use Rattle.hp_cert.specs.declared.checking.Proved.{Proved}
 use Rattle.hp_compile.specs.Arranged.{IsArrangeable, IsArranged}
@@ -11,17 +11,20 @@ use Rattle.law_decided.specs.Acceptable.{IsDecidable, AreAcceptable}
 use Rattle.hp_io.specs.Faults.{Faults, IsCalm}
 use Rattle.hp_io.specs.Files.{Files}
 use Rattle.hp_obc.specs.Machines.{Obc}
+use Rattle.hp_obctext.specs.declared.memory.error.MemErr.{MemErr}
 use Rattle.hp_tree.specs.Meaning.{node_among}
 use Rattle.hp_tree.specs.Programs.{Node}
 use Rattle.hp_tree.specs.declared.program.Item.{Item}
 use Rattle.hp_verdicts.specs.Decided.{IsLong, IsProof, has_contract, is_wide_contract}
 use Rattle.hp_verdicts.specs.Verified.{Shows}
+use Rattle.hp_driver.specs.Checkpoints.{IsTaken, RefusesCheckpoint}
 use Rattle.hp_driver.specs.Controls.{has_controls}
-use Rattle.hp_driver.specs.Command.{IsRunOf, IsCheckOf, IsCompileOf, IsPastOf, IsExecOf, IsProveOf, IsVerifyOf, IsOver, Writes}
+use Rattle.hp_driver.specs.Command.{IsRunOf, IsCheckOf, IsCompileOf, IsPastOf, IsExecOf, IsProveOf, IsVerifyOf, IsSegmentOf, IsOver, Writes}
 use Rattle.hp_driver.specs.Lines.{lines_of}
 use Rattle.hp_driver.specs.NodeKinds.{input_kinds}
 use Rattle.hp_driver.specs.PastOutcome.{unfolded_text}
 use Rattle.hp_driver.specs.Outcome.{Gives, IsHeld, AreMachines, IsMachine}
+use Rattle.hp_driver.specs.Segments.{IsRunnable, run_words}
 use Rattle.hp_driver.specs.Systems.{of_machine, inputs_of}
 use Rattle.hp_driver.specs.Values.{first_bad}
 
@@ -93,6 +96,37 @@ pub record IsGoodRun (words : List (List ℕ)) (files : Option Files) (left : Op
   pub input : List ℕ
   pub console : left ≡ Some input
   pub lines : first_bad (input_kinds program node) 1 (lines_of true input) ≡ None
+
+-- The words ask to run a node from its memory after a reset, or from the one of the checkpoint in a file, and to leave a checkpoint behind the run. To run that node is such a call.
+pub record IsGoodSegment (words : List (List ℕ)) (files : Option Files) (left : Option (List ℕ)) (from : Option (List ℕ)) : Type 0 where
+  pub file : List ℕ
+  pub node : List ℕ
+  pub out : List ℕ
+  pub asked : IsSegmentOf words file node from out
+  pub run : IsGoodRun (run_words file node) files left
+
+abbrev pub IsGoodSave : List (List ℕ) → Option Files → Option (List ℕ) → Type 0
+IsGoodSave words files left = IsGoodSegment words files left None
+
+-- They ask so to resume a run from a file that holds a text, no longer than that of a checkpoint may be.
+pub record IsResume (words : List (List ℕ)) (files : Option Files) (left : Option (List ℕ)) : Type 0 where
+  pub mem : List ℕ
+  pub segment : IsGoodSegment words files left (Some mem)
+  pub text : List ℕ
+  pub gives : Gives files mem text
+  pub short : length text ≤ most Text
+
+-- Each machine that `run` may run for the node takes the text.
+pub record IsGoodResume (words : List (List ℕ)) (files : Option Files) (left : Option (List ℕ)) : Type 0 where
+  pub resume : IsResume words files left
+  pub taken : (o : Obc) → IsRunnable files resume.segment.file resume.segment.node o → IsTaken o resume.segment.node resume.text
+
+-- Some such machine refuses the text.
+pub record IsRefused (files : Option Files) (file node text : List ℕ) : Type 0 where
+  pub o : Obc
+  pub there : IsRunnable files file node o
+  pub cause : MemErr
+  pub refuses : RefusesCheckpoint o node text cause
 
 -- The words ask to write the program of a text without the formulas of its contracts, whatever its names and types are. The text is a program, and what would be written is no longer than a text may be.
 pub record IsGoodPast (words : List (List ℕ)) (files : Option Files) : Type 0 where

@@ -4,10 +4,11 @@ use Rattle.hp_base.specs.Kinds.{KindData}
 use Rattle.hp_io.specs.Files.{Files}
 use Rattle.hp_obc.specs.Machines.{Obc}
 use Rattle.hp_obc.specs.Steps.{Memory, machine_behaviour}
+use Rattle.hp_obctext.specs.declared.memory.error.MemErr.{MemErr}
 use Rattle.hp_driver.specs.Answers.{IsAnswer}
-use Rattle.hp_driver.specs.Checkpoints.{memory_behind}
+use Rattle.hp_driver.specs.Checkpoints.{IsCheckpointOf, IsTaken, RefusesCheckpoint, memory_behind}
 use Rattle.hp_driver.specs.Outcome.{IsMachine}
-use Rattle.hp_driver.specs.Segments.{AreRun}
+use Rattle.hp_driver.specs.Segments.{AreRun, IsRunnable}
 use Rattle.hp_driver.specs.Systems.{System, of_machine, from_memory, inputs_of}
 use Rattle.hp_driver.specs.Values.{first_bad, inputs_until}
 
@@ -38,3 +39,12 @@ JoinedRunLaw =
     (files : Option Files) (file node : List ℕ) (o : Obc) (s : System) (first second : List (List ℕ)) (bytes more : List ℕ) → AreRun files file node o s → IsMachine node o →
     AreGoodLines (inputs_of (of_machine o node)) first second → IsAnswer s first bytes → IsAnswer (from_memory o node (memory_past o node (machine_behaviour o node).reset first)) second more →
     IsAnswer s (first ++ second) (bytes ++ more)
+
+-- A machine that is run refuses no checkpoint of a memory of its own, so none that a run of it left,
+abbrev pub TakenLaw : Type 0
+TakenLaw = (files : Option Files) (file node : List ℕ) (o : Obc) (text : List ℕ) (cause : MemErr) → IsRunnable files file node o → IsTaken o node text → RefusesCheckpoint o node text cause → ⊥
+
+-- and no text is the checkpoint of two of its memories.
+abbrev pub OneMemoryLaw : Type 0
+OneMemoryLaw =
+    (files : Option Files) (file node : List ℕ) (o : Obc) (text : List ℕ) (memory other : Memory) → IsRunnable files file node o → IsCheckpointOf o node memory text → IsCheckpointOf o node other text → memory ≡ other

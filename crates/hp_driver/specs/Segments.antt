@@ -5,6 +5,7 @@ use Rattle.hp_base.specs.declared.limit.What.TheVariants.{Text}
 use Rattle.hp_controlled.specs.Chosen.{IsChosen}
 use Rattle.hp_io.specs.Files.{Files}
 use Rattle.hp_io.specs.declared.console.Event.{Event}
+use Rattle.hp_obc.specs.Form.{HasObcForm}
 use Rattle.hp_obc.specs.Machines.{Obc}
 use Rattle.hp_obc.specs.Steps.{Memory, machine_behaviour}
 use Rattle.hp_obctext.specs.declared.memory.error.MemErr.{MemErr}
@@ -35,15 +36,17 @@ pub data AreRun (files : Option Files) (file node : List ℕ) (o : Obc) : System
   that_choose : (n : Node) → (chosen : AreChosen files file o) → has_controls chosen.program ≡ true → node_among chosen.held.clocked node ≡ Some n → IsChosen node o n →
       AreRun files file node o (of_machine o node)
 
--- It is there, and within the limits of what is executed.
+-- It is there, within the limits of what is executed, and takes the inputs of what is run; and the machines have form.
 pub record IsRunnable (files : Option Files) (file node : List ℕ) (o : Obc) : Type 0 where
   pub system : System
   pub are : AreRun files file node o system
   pub machine : IsMachine node o
+  pub inputs : inputs_of (of_machine o node) ≡ inputs_of system
+  pub form : HasObcForm o.types o.machines
 
 -- What is run begins with a memory of the machine: that after a reset, or the one for which the checkpoint in a file stands.
 pub data Begins (files : Option Files) (file node : List ℕ) (o : Obc) : Option (List ℕ) → Memory → System → Type 0 where
-  from_reset : {s : System} → AreRun files file node o s → IsMachine node o → Begins files file node o None (machine_behaviour o node).reset s
+  from_reset : (there : IsRunnable files file node o) → Begins files file node o None (machine_behaviour o node).reset there.system
   from_checkpoint : {mem text : List ℕ} {memory : Memory} → IsRunnable files file node o → Gives files mem text → IsCheckpointOf o node memory text →
       Begins files file node o (Some mem) memory (from_memory o node memory)
 

@@ -210,6 +210,8 @@ fn run_from<F: Folder, C: Console, E: Sink>(
     machines_run_the_nodes_of_texts();
     machines_keep_contracts();
     let Runnable { machines, mut exec } = runnable;
+    // The types and the machines have form.
+    let _types = machines.types();
     if let Err(status) = begin(alloc, &machines, &mut exec, segment, files, diag) {
         return status;
     }

@@ -17,13 +17,15 @@ use crate::execution::Execution;
 use crate::machines::report_large;
 use crate::refuse::report_no_node;
 use crate::report::report;
+use crate::resources::Resources;
 use crate::run::run_trace;
 use crate::source::write_machines;
 use crate::status::Status;
 use crate::telling::{Ending, Telling};
 use hp_controlled::{ControlledErr, controlled_machines, is_chosen, is_told};
-use hp_exec::{Exec, ExecErr};
+use hp_exec::ExecErr;
 use hp_io::{Console, Folder, Sink};
+use hp_native::{Answers, NativeExec};
 use hp_obc::Obc;
 use hp_tree::{Node, Program};
 use std::alloc::{AllocError, Global};
@@ -53,8 +55,8 @@ pub(crate) fn report_choosing<E: Sink>(alloc: Global, diag: &mut E, error: ExecE
 }
 
 /// Runs the machine of this name on the trace that the console gives.
-fn run_chosen<C: Console, E: Sink>(
-    alloc: Global,
+fn run_chosen<N: Answers, C: Console, E: Sink>(
+    resources: &Resources<'_, N>,
     machines: &Obc,
     name: &str,
     console: &mut C,
@@ -66,19 +68,19 @@ fn run_chosen<C: Console, E: Sink>(
     ensures takes { TakeFaults (code_of result) (C.take_faults console.old) (C.take_faults console.new) }
     ensures puts { BothPutFaults (code_of result) (C.put_faults console.old) (C.put_faults console.new) (E.faults diag.old) (E.faults diag.new) }
 {
-    let exec = match Exec::new(alloc, machines, name) {
+    let exec = match NativeExec::new(resources.alloc, machines, name, resources.natives) {
         Ok(exec) => exec,
-        Err(error) => return report_choosing(alloc, diag, error),
+        Err(error) => return report_choosing(resources.alloc, diag, error),
     };
-    let Ok(mut execution) = Execution::new(alloc, exec) else {
+    let Ok(mut execution) = Execution::new(resources.alloc, exec) else {
         return Status::NoMemory;
     };
-    run_trace(alloc, &mut execution, console, diag)
+    run_trace(resources.alloc, &mut execution, console, diag)
 }
 
 /// Runs the machine of this name on the trace, and tells behind its outputs what is assumed and enforced.
-fn tell_chosen<C: Console, E: Sink>(
-    alloc: Global,
+fn tell_chosen<N: Answers, C: Console, E: Sink>(
+    resources: &Resources<'_, N>,
     machines: &Obc,
     name: &str,
     ending: Ending,
@@ -91,19 +93,19 @@ fn tell_chosen<C: Console, E: Sink>(
     ensures takes { TakeFaults (code_of result) (C.take_faults console.old) (C.take_faults console.new) }
     ensures puts { BothPutFaults (code_of result) (C.put_faults console.old) (C.put_faults console.new) (E.faults diag.old) (E.faults diag.new) }
 {
-    let exec = match Exec::new(alloc, machines, name) {
+    let exec = match NativeExec::new(resources.alloc, machines, name, resources.natives) {
         Ok(exec) => exec,
-        Err(error) => return report_choosing(alloc, diag, error),
+        Err(error) => return report_choosing(resources.alloc, diag, error),
     };
-    let Ok(mut telling) = Telling::new(alloc, exec, ending) else {
+    let Ok(mut telling) = Telling::new(resources.alloc, exec, ending) else {
         return Status::NoMemory;
     };
-    run_trace(alloc, &mut telling, console, diag)
+    run_trace(resources.alloc, &mut telling, console, diag)
 }
 
 /// Runs the machine of a node, if it has the inputs and outputs of the node.
-fn run_node<C: Console, E: Sink>(
-    alloc: Global,
+fn run_node<N: Answers, C: Console, E: Sink>(
+    resources: &Resources<'_, N>,
     machines: &Obc,
     node: &Node,
     name: &str,
@@ -119,12 +121,12 @@ fn run_node<C: Console, E: Sink>(
     if !is_chosen(machines, name, node) {
         return report(diag, NOT_BUILT, Status::Refused);
     }
-    run_chosen(alloc, machines, name, console, diag)
+    run_chosen(resources, machines, name, console, diag)
 }
 
 /// Runs the node of this name, of an ordered program whose contracts are kept, on the trace that the console gives.
-pub(crate) fn run_choosing<C: Console, E: Sink>(
-    alloc: Global,
+pub(crate) fn run_choosing<N: Answers, C: Console, E: Sink>(
+    resources: &Resources<'_, N>,
     ordered: &Program,
     node: &str,
     console: &mut C,
@@ -136,18 +138,18 @@ pub(crate) fn run_choosing<C: Console, E: Sink>(
     ensures puts { BothPutFaults (code_of result) (C.put_faults console.old) (C.put_faults console.new) (E.faults diag.old) (E.faults diag.new) }
 {
     let Some(found) = node_named(ordered, node) else {
-        return report_no_node(alloc, diag, node);
+        return report_no_node(resources.alloc, diag, node);
     };
-    match controlled_machines(alloc, ordered) {
-        Ok(machines) => run_node(alloc, &machines, found, node, console, diag),
+    match controlled_machines(resources.alloc, ordered) {
+        Ok(machines) => run_node(resources, &machines, found, node, console, diag),
         Err(ControlledErr::NotBuilt) => report(diag, NOT_BUILT, Status::Refused),
         Err(ControlledErr::OutOfMemory) => Status::NoMemory,
     }
 }
 
 /// Runs the node, which has no contract, on the trace, and tells behind its outputs that what it assumes and enforces is true.
-fn tell_plain<C: Console, E: Sink>(
-    alloc: Global,
+fn tell_plain<N: Answers, C: Console, E: Sink>(
+    resources: &Resources<'_, N>,
     machines: &Obc,
     node: &Node,
     name: &str,
@@ -164,12 +166,12 @@ fn tell_plain<C: Console, E: Sink>(
     if !is_chosen(machines, name, node) {
         return report(diag, NOT_BUILT, Status::Refused);
     }
-    tell_chosen(alloc, machines, name, Ending::Kept, console, diag)
+    tell_chosen(resources, machines, name, Ending::Kept, console, diag)
 }
 
 /// Runs the node, which has a contract, on the trace, and tells behind its outputs what that assumes and enforces.
-fn tell_contract<C: Console, E: Sink>(
-    alloc: Global,
+fn tell_contract<N: Answers, C: Console, E: Sink>(
+    resources: &Resources<'_, N>,
     machines: &Obc,
     node: &Node,
     name: &str,
@@ -183,18 +185,18 @@ fn tell_contract<C: Console, E: Sink>(
     ensures takes { TakeFaults (code_of result) (C.take_faults console.old) (C.take_faults console.new) }
     ensures puts { BothPutFaults (code_of result) (C.put_faults console.old) (C.put_faults console.new) (E.faults diag.old) (E.faults diag.new) }
 {
-    let Ok(told) = contract_name(alloc, name) else {
+    let Ok(told) = contract_name(resources.alloc, name) else {
         return Status::NoMemory;
     };
     if !is_told(machines, told.as_str(), node) {
         return report(diag, NOT_BUILT, Status::Refused);
     }
-    tell_chosen(alloc, machines, told.as_str(), Ending::Told, console, diag)
+    tell_chosen(resources, machines, told.as_str(), Ending::Told, console, diag)
 }
 
 /// Runs the node on the trace, and tells behind its outputs what its contract assumes and enforces: true for both where it has none.
-fn tell_node<C: Console, E: Sink>(
-    alloc: Global,
+fn tell_node<N: Answers, C: Console, E: Sink>(
+    resources: &Resources<'_, N>,
     machines: &Obc,
     node: &Node,
     name: &str,
@@ -208,14 +210,14 @@ fn tell_node<C: Console, E: Sink>(
     ensures puts { BothPutFaults (code_of result) (C.put_faults console.old) (C.put_faults console.new) (E.faults diag.old) (E.faults diag.new) }
 {
     match &node.contract {
-        None => tell_plain(alloc, machines, node, name, console, diag),
-        Some(_) => tell_contract(alloc, machines, node, name, console, diag),
+        None => tell_plain(resources, machines, node, name, console, diag),
+        Some(_) => tell_contract(resources, machines, node, name, console, diag),
     }
 }
 
 /// Runs the node of this name, of an ordered program whose contracts are kept, on the trace, and tells behind its outputs what its contract assumes and enforces.
-pub(crate) fn tell_choosing<C: Console, E: Sink>(
-    alloc: Global,
+pub(crate) fn tell_choosing<N: Answers, C: Console, E: Sink>(
+    resources: &Resources<'_, N>,
     ordered: &Program,
     name: &str,
     console: &mut C,
@@ -227,10 +229,10 @@ pub(crate) fn tell_choosing<C: Console, E: Sink>(
     ensures puts { BothPutFaults (code_of result) (C.put_faults console.old) (C.put_faults console.new) (E.faults diag.old) (E.faults diag.new) }
 {
     let Some(node) = node_named(ordered, name) else {
-        return report_no_node(alloc, diag, name);
+        return report_no_node(resources.alloc, diag, name);
     };
-    match controlled_machines(alloc, ordered) {
-        Ok(machines) => tell_node(alloc, &machines, node, name, console, diag),
+    match controlled_machines(resources.alloc, ordered) {
+        Ok(machines) => tell_node(resources, &machines, node, name, console, diag),
         Err(ControlledErr::NotBuilt) => report(diag, NOT_BUILT, Status::Refused),
         Err(ControlledErr::OutOfMemory) => Status::NoMemory,
     }

@@ -9,31 +9,32 @@ use crate::trace_limits::Reactor;
 use hp_base::{Signature, Value};
 use hp_exec::Exec;
 use hp_lines::{LineErr, line_room, read_line, write_line};
+use hp_native::Steps;
 use std::alloc::{AllocError, Global};
 use std::marker::Model;
 
 /// A machine with room for the inputs and the outputs of a step. Contracts see the executor.
 #[derive(Drop)]
-pub(crate) struct Execution {
-    exec: Exec,
+pub(crate) struct Execution<S: Steps> {
+    exec: S,
     inputs: Vec<Value>,
     outputs: Vec<Value>,
     /// The length of the longest line of the outputs.
     room: usize,
 }
 
-impl Model for Execution {
+impl<S: Steps> Model for Execution<S> {
     ghost use Rattle.hp_exec.specs.Executors.{Executor, executor_code};
 
     ghost Value = { Executor };
 
     ghost coded = { executor_code };
 
-    ghost use Rattle.hp_driver.specs.ExecutionView.{execution_seen, IsFit};
+    ghost use Rattle.hp_driver.specs.ExecutionView.{IsFit};
 
-    ghost view = { execution_seen };
+    ghost view = { λ e. S.executor e.exec };
 
-    ghost invariant = { IsFit };
+    ghost invariant = { λ e. IsFit (S.executor e.exec) e.inputs.items e.outputs.items e.room };
 }
 
 /// Room for the inputs and for the outputs of a step.
@@ -49,11 +50,11 @@ pub(crate) fn room_for(
     Ok((inputs, outputs))
 }
 
-impl Execution {
-    pub(crate) fn new(alloc: Global, exec: Exec) -> Result<Execution, AllocError>
-        requires few { HaveFewConstructors (kinds_of exec.signature.inputs) }
-        requires behaves { HasBehaviour exec }
-        ensures { IfOk result (λ e. e ≡ exec) }
+impl<S: Steps + Drop> Execution<S> {
+    pub(crate) fn new(alloc: Global, exec: S) -> Result<Execution<S>, AllocError>
+        requires few { HaveFewConstructors (kinds_of (S.executor exec).signature.inputs) }
+        requires behaves { HasBehaviour (S.executor exec) }
+        ensures { IfOk result (λ e. e ≡ S.executor exec) }
     {
         let (inputs, outputs) = room_for(alloc, exec.signature())?;
         let room = line_room(exec.signature());
@@ -64,7 +65,9 @@ impl Execution {
             room,
         })
     }
+}
 
+impl Execution<Exec> {
     /// What the machine keeps, in the order of `Exec::memory`.
     pub(crate) fn memory(&self) -> &[Value]
         ensures { result.now ≡ self.now.values }
@@ -73,7 +76,7 @@ impl Execution {
     }
 }
 
-impl Reactor for Execution {
+impl<S: Steps> Reactor for Execution<S> {
     ghost use Rattle.hp_driver.specs.Executing.{executing};
 
     ghost machine = { executing };

@@ -1,6 +1,6 @@
 //! Laws on calls. The functions here do nothing: each is a law, which its contract states.
 ghost use Rattle.hp_driver.specs.GoodCalls.{PlainLaw, ProvedLaw};
-ghost use Rattle.hp_driver.specs.Joined.{JoinedLaw, JoinedRunLaw};
+ghost use Rattle.hp_driver.specs.Joined.{JoinedLaw, JoinedRunLaw, OneMemoryLaw, TakenLaw};
 ghost use Rattle.hp_driver.specs.Written.{WrittenLaw};
 
 use hp_controlled::{machines_do_the_same_among_others, own_machines_do_the_same};
@@ -39,3 +39,9 @@ pub fn stopped_runs_are_joined()
     machines_run_the_nodes_of_texts();
     machines_keep_contracts();
 }
+
+/// A machine that is run takes the checkpoint of each of its memories, and no text is the checkpoint of two.
+pub fn checkpoints_are_memories()
+    ensures taken { TakenLaw }
+    ensures one { OneMemoryLaw }
+{}

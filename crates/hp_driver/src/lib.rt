@@ -9,9 +9,11 @@ mod execution;
 mod follow;
 mod laws;
 mod machines;
+mod ordering;
 mod past;
 mod refuse;
 mod report;
+mod resources;
 mod run;
 mod runnable;
 mod source;
@@ -27,7 +29,9 @@ pub use laws::{
     plain_programs_are_good, stopped_runs_are_joined, written_certificates_are_good,
     written_machines_agree_with_nodes,
 };
+pub use ordering::run_tool_with_order;
+pub use resources::Extras;
 pub use status::Status;
 pub use system::run_on_system;
-pub use tool::run_tool;
+pub use tool::{run_tool, run_tool_with};
 pub use trace_limits::MAX_LINES;

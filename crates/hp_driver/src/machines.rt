@@ -13,11 +13,13 @@ use crate::diagnostic::{executor_line, place_line};
 use crate::execution::Execution;
 use crate::refuse::{report_limit, report_no_node};
 use crate::report::report;
+use crate::resources::Resources;
 use crate::run::run_trace;
 use crate::status::Status;
 use hp_base::{Limit, Span};
-use hp_exec::{Exec, ExecErr};
+use hp_exec::ExecErr;
 use hp_io::{Console, Sink};
+use hp_native::{Answers, NativeExec};
 use hp_obc::Obc;
 use hp_obctext::{ObcErr, read_obc};
 use law_decided::machines_keep_contracts;
@@ -82,8 +84,8 @@ pub(crate) fn report_machine<E: Sink>(
 }
 
 /// Runs the machine of this name, among these machines, on the trace that the console gives.
-pub(crate) fn run_machines<C: Console, E: Sink>(
-    alloc: Global,
+pub(crate) fn run_machines<N: Answers, C: Console, E: Sink>(
+    resources: &Resources<'_, N>,
     machines: &Obc,
     node: &str,
     console: &mut C,
@@ -98,19 +100,19 @@ pub(crate) fn run_machines<C: Console, E: Sink>(
     // Laws: machines of a program run its nodes, and keep contracts.
     machines_run_the_nodes_of_texts();
     machines_keep_contracts();
-    let exec = match Exec::new(alloc, machines, node) {
+    let exec = match NativeExec::new(resources.alloc, machines, node, resources.natives) {
         Ok(exec) => exec,
-        Err(error) => return report_machine(alloc, diag, node, error),
+        Err(error) => return report_machine(resources.alloc, diag, node, error),
     };
-    let Ok(mut execution) = Execution::new(alloc, exec) else {
+    let Ok(mut execution) = Execution::new(resources.alloc, exec) else {
         return Status::NoMemory;
     };
-    run_trace(alloc, &mut execution, console, diag)
+    run_trace(resources.alloc, &mut execution, console, diag)
 }
 
 /// Runs the machine of this name, of the text of machines that was read, on the trace that the console gives.
-pub(crate) fn run_machine<C: Console, E: Sink>(
-    alloc: Global,
+pub(crate) fn run_machine<N: Answers, C: Console, E: Sink>(
+    resources: &Resources<'_, N>,
     text: &[u8],
     node: &str,
     console: &mut C,
@@ -121,8 +123,8 @@ pub(crate) fn run_machine<C: Console, E: Sink>(
     ensures takes { TakeFaults (code_of result) (C.take_faults console.old) (C.take_faults console.new) }
     ensures puts { BothPutFaults (code_of result) (C.put_faults console.old) (C.put_faults console.new) (E.faults diag.old) (E.faults diag.new) }
 {
-    match read_obc(alloc, text) {
-        Ok(machines) => run_machines(alloc, &machines, node, console, diag),
-        Err(error) => report_text(alloc, diag, &error),
+    match read_obc(resources.alloc, text) {
+        Ok(machines) => run_machines(resources, &machines, node, console, diag),
+        Err(error) => report_text(resources.alloc, diag, &error),
     }
 }

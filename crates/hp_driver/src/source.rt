@@ -20,6 +20,7 @@ use crate::choosing::{compile_choosing, run_choosing, tell_choosing};
 use crate::follow::say;
 use crate::machines::run_machines;
 use crate::refuse::{report_contract, report_refusal};
+use crate::resources::Resources;
 use crate::status::Status;
 use crate::words::Task;
 use hp_cause::Ordered;
@@ -27,6 +28,7 @@ use hp_compile::{arrange, judge};
 use hp_controlled::{ControlledErr, machines_with_contracts};
 use hp_io::{Console, Folder, Sink, WriteErr};
 use hp_machines::{MachineErr, machines};
+use hp_native::Answers;
 use hp_obc::Obc;
 use hp_obctext::print_obc;
 use hp_print::print;
@@ -167,8 +169,8 @@ fn check_program<C: Console, E: Sink>(
 }
 
 /// Runs the machine of the node of this name, in an ordered program, on the trace that the console gives.
-fn run_ordered<C: Console, E: Sink>(
-    alloc: Global,
+fn run_ordered<N: Answers, C: Console, E: Sink>(
+    resources: &Resources<'_, N>,
     ordered: Ordered,
     node: &str,
     console: &mut C,
@@ -182,16 +184,16 @@ fn run_ordered<C: Console, E: Sink>(
 {
     // A law: nothing is in the way of the machines.
     machines_of_texts_are_built();
-    match machines(alloc, ordered.program) {
-        Ok(machines) => run_machines(alloc, &machines, node, console, diag),
+    match machines(resources.alloc, ordered.program) {
+        Ok(machines) => run_machines(resources, &machines, node, console, diag),
         Err(MachineErr::NotBuilt) => unreachable!(),
         Err(MachineErr::OutOfMemory) => Status::NoMemory,
     }
 }
 
 /// Runs the node of this name, of a program, if its contracts are kept. Where the program has no controllable variables, its machine is the one that is proved to be the node's.
-fn run_decided<C: Console, E: Sink>(
-    alloc: Global,
+fn run_decided<N: Answers, C: Console, E: Sink>(
+    resources: &Resources<'_, N>,
     program: &Program,
     ordered: Ordered,
     node: &str,
@@ -206,18 +208,18 @@ fn run_decided<C: Console, E: Sink>(
 {
     // A law: what is found of contracts says so of their games.
     outcomes_are_so();
-    if let Err(error) = decide(alloc, &ordered.program) {
-        return report_contract(alloc, diag, &error);
+    if let Err(error) = decide(resources.alloc, &ordered.program) {
+        return report_contract(resources.alloc, diag, &error);
     }
     if has_controls(program) {
-        return run_choosing(alloc, &ordered.program, node, console, diag);
+        return run_choosing(resources, &ordered.program, node, console, diag);
     }
-    run_ordered(alloc, ordered, node, console, diag)
+    run_ordered(resources, ordered, node, console, diag)
 }
 
 /// Runs the node of this name, in the program, on the trace that the console gives.
-fn run_program<C: Console, E: Sink>(
-    alloc: Global,
+fn run_program<N: Answers, C: Console, E: Sink>(
+    resources: &Resources<'_, N>,
     program: &Program,
     node: &str,
     console: &mut C,
@@ -229,15 +231,15 @@ fn run_program<C: Console, E: Sink>(
     ensures takes { TakeFaults (code_of result) (C.take_faults console.old) (C.take_faults console.new) }
     ensures puts { BothPutFaults (code_of result) (C.put_faults console.old) (C.put_faults console.new) (E.faults diag.old) (E.faults diag.new) }
 {
-    match arrange(alloc, program) {
-        Ok(ordered) => run_decided(alloc, program, ordered, node, console, diag),
-        Err(refusal) => report_refusal(alloc, diag, &refusal),
+    match arrange(resources.alloc, program) {
+        Ok(ordered) => run_decided(resources, program, ordered, node, console, diag),
+        Err(refusal) => report_refusal(resources.alloc, diag, &refusal),
     }
 }
 
 /// Runs the node of this name, and tells what its contract assumes and enforces, of a program whose contracts are kept.
-fn tell_decided<C: Console, E: Sink>(
-    alloc: Global,
+fn tell_decided<N: Answers, C: Console, E: Sink>(
+    resources: &Resources<'_, N>,
     program: &Program,
     ordered: &Program,
     node: &str,
@@ -252,15 +254,15 @@ fn tell_decided<C: Console, E: Sink>(
 {
     // A law: what is found of contracts says so of their games.
     outcomes_are_so();
-    if let Err(error) = decide(alloc, ordered) {
-        return report_contract(alloc, diag, &error);
+    if let Err(error) = decide(resources.alloc, ordered) {
+        return report_contract(resources.alloc, diag, &error);
     }
-    tell_choosing(alloc, ordered, node, console, diag)
+    tell_choosing(resources, ordered, node, console, diag)
 }
 
 /// Runs the node of this name, in the program, on the trace that the console gives, and tells what its contract assumes and enforces.
-fn tell_program<C: Console, E: Sink>(
-    alloc: Global,
+fn tell_program<N: Answers, C: Console, E: Sink>(
+    resources: &Resources<'_, N>,
     program: &Program,
     node: &str,
     console: &mut C,
@@ -272,9 +274,9 @@ fn tell_program<C: Console, E: Sink>(
     ensures takes { TakeFaults (code_of result) (C.take_faults console.old) (C.take_faults console.new) }
     ensures puts { BothPutFaults (code_of result) (C.put_faults console.old) (C.put_faults console.new) (E.faults diag.old) (E.faults diag.new) }
 {
-    match arrange(alloc, program) {
-        Ok(ordered) => tell_decided(alloc, program, &ordered.program, node, console, diag),
-        Err(refusal) => report_refusal(alloc, diag, &refusal),
+    match arrange(resources.alloc, program) {
+        Ok(ordered) => tell_decided(resources, program, &ordered.program, node, console, diag),
+        Err(refusal) => report_refusal(resources.alloc, diag, &refusal),
     }
 }
 
@@ -426,8 +428,8 @@ fn compile_program<F: Folder, E: Sink>(
 }
 
 /// Does the task with the source text that was read.
-pub(crate) fn run_source<F: Folder, C: Console, E: Sink>(
-    alloc: Global,
+pub(crate) fn run_source<N: Answers, F: Folder, C: Console, E: Sink>(
+    resources: &Resources<'_, N>,
     task: Task<'_>,
     text: &[u8],
     files: &mut F,
@@ -442,14 +444,14 @@ pub(crate) fn run_source<F: Folder, C: Console, E: Sink>(
     ensures writes { OutputFaults (RoseInWrite task.entry (F.write_faults files.old) (F.write_faults files.new))
         (code_of result) (F.write_faults files.old) (F.write_faults files.new) (C.put_faults console.old) (C.put_faults console.new) (E.faults diag.old) (E.faults diag.new) }
 {
-    let program = match judge(alloc, text) {
+    let program = match judge(resources.alloc, text) {
         Ok(program) => program,
-        Err(refusal) => return report_refusal(alloc, diag, &refusal),
+        Err(refusal) => return report_refusal(resources.alloc, diag, &refusal),
     };
     match task {
-        Task::Run { node } => run_program(alloc, &program, node, console, diag),
-        Task::Tell { node } => tell_program(alloc, &program, node, console, diag),
-        Task::Check { print } => check_program(alloc, &program, print, console, diag),
-        Task::Compile { out } => compile_program(alloc, &program, out, files, diag),
+        Task::Run { node } => run_program(resources, &program, node, console, diag),
+        Task::Tell { node } => tell_program(resources, &program, node, console, diag),
+        Task::Check { print } => check_program(resources.alloc, &program, print, console, diag),
+        Task::Compile { out } => compile_program(resources.alloc, &program, out, files, diag),
     }
 }

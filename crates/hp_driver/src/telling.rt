@@ -12,8 +12,8 @@ ghost use Rattle.hp_driver.specs.Telling.{count_before, shown_kinds, shown_value
 use crate::execution::room_for;
 use crate::trace_limits::Reactor;
 use hp_base::{Kind, MAX_NAME, Name, Signature, Value, copy_names};
-use hp_exec::Exec;
 use hp_lines::{LineErr, line_room, read_line, write_line};
+use hp_native::Steps;
 use std::alloc::{AllocError, Global};
 use std::marker::Model;
 
@@ -33,8 +33,8 @@ const ENFORCED: u16 = 65_535;
 
 /// A machine with room for the inputs, and for the outputs and the two words of a step. Contracts see the executor and the ending.
 #[derive(Drop)]
-pub(crate) struct Telling {
-    exec: Exec,
+pub(crate) struct Telling<S: Steps> {
+    exec: S,
     inputs: Vec<Value>,
     outputs: Vec<Value>,
     ending: Ending,
@@ -46,18 +46,18 @@ pub(crate) struct Telling {
     room: usize,
 }
 
-impl Model for Telling {
-    ghost use Rattle.hp_driver.specs.Teller.{Teller, teller_code};
+impl<S: Steps> Model for Telling<S> {
+    ghost use Rattle.hp_driver.specs.Teller.{Teller, teller, teller_code};
 
     ghost Value = { Teller };
 
     ghost coded = { teller_code };
 
-    ghost use Rattle.hp_driver.specs.TellingView.{teller_seen, IsTelling};
+    ghost use Rattle.hp_driver.specs.TellingView.{IsTelling};
 
-    ghost view = { teller_seen };
+    ghost view = { λ t. teller (S.executor t.exec) t.ending };
 
-    ghost invariant = { IsTelling };
+    ghost invariant = { λ t. IsTelling (S.executor t.exec) t.ending t.inputs.items t.outputs.items t.shown.items t.words t.room };
 }
 
 /// How many outputs stand before the words.
@@ -187,11 +187,11 @@ fn shown_for(
     Ok((shown, words))
 }
 
-impl Telling {
-    pub(crate) fn new(alloc: Global, exec: Exec, ending: Ending) -> Result<Telling, AllocError>
-        requires few { HaveFewConstructors (kinds_of exec.signature.inputs) }
-        requires behaves { HasBehaviour exec }
-        ensures { IfOk result (λ t. t ≡ teller exec ending) }
+impl<S: Steps + Drop> Telling<S> {
+    pub(crate) fn new(alloc: Global, exec: S, ending: Ending) -> Result<Telling<S>, AllocError>
+        requires few { HaveFewConstructors (kinds_of (S.executor exec).signature.inputs) }
+        requires behaves { HasBehaviour (S.executor exec) }
+        ensures { IfOk result (λ t. t ≡ teller (S.executor exec) ending) }
     {
         let (inputs, outputs) = room_for(alloc, exec.signature())?;
         let (shown, words) = shown_for(alloc, ending, exec.signature())?;
@@ -208,7 +208,7 @@ impl Telling {
     }
 }
 
-impl Reactor for Telling {
+impl<S: Steps> Reactor for Telling<S> {
     ghost use Rattle.hp_driver.specs.Teller.{telling};
     ghost use Rattle.hp_driver.specs.Telling.{shown_kinds};
 

@@ -1,4 +1,4 @@
-//! Natives: functions that answer calls of machines in place of their steps. Invariant: a native gives what the step of its machine gives, in every file, so a run with natives is the run without. No other crate uses it yet.
+//! Natives: functions that answer calls of machines in place of their steps. Invariant: a native gives what the step of its machine gives, in every file, so a run with natives is the run without. Used by `hp_driver`.
 #![tactic(auto)]
 
 mod commands;
@@ -15,4 +15,4 @@ pub use linked::{Linked, link};
 pub use native::{Answer, Answers, Native};
 pub use order::{give_greater, give_lesser, max_machine, min_machine};
 pub use simple::plain;
-pub use stepping::{NativeExec, links_change_nothing, step_natively};
+pub use stepping::{NativeExec, Steps, links_change_nothing, step_natively};

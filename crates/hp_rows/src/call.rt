@@ -1,9 +1,9 @@
 //! One call of the tool over objects in memory, or over the system.
 use crate::bytes::add_text;
-use crate::fields::{numbers_in, object_in, strings_in, text_in};
+use crate::fields::{is_set, numbers_in, object_in, strings_in, text_in};
 use crate::malformed::Malformed;
 use crate::stream::Stream;
-use hp_driver::{run_on_system, run_tool};
+use hp_driver::{run_on_system, run_tool, run_tool_with_order};
 use hp_io::{MemConsole, MemFolder, MemSink};
 use serde_json::Value;
 use std::alloc::Global;
@@ -55,21 +55,6 @@ pub fn folder(alloc: Global, row: &Value) -> Result<MemFolder, Malformed> {
     Ok(MemFolder::new(files(alloc, row)?, fails))
 }
 
-/// Calls the tool with these words over objects in memory.
-fn call_over(
-    alloc: Global,
-    words: &[String],
-    files: &mut MemFolder,
-    console: &mut MemConsole,
-    sink: &mut MemSink,
-) -> Result<Done, Malformed> {
-    let status = run_tool(alloc, words, files, console, sink);
-    Ok(Done {
-        said: console.said(alloc)?,
-        diagnostics: Vec::from_slice(alloc, sink.bytes())?,
-        status,
-    })
-}
 
 /// Calls the tool as a step of a row says.
 pub fn call(
@@ -81,7 +66,16 @@ pub fn call(
     let words = strings_in(alloc, step, "words")?;
     let mut console = console(alloc, row, step)?;
     let mut sink = MemSink::new(numbers_in(alloc, row, "sink_fails")?);
-    call_over(alloc, words.as_slice(), files, &mut console, &mut sink)
+    let status = if is_set(step, "natives") {
+        run_tool_with_order(alloc, words.as_slice(), files, &mut console, &mut sink)
+    } else {
+        run_tool(alloc, words.as_slice(), files, &mut console, &mut sink)
+    };
+    Ok(Done {
+        said: console.said(alloc)?,
+        diagnostics: Vec::from_slice(alloc, sink.bytes())?,
+        status,
+    })
 }
 
 /// Calls the tool as a step of a row says, over the files of the system and streams that stand in for the standard ones.

@@ -32,6 +32,11 @@ pub fn number_in(object: &Value, field: &'static str) -> Result<u64, Malformed> 
     }
 }
 
+/// Whether a field is there, and is true.
+pub fn is_set(object: &Value, field: &str) -> bool {
+    object.get(field).and_then(Value::as_bool) == Some(true)
+}
+
 /// The object in a field, if there is such a field.
 pub fn object_in<'a>(
     object: &'a Value,

@@ -2,7 +2,7 @@
 use crate::bytes::add_text;
 use crate::call::{Done, call, call_on_system, folder};
 use crate::fault::{Fault, differs};
-use crate::fields::{has_only, items_in, number_in, object_in, text_in};
+use crate::fields::{has_only, is_set, items_in, number_in, object_in, text_in};
 use crate::malformed::Malformed;
 use hp_io::{Folder, MemFolder};
 use serde_json::Value;
@@ -19,9 +19,10 @@ const ROW_FIELDS: [&str; 7] = [
     "sink_fails",
 ];
 
-const STEP_FIELDS: [&str; 10] = [
+const STEP_FIELDS: [&str; 11] = [
     "words",
     "system",
+    "natives",
     "input",
     "said",
     "diagnostics",
@@ -123,11 +124,6 @@ fn compare_done(alloc: Global, step: &Value, done: &Done, files: &MemFolder) -> 
     compare_not_held(alloc, step, files)
 }
 
-/// Whether a step is a call over the system.
-fn is_on_system(step: &Value) -> bool {
-    step.get("system").and_then(Value::as_bool) == Some(true)
-}
-
 fn run_step(
     rt: &(impl Files + AllocGlobal),
     row: &Value,
@@ -138,7 +134,7 @@ fn run_step(
         return Err(Fault::Malformed(Malformed::UnknownField));
     }
     let alloc = rt.alloc();
-    let done = if is_on_system(step) {
+    let done = if is_set(step, "system") {
         call_on_system(rt, step)?
     } else {
         call(alloc, row, step, files)?

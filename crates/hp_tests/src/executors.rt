@@ -8,7 +8,7 @@ use std::alloc::Global;
 use std::process::Abort;
 use std::test::Fail;
 
-const DELAY: &[u8] =
+pub(crate) const DELAY: &[u8] =
     b"obc 1 machine f in ( x : bool ) out ( y : bool ) var ( ) mem ( m : bool = false ) inst ( ) step set y m set m x end";
 
 /// A machine that calls a negation.
@@ -21,14 +21,14 @@ fn machine(alloc: Global, text: &[u8], name: &str) -> Result<Exec, Fail> {
     Ok(Exec::new(alloc, &obc, name)?)
 }
 
-fn input_count(exec: &Exec) -> usize
+pub(crate) fn input_count(exec: &Exec) -> usize
     ensures { result ≡ length exec.now.signature.inputs }
 {
     let signature = exec.signature();
     signature.inputs.len()
 }
 
-fn output_count(exec: &Exec) -> usize
+pub(crate) fn output_count(exec: &Exec) -> usize
     ensures { result ≡ length exec.now.signature.outputs }
 {
     let signature = exec.signature();
@@ -36,7 +36,7 @@ fn output_count(exec: &Exec) -> usize
 }
 
 /// What a step of a machine with one input and one output gives.
-fn stepped(exec: &mut Exec, input: bool) -> Value {
+pub(crate) fn stepped(exec: &mut Exec, input: bool) -> Value {
     let mut outputs = [Value::Absent];
     if input_count(exec) == 1 && output_count(exec) == 1 {
         exec.step(&[Value::B(input)], &mut outputs);

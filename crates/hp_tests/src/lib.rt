@@ -1,8 +1,10 @@
-//! The tests of all crates that no row of `hp_rows` can show: objects of the outside, tokens, trees, printed texts, executors, diagrams and machines of contracts. Invariant: no other crate has a test. Used by the gate alone.
+//! The tests of all crates that no row of `hp_rows` can show: objects of the outside, tokens, trees, printed texts, executors, natives, diagrams and machines of contracts. Invariant: no other crate has a test. Used by the gate alone.
 #![tactic(auto)]
 
 #[cfg(test)]
 mod canonical;
+#[cfg(test)]
+mod checkpoints;
 #[cfg(test)]
 mod contracts;
 #[cfg(test)]
@@ -13,6 +15,8 @@ mod edge;
 mod executors;
 #[cfg(test)]
 mod machine_texts;
+#[cfg(test)]
+mod natives;
 #[cfg(test)]
 mod outside;
 #[cfg(test)]

@@ -1,4 +1,4 @@
-use Rattle.std.proofs.Common.{[], map, inl, inr, sym, subst, rules, arith, refl}
+use Rattle.std.proofs.Common.{[], map, inl, inr, sym, subst, rules, arith}
 use Rattle.std.proofs.lemmas.Option.{MatchOption-at_none, MatchOption-at_some}
 use Rattle.hp_io.specs.Faults.{AllSame}
 use Rattle.hp_io.proofs.FaultLaws.{Same-refl, AllSame-trans}
@@ -17,18 +17,11 @@ use Rattle.hp_driver.proofs.MachineLaws.{no_command_leaves, not_done_or_not, rea
 use Rattle.hp_driver.proofs.ReadingLaws.{read_none, read_nothing, read_on}
 use Rattle.hp_driver.proofs.OutcomeLaws.{first_of, told_of, told_or_not, over_of, too_long_of}
 use Rattle.hp_driver.specs.Status.{code_of}
+use Rattle.hp_driver.proofs.StatusLaws.{nothing_done}
 use Rattle.hp_driver.proofs.tool.perform_command.Goals as goal
 
 pub returns-in_default : goal.returns-in_default
-returns-in_default g c =
-    let words = map string_bytes c.args.words.now in
-    record {
-      outcome = ([], [], Grows-nil (g.C.Console.events c.args.console.now), heard_nothing (g.C.Console.left c.args.console.now), Grows-nil (g.E.Sink.took c.args.diag.now), CallOutcome.no_memory);
-      leaves = Leaves.as_they_were refl (λ out w h. omega (arith, h));
-      readings = read_none words (g.F.Folder.reads c.args.files.now).gave;
-      reads = (search rules, search rules);
-      writes = (search rules, search rules);
-    }
+returns-in_default g c = nothing_done (map string_bytes c.args.words.now) _
 
 pub returns-in_default-found : goal.returns-in_default-found
 returns-in_default-found g c =

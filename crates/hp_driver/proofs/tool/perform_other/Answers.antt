@@ -1,27 +1,17 @@
-use Rattle.std.proofs.Common.{[], inr, map, refl, arith, rules}
+use Rattle.std.proofs.Common.{inr, map}
 use Rattle.std.specs.String.{string_bytes}
 use Rattle.std.proofs.lemmas.Option.{MatchOption-at_some}
 use Rattle.hp_io.proofs.FaultLaws.{AllSame-refl}
-use Rattle.hp_io.proofs.ToldLaws.{Grows-nil}
 use Rattle.hp_driver.specs.Command.{IsSweepOf}
-use Rattle.hp_driver.specs.Leaves.{Leaves}
 use Rattle.hp_driver.specs.Segments.{CallOutcome}
 use Rattle.hp_driver.specs.Status.{code_of}
 use Rattle.hp_driver.proofs.MachineLaws.{sweep_leaves}
-use Rattle.hp_driver.proofs.RanLaws.{heard_nothing}
 use Rattle.hp_driver.proofs.ReadingLaws.{read_none}
+use Rattle.hp_driver.proofs.StatusLaws.{nothing_done}
 use Rattle.hp_driver.proofs.tool.perform_other.Goals as goal
 
 pub returns-in_default : goal.returns-in_default
-returns-in_default g c =
-    let words = map string_bytes c.args.words.now in
-    record {
-      outcome = ([], [], Grows-nil (g.C.Console.events c.args.console.now), heard_nothing (g.C.Console.left c.args.console.now), Grows-nil (g.E.Sink.took c.args.diag.now), CallOutcome.no_memory);
-      leaves = Leaves.as_they_were refl (λ out w h. omega (arith, h));
-      readings = read_none words (g.F.Folder.reads c.args.files.now).gave;
-      reads = (search rules, search rules);
-      writes = (search rules, search rules);
-    }
+returns-in_default g c = nothing_done (map string_bytes c.args.words.now) _
 
 pub returns-in-Some : goal.returns-in-Some
 returns-in-Some g c =

@@ -5,10 +5,11 @@ use Rattle.hp_driver.proofs.ContractCalls.{good_prove, good_verify}
 use Rattle.hp_driver.proofs.PastCalls.{good_past}
 use Rattle.hp_driver.proofs.ReadingLaws.{calm_call}
 use Rattle.hp_driver.proofs.SourceCalls.{good_check, good_compile, good_run}
+use Rattle.hp_driver.proofs.SegmentCalls.{good_resume, good_save, resume_ends}
 use Rattle.hp_driver.proofs.SegmentLaws.{command_outcome}
 use Rattle.hp_driver.proofs.StatusLaws.{numbered}
 use Rattle.hp_driver.proofs.WordLaws.{check_segment, compile_segment, exec_segment, past_segment, prove_segment, run_segment, verify_segment}
-use Rattle.hp_driver.proofs.tool.run_tool.Goals as goal
+use Rattle.hp_driver.proofs.tool.run_tool_with.Goals as goal
 
 pub returns-clause-outcome : goal.returns-clause-outcome
 returns-clause-outcome g c = (numbered c.code.ensures c.perform.ensures).outcome
@@ -59,6 +60,24 @@ returns-clause-complete_run g c =
     let other = command_outcome (map string_bytes c.args.words.now) (g.F.Folder.files c.args.files.now) (g.F.Folder.files c.perform.new.files) in
     λ good f h. good_run (map string_bytes c.args.words.now) (g.F.Folder.files c.args.files.now) (g.C.Console.left c.args.console.now) (g.C.Console.left c.perform.new.console)
     ran.0 ran.1 c.code.result good ran.3 (other ran.0 ran.1 c.code.result (run_segment (map string_bytes c.args.words.now) good.file good.node good.asked) ran.5) f h
+
+pub returns-clause-complete_save : goal.returns-clause-complete_save
+returns-clause-complete_save g c =
+    let ran = (numbered c.code.ensures c.perform.ensures).outcome in
+    λ good f h. good_save (map string_bytes c.args.words.now) (g.F.Folder.files c.args.files.now) (g.F.Folder.files c.perform.new.files) (g.C.Console.left c.args.console.now) (g.C.Console.left c.perform.new.console)
+    good ran.0 ran.1 c.code.result ran.3 ran.5 f h
+
+pub returns-clause-complete_resume : goal.returns-clause-complete_resume
+returns-clause-complete_resume g c =
+    let ran = (numbered c.code.ensures c.perform.ensures).outcome in
+    λ good f h. good_resume (map string_bytes c.args.words.now) (g.F.Folder.files c.args.files.now) (g.F.Folder.files c.perform.new.files) (g.C.Console.left c.args.console.now) (g.C.Console.left c.perform.new.console)
+    good ran.0 ran.1 c.code.result ran.3 ran.5 f h
+
+pub returns-clause-refused_resume : goal.returns-clause-refused_resume
+returns-clause-refused_resume g c =
+    let ran = (numbered c.code.ensures c.perform.ensures).outcome in
+    λ good f h. resume_ends (map string_bytes c.args.words.now) (g.F.Folder.files c.args.files.now) (g.F.Folder.files c.perform.new.files) (g.C.Console.left c.args.console.now) (g.C.Console.left c.perform.new.console)
+    good ran.0 ran.1 c.code.result ran.3 ran.5 f h
 
 pub returns-clause-complete_past : goal.returns-clause-complete_past
 returns-clause-complete_past g c =

@@ -1,0 +1,21 @@
+use Rattle.std.proofs.Common.{map}
+use Rattle.std.specs.String.{string_bytes}
+use Rattle.hp_driver.proofs.StatusLaws.{nothing_done, numbered}
+use Rattle.hp_driver.proofs.ordering.run_tool_with_order.Goals as goal
+
+pub returns-in_default : goal.returns-in_default
+returns-in_default g c = numbered c.code.ensures (nothing_done (map string_bytes c.args.words.now) _)
+
+pub returns-in_default-2 : goal.returns-in_default-2
+returns-in_default-2 g c = numbered c.code.ensures (nothing_done (map string_bytes c.args.words.now) _)
+
+pub returns-in_default-3 : goal.returns-in_default-3
+returns-in_default-3 g c = numbered c.code.ensures (nothing_done (map string_bytes c.args.words.now) _)
+
+pub returns-in_default-4 : goal.returns-in_default-4
+returns-in_default-4 g c = numbered c.code.ensures (nothing_done (map string_bytes c.args.words.now) _)
+
+pub returns : goal.returns
+returns g c =
+    let done = c.run_tool_with.ensures in
+    record { outcome = done.outcome; leaves = done.leaves; readings = done.readings; reads = (done.read_fault, done.no_read_fault); writes = (done.write_fault, done.no_write_fault) }
