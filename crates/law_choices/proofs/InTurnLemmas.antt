@@ -1,0 +1,7 @@
+mod Calls
+mod Contracted
+mod Names
+pub mod Programs
+mod Said
+mod Telling
+mod Types

@@ -1,0 +1,31 @@
+//! Laws: the nodes that are made of a program, of which those with contracts choose the values of their controllable variables, stand in turn and mean what the program allows.
+//!
+//! The functions here do nothing: each is a law, which its contract states.
+#![tactic(auto)]
+
+ghost use Rattle.law_choices.specs.InTurn.Laws.{ChoosingProgramLaw, TurnLaw};
+
+use crate::adding::{
+    callees_may_differ_elsewhere, equations_may_be_added, made_nodes_may_be_added_to,
+    watched_nodes_choose,
+};
+use crate::answered::{closed_programs_answer_as_the_program_allows, extended_nodes_close};
+use crate::on_clocks::programs_have_one_meaning;
+use law_equations::fitting::{calls_are_kept, targets_differ};
+
+/// The nodes stand in turn: controllers, nodes that choose, and those that tell what a contract assumes and enforces. Each is well made, and calls those before it alone.
+/// So they have one meaning: each answer is an output of the program's one reaction in which all controllable variables have values of their types.
+pub fn nodes_that_choose_stand_in_turn()
+    ensures turn { TurnLaw }
+    ensures means { ChoosingProgramLaw }
+{
+    callees_may_differ_elsewhere();
+    equations_may_be_added();
+    made_nodes_may_be_added_to();
+    watched_nodes_choose();
+    extended_nodes_close();
+    targets_differ();
+    calls_are_kept();
+    programs_have_one_meaning();
+    closed_programs_answer_as_the_program_allows();
+}
