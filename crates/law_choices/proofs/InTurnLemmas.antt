@@ -4,4 +4,5 @@ mod Names
 pub mod Programs
 mod Said
 mod Telling
+mod Tells
 mod Types

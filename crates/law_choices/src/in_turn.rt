@@ -3,7 +3,7 @@
 //! The functions here do nothing: each is a law, which its contract states.
 #![tactic(auto)]
 
-ghost use Rattle.law_choices.specs.InTurn.Laws.{ChoosingProgramLaw, TurnLaw};
+ghost use Rattle.law_choices.specs.InTurn.Laws.{ChoosingProgramLaw, TellingLaw, TurnLaw, WithinLaw};
 
 use crate::adding::{
     callees_may_differ_elsewhere, equations_may_be_added, made_nodes_may_be_added_to,
@@ -12,12 +12,15 @@ use crate::adding::{
 use crate::answered::{closed_programs_answer_as_the_program_allows, extended_nodes_close};
 use crate::on_clocks::programs_have_one_meaning;
 use law_equations::fitting::{calls_are_kept, targets_differ};
+use law_equations::meaning::nodes_have_one_reaction;
 
 /// The nodes stand in turn: controllers, nodes that choose, and those that tell what a contract assumes and enforces. Each is well made, and calls those before it alone.
-/// So they have one meaning: each answer is an output of the program's one reaction in which all controllable variables have values of their types.
+/// So they have one meaning: each answer is an output of the program's one reaction in which all controllable variables have values of their types; and what tells a contract answers the same, with what is assumed and enforced behind.
 pub fn nodes_that_choose_stand_in_turn()
     ensures turn { TurnLaw }
+    ensures within { WithinLaw }
     ensures means { ChoosingProgramLaw }
+    ensures tells { TellingLaw }
 {
     callees_may_differ_elsewhere();
     equations_may_be_added();
@@ -26,6 +29,7 @@ pub fn nodes_that_choose_stand_in_turn()
     extended_nodes_close();
     targets_differ();
     calls_are_kept();
+    nodes_have_one_reaction();
     programs_have_one_meaning();
     closed_programs_answer_as_the_program_allows();
 }

@@ -8,8 +8,10 @@ use Rattle.hp_boolx.specs.Search.{Bits}
 use Rattle.hp_obc.specs.Form.{has_name}
 use Rattle.hp_obc.specs.Machines.{ObcType}
 use Rattle.hp_obc.specs.declared.command.ObcOp.{ObcOp}
+use Rattle.hp_obc.specs.declared.command.ObcOp.TheVariants.{Or}
 use Rattle.hp_tree.specs.Programs.{Node}
 use Rattle.hp_flat.specs.declared.equation.Atom.{Atom}
+use Rattle.hp_flat.specs.declared.equation.Atom.TheVariants.{Variable as Read}
 use Rattle.hp_flat.specs.declared.node.FlatTy.{FlatTy}
 use Rattle.hp_flat.specs.declared.node.FlatTy.TheVariants.{Bool as Truth, Int, Enum}
 use Rattle.hp_flat.specs.declared.node.Variable.{Variable}
@@ -26,7 +28,7 @@ use Rattle.hp_controller.specs.Gates.{gate_eqns}
 use Rattle.hp_controller.specs.Steps.{register_eqns, asking_eqn, step_eqns, register_places, places}
 use Rattle.hp_watch.specs.declared.watching.Free.{Free}
 use Rattle.hp_watch.specs.Adding.{with_variable, with_eqn, with_operator, with_copy, next_variable, type_at}
-use Rattle.hp_watch.specs.Lifting.{with_each, case_eqn, with_cases, with_step, lifted, with_test, has_bit, with_either, either, with_bit, with_bits, with_code, with_spelling, spelled, width_of, count_of}
+use Rattle.hp_watch.specs.Lifting.{Valued, with_each, case_eqn, with_cases, with_step, lifted, with_test, has_bit, with_either, either, with_bit, with_bits, with_code, with_spelling, spelled, width_of, count_of}
 use Rattle.hp_watch.specs.Embedding.{Site, moved_right, moved_eqn, with_variables, with_inputs, with_moved, with_room, embedded}
 use Rattle.hp_watch.specs.Watching.{Observed, Observing, Placed, called_by, site_of, with_observer, with_called, with_called_at, placed, own_site, Surveyed, surveyed, walked, clock_of, spelled_place, Watched, with_place, with_places, unwatched, IsWatched}
 use Rattle.law_choices.proofs.AddingLemmas.Adding.{both}
@@ -98,10 +100,13 @@ module _ (names : List (List ℕ)) where
 
   -- ---- bits
 
+  abbrev GoodValue : Valued → Type 0
+  GoodValue v = Good v.node
+
   either_step : (k place bit test : ℕ) (n : FlatNode) → Good n → Good (with_either k place bit test n).node
   either_step k place bit test n g = by (has_bit k place)
     where
-      by : (b : Bool) → Good (if b then record { node = with_operator Truth _ _ n; value = next_variable n } else record { node = n; value = bit }).node
+      by : (b : Bool) → GoodValue (if b then record { node = with_operator Truth Or (Read bit ∷ Read test ∷ []) n; value = next_variable n } else record { node = n; value = bit })
       by true = operator_good Truth _ _ n g
       by false = g
 

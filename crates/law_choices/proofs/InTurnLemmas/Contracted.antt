@@ -18,7 +18,7 @@ use Rattle.law_equations.specs.Followed.Programs.{CallsAmong, CallsOnly}
 use Rattle.law_equations.specs.Made.Laws.{unplaced}
 use Rattle.law_equations.specs.Meaning.Kinding.{Callees, constructors, kind_of_type, variable_kind, HasValue, kinds_at, IsWellMade}
 use Rattle.law_equations.specs.Meaning.Reactions.{Answers, inputs_of}
-use Rattle.law_equations.specs.Meaning.Scheduling.{AreBelow, IsRanked}
+use Rattle.law_equations.specs.Meaning.Scheduling.{AreBelow, IsRanked, IsWithin}
 use Rattle.law_equations.specs.Shaped.Shaped.{IsHeaded}
 use Rattle.hp_controller.specs.declared.decoding.Control.{Control}
 use Rattle.hp_controller.specs.declared.decoding.ControlKind.{ControlKind}
@@ -41,7 +41,7 @@ use Rattle.law_choices.proofs.AddingLemmas.Rows.{each_range}
 use Rattle.law_choices.specs.InTurn.Calling.{CallNothing}
 use Rattle.law_choices.specs.InTurn.Nodes.{Contracted, controller_name, telling, IsOfType, AreOfTypes, IsOwn, IsContracted}
 use Rattle.law_choices.proofs.InTurnLemmas.Calls.{calls_among, calls_nothing, stateless_calls, copy_good, watched_good, controlled_good}
-use Rattle.law_choices.proofs.InTurnLemmas.Telling.{copy_outputs, telling_well}
+use Rattle.law_choices.proofs.InTurnLemmas.Telling.{copy_outputs, telling_well, telling_in_range}
 
 -- the laws that are joined here
 pub record NodeLaws : Type 0 where
@@ -200,7 +200,7 @@ module _ (laws : NodeLaws) (types : List ObcType) (all : Callees) (observers : O
       let count = is.count in
       record { machine = is.is_machine; inputs = omega (arith, same, inputs, count); variables = i.inputs; within = i.eqns; as_many = is.early; bits = is.bits; widths = is.widths }
 
-  chooses : IsWellMade types all c.chosen.node × ((answers : Answers) → IsClosed answers (length controls) (record { plant = c.plant; closed = c.chosen.node }))
+  pub chooses : IsWellMade types all c.chosen.node × IsWithin c.chosen.node × ((answers : Answers) → IsClosed answers (length controls) (record { plant = c.plant; closed = c.chosen.node }))
   chooses = laws.choosing types all clock observers node is.is_early c.plant is.watched g.bytes of_node g.suit is.is_watched m (controller_name node.name) controls c.chosen.node can asked_for kinds is.whole
 
   abbrev asking : FlatNode
@@ -229,9 +229,12 @@ module _ (laws : NodeLaws) (types : List ObcType) (all : Callees) (observers : O
   pub telling_is_well : IsWellMade types all (telling c.chosen)
   telling_is_well = let whole = is.whole in telling_well types all asking whole.assume whole.enforce c.chosen whole.placed is.assume is.enforce chooses.0
 
+  pub telling_within : IsWithin (telling c.chosen)
+  telling_within = let whole = is.whole in telling_in_range types all asking whole.assume whole.enforce c.chosen whole.placed is.assume is.enforce chooses.1
+
   -- ---- the node that stands for it
 
-  plant_well : IsWellMade types all c.plant
+  pub plant_well : IsWellMade types all c.plant
   plant_well = let b = of_node.based in laws.ordered types all clock c.plant b.well g.ranked
 
   pub own_well : IsWellMade types all c.own
@@ -241,8 +244,15 @@ module _ (laws : NodeLaws) (types : List ObcType) (all : Callees) (observers : O
       by [] e = subst (IsWellMade types all) (sym e) plant_well
       by (k ∷ ks) e = subst (IsWellMade types all) (sym e) chooses.0
 
+  pub own_within : IsWithin c.own
+  own_within = by controls is.own
+    where
+      by : (cs : List Control) → IsOwn cs c → IsWithin c.own
+      by [] e = let b = of_node.based in let w = b.well in subst IsWithin (sym e) w.within
+      by (k ∷ ks) e = subst IsWithin (sym e) chooses.1
+
   pub own_closes : (answers : Answers) → IsClosed answers (length controls) (record { plant = c.plant; closed = c.own })
-  own_closes answers = by controls is.own (chooses.1 answers)
+  own_closes answers = by controls is.own (chooses.2 answers)
     where
       by : (cs : List Control) → IsOwn cs c → IsClosed answers (length cs) (record { plant = c.plant; closed = c.chosen.node }) → IsClosed answers (length cs) (record { plant = c.plant; closed = c.own })
       by [] e h = let b = of_node.based in let w = b.well in let i = w.within in subst (λ (n : FlatNode). IsClosed answers 0 (record { plant = c.plant; closed = n })) (sym e) (laws.itself c.plant i.inputs answers)
@@ -269,7 +279,7 @@ module _ (laws : NodeLaws) (types : List ObcType) (all : Callees) (observers : O
   own_named = let k = own_closes (λ f args earlier. []) in let l = k.loop in l.name ∙ g.named
 
   pub chosen_named : c.chosen.node.name ≡ node.name
-  chosen_named = let k = chooses.1 (λ f args earlier. []) in let l = k.loop in l.name ∙ g.named
+  chosen_named = let k = chooses.2 (λ f args earlier. []) in let l = k.loop in l.name ∙ g.named
 
   pub own_is_headed : IsHeaded types all c.own
   own_is_headed =
@@ -279,3 +289,12 @@ module _ (laws : NodeLaws) (types : List ObcType) (all : Callees) (observers : O
       let i = w.within in
       let count = is.count in
       own_headed types all (length controls) (length node.inputs) (record { plant = c.plant; closed = c.own }) k.loop (omega (arith, inputs, count)) own_outputs i.outputs of_node.takes of_node.gives
+
+  pub chosen_is_headed : IsHeaded types all c.chosen.node
+  chosen_is_headed =
+      let k = chooses.2 (λ f args earlier. []) in
+      let b = of_node.based in
+      let w = b.well in
+      let i = w.within in
+      let count = is.count in
+      own_headed types all (length controls) (length node.inputs) (record { plant = c.plant; closed = c.chosen.node }) k.loop (omega (arith, inputs, count)) chosen_outputs i.outputs of_node.takes of_node.gives

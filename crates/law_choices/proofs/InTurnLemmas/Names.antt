@@ -13,11 +13,11 @@ use Rattle.law_choices.specs.InTurn.Nodes.{controller_name, contract_name}
 
 sign_new : (x y : List ℕ) → is_new (x ++ 36 ∷ y) ≡ true
 sign_new [] y = refl
-sign_new (b ∷ bs) y = by (nat_eq b dollar)
+sign_new (b ∷ bs) y = by (nat_eq b dollar) (sign_new bs y)
   where
-    by : (t : Bool) → (if t then true else is_new (bs ++ 36 ∷ y)) ≡ true
-    by true = refl
-    by false = sign_new bs y
+    by : (t : Bool) → is_new (bs ++ 36 ∷ y) ≡ true → (if t then true else is_new (bs ++ 36 ∷ y)) ≡ true
+    by true h = refl
+    by false h = h
 
 pub controller_new : (f : List ℕ) → is_new (controller_name f) ≡ true
 controller_new f = sign_new f (codes "ctl")

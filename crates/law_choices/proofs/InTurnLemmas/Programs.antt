@@ -22,11 +22,12 @@ use Rattle.hp_flat.specs.declared.node.Variable.{Variable}
 use Rattle.hp_flat.specs.Equations.{Right, operator, register, called, FlatEqn}
 use Rattle.hp_flat.specs.Nodes.{FlatNode}
 use Rattle.law_equations.specs.Fitting.Fitting.{CallsLaw, TargetsLaw}
-use Rattle.law_equations.specs.Followed.Programs.{CallsAmong, CallsOnly}
+use Rattle.law_equations.specs.Followed.Programs.{CallsAmong, CallsOnly, Answered}
 use Rattle.law_equations.specs.Made.Making.{Known, flat_type, outputs_of}
 use Rattle.law_equations.specs.Made.Types.{obc_types}
-use Rattle.law_equations.specs.Meaning.Kinding.{Callees, HasValue, kind_of_type, variable_kind, kinds_at, IsWellMade}
+use Rattle.law_equations.specs.Meaning.Kinding.{Callees, HasValue, kind_of_type, variable_kind, kinds_at, IsWellMade, AnswersOfKinds, OneReactionLaw}
 use Rattle.law_equations.specs.Meaning.Reactions.{Answers, inputs_of}
+use Rattle.law_equations.specs.Meaning.Scheduling.{IsWithin}
 use Rattle.law_equations.specs.Shaped.Shaped.{IsHeaded}
 use Rattle.hp_complete.specs.Declaring.{known_of}
 use Rattle.hp_complete.specs.Made.{IsMadeOf, AreMadeOf}
@@ -47,12 +48,13 @@ use Rattle.law_choices.specs.Adding.Lifts.{HaveBytes}
 use Rattle.law_choices.specs.Adding.Made.{IsReadyMade, ReadyMadeLaw, BytesLaw}
 use Rattle.law_choices.specs.Adding.Surveyed.{AllSuit}
 use Rattle.law_choices.specs.InTurn.Calling.{CallNothing}
-use Rattle.law_choices.specs.InTurn.Laws.{said_of, IsChoosing, TurnLaw, ChoosingProgramLaw}
+use Rattle.law_choices.specs.InTurn.Laws.{said_of, IsChoosing, TurnLaw, WithinLaw, ChoosingProgramLaw, Tells, TellingLaw}
 use Rattle.law_choices.specs.InTurn.Nodes.{Contracted, Made, plain, contracted, controller_name, contract_name, telling, IsMade, AreAllMade, loop_of, loops, nodes_of, all_nodes, besides, also_said, all_said, IsContracted}
 use Rattle.law_choices.proofs.InTurnLemmas.Calls.{calls_among}
-use Rattle.law_choices.proofs.InTurnLemmas.Contracted.{NodeLaws, Ground, controller_well, controller_calls, telling_is_well, own_well, own_closes, own_calls, telling_calls, own_named, chosen_named, own_is_headed}
+use Rattle.law_choices.proofs.InTurnLemmas.Contracted.{NodeLaws, Ground, controller_well, controller_calls, telling_is_well, telling_within, own_well, own_within, own_closes, own_calls, telling_calls, own_named, chosen_named, own_is_headed}
 use Rattle.law_choices.proofs.InTurnLemmas.Names.{right_of, AllNames, no_names, names_plain, names_contracted, fresh_controller, fresh_own, fresh_contract, controller_new, contract_new}
 use Rattle.law_choices.proofs.InTurnLemmas.Said.{SaySame, passed, said_own, said_old, said_some}
+use Rattle.law_choices.proofs.InTurnLemmas.Tells.{told}
 use Rattle.law_choices.proofs.InTurnLemmas.Types.{types_same}
 
 -- the laws that are joined here
@@ -147,6 +149,9 @@ module _ (laws : TurnLaws) (types : List ObcType) (k : Known) (enums : Enumerati
       pub plain_well : IsWellMade types all f
       plain_well = let nodes = laws.nodes in let b = based in nodes.ordered types all r.clock f b.well made.ranked
 
+      pub plain_within : IsWithin f
+      plain_within = let b = based in let w = b.well in w.within
+
       pub plain_headed : IsHeaded types all f
       plain_headed =
           let o = of_node in
@@ -168,9 +173,14 @@ module _ (laws : TurnLaws) (types : List ObcType) (k : Known) (enums : Enumerati
   abbrev AllSame : List (List ℕ) → List Made → Type 0
   AllSame names ms = (f : List ℕ) → has_name names f ≡ false → SaySame (also_said types (flat_map besides ms) callees) all f
 
+  -- what is known of a node with a contract, and what is said of the node that tells it
+  abbrev Grounded : Made → Type 0
+  Grounded (plain f) = ⊤
+  Grounded (contracted c) = (n : Node) × Ground types all observers n c × IsHeaded types all (telling c.chosen)
+
   -- what is made of the rest of the nodes, behind nodes of some names
   abbrev Stand : List (List ℕ) → List Made → Type 0
-  Stand names ms = AreInTurn types all names (all_nodes ms) × ((answers : Answers) → AllByRecursion (Closes answers) (loops ms))
+  Stand names ms = AreInTurn types all names (all_nodes ms) × AllByRecursion IsWithin (all_nodes ms) × AllByRecursion Grounded ms × ((answers : Answers) → AllByRecursion (Closes answers) (loops ms))
 
   -- so it is behind one more node
   abbrev Rest : List (List ℕ) → List (List ℕ) → List Made → Type 0
@@ -178,25 +188,27 @@ module _ (laws : TurnLaws) (types : List ObcType) (k : Known) (enums : Enumerati
 
   module _ (names everything : List (List ℕ)) (a : AllNames names everything) (n : Node) (f : FlatNode) (t : IsTurned types k names (lowered_node enums n) f) (made : IsMadeOf k (lowered_node enums n) f) (r : IsReadyMade types callees f) (sign : is_new n.name ≡ false)
       where
-    named : f.name ≡ n.name
-    named = made.name
+    first_named : f.name ≡ n.name
+    first_named = made.name
 
-    plain_name : is_new f.name ≡ false
-    plain_name = ap is_new named ∙ sign
+    first_plain : is_new f.name ≡ false
+    first_plain = ap is_new first_named ∙ sign
 
     -- ---- behind a node without a contract
 
     pub stands_plain : (ms : List Made) → n.contract ≡ None → AllSame everything (plain f ∷ ms) → Rest (f.name ∷ names) (f.name ∷ everything) ms → Stand everything (plain f ∷ ms)
     stands_plain ms none same rest =
-        let behind = rest (names_plain names everything a f.name plain_name) (λ x h. same x (neither (bytes_eq f.name x) (has_name everything x) h).1) in (
+        let behind = rest (names_plain names everything a f.name first_plain) (λ x h. same x (neither (bytes_eq f.name x) (has_name everything x) h).1) in (
           (
-            plain_well names n f t made r a.old plain_name none,
-            plain_headed names n f t made r a.old plain_name none,
-            a.own f.name plain_name t.new,
+            plain_well names n f t made r a.old first_plain none,
+            plain_headed names n f t made r a.old first_plain none,
+            a.own f.name first_plain t.new,
             calls_among names everything a.among f.eqns t.calls,
             behind.0,
           ),
-          λ answers. (plain_closes names n f t made r a.old plain_name none answers, behind.1 answers),
+          (plain_within names n f t made r a.old first_plain none, behind.1),
+          (tt, behind.2),
+          λ answers. (plain_closes names n f t made r a.old first_plain none answers, behind.3 answers),
         )
 
   -- ---- behind one with a contract
@@ -236,7 +248,7 @@ module _ (laws : TurnLaws) (types : List ObcType) (k : Known) (enums : Enumerati
         let own = said_own types callees ctl (tell ∷ others) in
         record { takes = said.0 ∙ own.takes; gives = said.1 ∙ own.gives }
 
-    ground : Ground types all observers n c
+    abbrev ground : Ground types all observers n c
     ground = record {
       clock = r.clock;
       bytes = bytes;
@@ -312,6 +324,9 @@ module _ (laws : TurnLaws) (types : List ObcType) (k : Known) (enums : Enumerati
     closes answers =
         subst (λ z. IsClosed answers z (record { plant = c.plant; closed = c.own })) (is.count ∙ sym (count_is names n c.plant t made r a.old plain_name)) (own_closes laws.nodes types all observers n c ground answers)
 
+    controller_within : IsWithin ctl
+    controller_within = let q = is.controller in q.within
+
     pub stands_contracted : Rest (f ∷ names) (contract_name f ∷ f ∷ controller_name f ∷ everything) ms → Stand everything (contracted c ∷ ms)
     stands_contracted rest =
         let behind = subst (λ xs. Stand xs ms) three_names (rest (names_contracted names everything a f plain_name) same_behind) in (
@@ -328,14 +343,16 @@ module _ (laws : TurnLaws) (types : List ObcType) (k : Known) (enums : Enumerati
               (telling_is_well laws.nodes types all observers n c ground, tell_headed, new_tell, calls_of_tell, behind.0),
             ),
           ),
-          λ answers. (closes answers, behind.1 answers),
+          (controller_within, (own_within laws.nodes types all observers n c ground, (telling_within laws.nodes types all observers n c ground, behind.1))),
+          ((n, ground, tell_headed), behind.2),
+          λ answers. (closes answers, behind.3 answers),
         )
 
   -- ---- behind all nodes so far
 
   stands : (items : List Item) (ms : List Made) (names everything : List (List ℕ)) → AreTurned types k names (map (lowered_item enums) items) (plants (loops ms)) → AreMadeOf k (map (lowered_item enums) items) (plants (loops ms)) → AreAllMade types observers items ms
       → EachNode (λ (n : Node). is_new n.name ≡ false) items → AllByRecursion (IsReadyMade types callees) (plants (loops ms)) → Rest names everything ms
-  stands [] [] names everything turned made is signs ready a same = (tt, λ answers. tt)
+  stands [] [] names everything turned made is signs ready a same = (tt, tt, tt, λ answers. tt)
   stands [] (m ∷ ms) names everything turned made is signs ready a same = absurd is
   stands (TypeItem d ∷ items) ms names everything turned made is signs ready a same = stands items ms names everything turned made is signs ready a same
   stands (NodeItem n ∷ items) [] names everything turned made is signs ready a same = absurd is
@@ -352,6 +369,16 @@ module _ (laws : TurnLaws) (types : List ObcType) (k : Known) (enums : Enumerati
       by : (o : Option Contract) → IsMade types observers n o (contracted c) → Rest (c.plant.name ∷ names) (contract_name c.plant.name ∷ c.plant.name ∷ controller_name c.plant.name ∷ everything) ms → Stand everything (contracted c ∷ ms)
       by None i rest = absurd i
       by (Some o) i rest = stands_contracted names everything a n c turned.0 made.0 ready.0 signs.0 i ms same rest
+
+  -- ---- contracts are told
+
+  module _ (one : OneReactionLaw) (answers : Answers) (typed : AnswersOfKinds answers all) where
+    tells : (ms : List Made) → AllByRecursion (Answered answers all.takes) (all_nodes ms) → AllByRecursion Grounded ms → AllByRecursion (Tells all answers) ms
+    tells [] given known = tt
+    tells (plain f ∷ ms) given known = (tt, tells ms given.1 known.1)
+    tells (contracted c ∷ ms) given known =
+        let it = known.0 in
+        (told types all one answers typed laws.nodes observers it.0 c it.1 it.2 given.1.0 given.1.1.0, tells ms given.1.1.1 known.1)
 
 -- ---- what stands for no node of the program has a sign in its name
 
@@ -402,12 +429,14 @@ module _ (laws : TurnLaws) (program after : List Item) (observers : Observing) (
   have_bytes : HaveBytes types
   have_bytes = laws.bytes types (subst (λ (ts : List TypeDecl). TypesForm (obc_types ts)) (sym (types_same program after h.ready)) h.form)
 
-  all_stand : AreInTurn types all [] (all_nodes ms) × ((answers : Answers) → AreClosed answers (controls_in after) (loops ms))
+  all_old : (f : List ℕ) → is_new f ≡ false → SaySame (callees_of after) all f
+  all_old f e = said_old types (callees_of after) (flat_map besides ms) f (besides_new types observers after ms h.made) e
+
+  all_stand : AreInTurn types all [] (all_nodes ms) × AllByRecursion IsWithin (all_nodes ms) × AllByRecursion (Grounded laws types (known_of low) (enumerations [] after) observers all have_bytes h.suit h.alone all_old) ms × ((answers : Answers) → AreClosed answers (controls_in after) (loops ms))
   all_stand =
       let nodes = ready_nodes laws.targets laws.calls program after h.ready h.removable h.form h.short (plants (loops ms)) h.equations in
       let made = laws.ready program after h.ready h.removable h.form h.short (plants (loops ms)) h.equations h.within in
-      let signs = besides_new types observers after ms h.made in
-      stands laws types (known_of low) (enumerations [] after) observers all have_bytes h.suit h.alone (λ f e. said_old types (callees_of after) (flat_map besides ms) f signs e) after ms [] [] nodes.turned h.equations h.made h.names made no_names (λ f e. (refl, refl))
+      stands laws types (known_of low) (enumerations [] after) observers all have_bytes h.suit h.alone all_old after ms [] [] nodes.turned h.equations h.made h.names made no_names (λ f e. (refl, refl))
 
   all_some : (f : List ℕ) → AllByRecursion HasSome (all.gives f)
   all_some =
@@ -417,10 +446,19 @@ module _ (laws : TurnLaws) (program after : List Item) (observers : Observing) (
 pub turn_law : TurnLaws → TurnLaw
 turn_law laws program after observers ms h = (all_stand laws program after observers ms h).0
 
+pub within_law : TurnLaws → WithinLaw
+within_law laws program after observers ms h = (all_stand laws program after observers ms h).1
+
 pub choosing_program_law : TurnLaws → MeaningLaw → ClosedProgramLaw → ChoosingProgramLaw
 choosing_program_law laws meaning closed program after ranks observers ms fall h =
     let stand = all_stand laws program after observers ms h in
     let types = obc_types (types_of after) in
     let all = said_of after ms in
     let one = meaning types all (all_nodes ms) stand.0 (all_some laws program after observers ms h) in
-    record { one = one; allowed = closed program after ranks h.ready h.removable fall h.form h.short (loops ms) h.equations all (all_nodes ms) stand.0 (have_closed ms) one (stand.1 one.answers) }
+    record { one = one; allowed = closed program after ranks h.ready h.removable fall h.form h.short (loops ms) h.equations all (all_nodes ms) stand.0 (have_closed ms) one (stand.3 one.answers) }
+
+pub telling_law : TurnLaws → OneReactionLaw → TellingLaw
+telling_law laws one_law program after observers ms h one =
+    let stand = all_stand laws program after observers ms h in
+    let low = lowered_program after in
+    tells laws (obc_types (types_of after)) (known_of low) (enumerations [] after) observers (said_of after ms) (have_bytes laws program after observers ms h) h.suit h.alone (all_old laws program after observers ms h) one_law one.answers one.typed ms one.answered stand.2

@@ -45,8 +45,8 @@ module _ (types : List ObcType) (callees : Callees) where
   pub said_some : (ns : List FlatNode) → AllByRecursion (λ (n : FlatNode). AllByRecursion (λ (v : Variable). HasValue types v.ty) n.variables) ns → ((f : List ℕ) → AllByRecursion HasSome (callees.gives f))
       → (f : List ℕ) → AllByRecursion HasSome ((also_said types ns callees).gives f)
   said_some [] h g f = g f
-  said_some (n ∷ ns) h g f = by (bytes_eq n.name f)
+  said_some (n ∷ ns) h g f = by (bytes_eq n.name f) (said_some ns h.1 g f)
     where
-      by : (b : Bool) → AllByRecursion HasSome (if b then kinds_at types n n.outputs else (also_said types ns callees).gives f)
-      by true = kinds_some types n n.outputs h.0
-      by false = said_some ns h.1 g f
+      by : (b : Bool) → AllByRecursion HasSome ((also_said types ns callees).gives f) → AllByRecursion HasSome (if b then kinds_at types n n.outputs else (also_said types ns callees).gives f)
+      by true later = kinds_some types n n.outputs h.0
+      by false later = later

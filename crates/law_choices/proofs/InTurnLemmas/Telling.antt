@@ -1,5 +1,5 @@
 -- The node that tells what its contract assumes and enforces is well made as the node that chooses.
-use Rattle.std.proofs.Common.{◌≡◌, ℕ, suc, ◌+◌, Bool, true, false, ◌||◌, List, [], ◌∷◌, ◌++◌, refl, sym, ap, subst, ◌∙◌, arith}
+use Rattle.std.proofs.Common.{◌≡◌, ℕ, suc, ◌+◌, ◌<◌, Bool, true, false, ◌||◌, List, [], ◌∷◌, ◌++◌, refl, sym, ap, subst, ◌∙◌, arith}
 use Rattle.std.specs.Prelude.{length, nat_lt}
 use Rattle.std.specs.List.{AllByRecursion}
 use Rattle.std.proofs.lemmas.List.{length-append}
@@ -16,6 +16,7 @@ use Rattle.law_equations.specs.Meaning.Fitting.{IsThere}
 use Rattle.law_equations.specs.Meaning.Instants.{Instant}
 use Rattle.law_equations.specs.Meaning.Kinding.{Callees, OptionallyOf, variable_kind, is_present, IsPossible, ClocksFit, IsWellMade}
 use Rattle.law_equations.specs.Meaning.Reactions.{is_set}
+use Rattle.law_equations.specs.Meaning.Scheduling.{IsWithin}
 use Rattle.hp_watch.specs.Adding.{added_variable, with_eqn, with_variable, with_copy, next_variable}
 use Rattle.law_choices.proofs.ClosedLemmas.Clocking.{kind_there}
 use Rattle.law_choices.proofs.AnsweredLemmas.ControlledLoops.{set_front, set_behind, copy_set}
@@ -89,4 +90,14 @@ module _ (types : List ObcType) (callees : Callees) (asking : FlatNode) (assume 
     values = w.values;
     kinds = w.kinds;
     fit = λ now p. telling_fits now p (w.fit now p);
+  }
+
+  long : length c.node.variables ≡ suc (suc (length asking.variables))
+  long = ap length placed.variables ∙ copy_next enforce first ∙ ap suc (copy_next assume asking)
+
+  pub telling_in_range : IsWithin c.node → IsWithin (telling c)
+  telling_in_range w = record {
+    inputs = w.inputs;
+    outputs = both (λ x. x < length c.node.variables) c.node.outputs (c.assume ∷ c.enforce ∷ []) w.outputs (omega (arith, long, assumed), (omega (arith, long, assumed, enforced), tt));
+    eqns = w.eqns;
   }

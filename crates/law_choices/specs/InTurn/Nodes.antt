@@ -1,6 +1,6 @@
 -- The nodes that are made of those of a program: one with a contract has a controller, and chooses the values of its controllable variables itself.
 -- Source: own; the controller as a node of its own after Delaval, Marchand and Rutten (LCTES 2010).
-use Rattle.std.specs.Prelude.{◌≡◌, ⊤, codes, ℕ, suc, ◌+◌, if◌then◌else◌, List, [], ◌∷◌, ◌++◌, length, map, Option, None, Some}
+use Rattle.std.specs.Prelude.{◌≡◌, ⊤, codes, Bool, ℕ, suc, ◌+◌, if◌then◌else◌, List, [], ◌∷◌, ◌++◌, length, map, Option, None, Some}
 use Rattle.std.specs.List.{AllByRecursion, flat_map}
 use Rattle.std.specs.Str.{bytes_eq}
 use Rattle.hp_boolx.specs.Machine.{Machine, IsMachine}
