@@ -79,9 +79,9 @@ controls m vars layout placed t funs name at_places numbers are have back named 
       let v : Valued = λ x. false in
       let choice = are v in
       outputs_long name (m.registers + m.early) moved_lines numbers
-          ∙ sym (length-map numbers (λ n. line_function at_places n v))
-          ∙ ap length (have v ∙ sym (functions-mapped t funs v))
-          ∙ choice.len;
+      ∙ sym (length-map numbers (λ n. line_function at_places n v))
+      ∙ ap length (have v ∙ sym (functions-mapped t funs v))
+      ∙ choice.len;
   within = within name (m.registers + m.early) (map (moved (variable layout)) at_places) numbers;
   stateless = lines_stateless (m.registers + m.early) 0 (map (moved (variable layout)) at_places) (output_eqns (m.registers + m.early) (length (map (moved (variable layout)) at_places)) (length (map (moved (variable layout)) at_places)) numbers) (outputs_stateless (m.registers + m.early) (length (map (moved (variable layout)) at_places)) (length (map (moved (variable layout)) at_places)) numbers);
   well_made = λ types callees. well_made types callees name (m.registers + m.early) (map (moved (variable layout)) at_places) numbers;

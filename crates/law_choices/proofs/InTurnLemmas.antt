@@ -6,3 +6,4 @@ mod Said
 mod Telling
 mod Tells
 mod Types
+pub mod WorkedContract

@@ -1,3 +1,4 @@
 pub mod Nodes
 pub mod Calling
 pub mod Laws
+pub mod Worked

@@ -4,6 +4,7 @@
 #![tactic(auto)]
 
 ghost use Rattle.law_choices.specs.InTurn.Laws.{ChoosingProgramLaw, TellingLaw, TurnLaw, WithinLaw};
+ghost use Rattle.law_choices.specs.InTurn.Worked.{SomeContractedLaw};
 
 use crate::adding::{
     callees_may_differ_elsewhere, equations_may_be_added, made_nodes_may_be_added_to,
@@ -11,6 +12,7 @@ use crate::adding::{
 };
 use crate::answered::{closed_programs_answer_as_the_program_allows, extended_nodes_close};
 use crate::on_clocks::programs_have_one_meaning;
+use hp_controller::lines_give_their_functions;
 use law_equations::fitting::{calls_are_kept, targets_differ};
 use law_equations::meaning::nodes_have_one_reaction;
 
@@ -32,4 +34,11 @@ pub fn nodes_that_choose_stand_in_turn()
     nodes_have_one_reaction();
     programs_have_one_meaning();
     closed_programs_answer_as_the_program_allows();
+}
+
+/// A node whose contract asks for nothing has a controller, is watched, and chooses.
+pub fn a_worked_contract()
+    ensures { SomeContractedLaw }
+{
+    lines_give_their_functions();
 }

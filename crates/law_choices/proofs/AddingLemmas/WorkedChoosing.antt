@@ -15,10 +15,10 @@ use Rattle.law_choices.proofs.AddingLemmas.WorkedSteps.{never, placed_eqns, is_m
 
 -- ---- the node that is watched chooses
 
-watched_unranked : FlatNode
+pub watched_unranked : FlatNode
 watched_unranked = with_copy 5 (with_copy 5 (controlled some_watched.node free_machine (codes "f$ctl") some_watched.early some_watched.late one_control))
 
-watched_ranked : FlatNode
+pub watched_ranked : FlatNode
 watched_ranked = record {
   name = watched_unranked.name;
   variables = watched_unranked.variables;
@@ -45,7 +45,7 @@ watched_controllable = record {
   widths = refl;
 }
 
-watched_whole : IsWhole some_watched.node free_machine (codes "f$ctl") some_watched.early some_watched.late one_control watched_ranked
+pub watched_whole : IsWhole some_watched.node free_machine (codes "f$ctl") some_watched.early some_watched.late one_control watched_ranked
 unfolding watched_ranked watched_unranked placed_eqns with_variable with_eqn
 watched_whole = record {
   assume = 5;

@@ -187,29 +187,29 @@ module _ (laws : TurnLaws) (types : List ObcType) (k : Known) (enums : Enumerati
   Rest names everything ms = AllNames names everything → AllSame everything ms → Stand everything ms
 
   module _ (names everything : List (List ℕ)) (a : AllNames names everything) (n : Node) (f : FlatNode) (t : IsTurned types k names (lowered_node enums n) f) (made : IsMadeOf k (lowered_node enums n) f) (r : IsReadyMade types callees f) (sign : is_new n.name ≡ false)
-      where
-    first_named : f.name ≡ n.name
-    first_named = made.name
+    where
+      first_named : f.name ≡ n.name
+      first_named = made.name
 
-    first_plain : is_new f.name ≡ false
-    first_plain = ap is_new first_named ∙ sign
+      first_plain : is_new f.name ≡ false
+      first_plain = ap is_new first_named ∙ sign
 
-    -- ---- behind a node without a contract
+      -- ---- behind a node without a contract
 
-    pub stands_plain : (ms : List Made) → n.contract ≡ None → AllSame everything (plain f ∷ ms) → Rest (f.name ∷ names) (f.name ∷ everything) ms → Stand everything (plain f ∷ ms)
-    stands_plain ms none same rest =
-        let behind = rest (names_plain names everything a f.name first_plain) (λ x h. same x (neither (bytes_eq f.name x) (has_name everything x) h).1) in (
-          (
-            plain_well names n f t made r a.old first_plain none,
-            plain_headed names n f t made r a.old first_plain none,
-            a.own f.name first_plain t.new,
-            calls_among names everything a.among f.eqns t.calls,
-            behind.0,
-          ),
-          (plain_within names n f t made r a.old first_plain none, behind.1),
-          (tt, behind.2),
-          λ answers. (plain_closes names n f t made r a.old first_plain none answers, behind.3 answers),
-        )
+      pub stands_plain : (ms : List Made) → n.contract ≡ None → AllSame everything (plain f ∷ ms) → Rest (f.name ∷ names) (f.name ∷ everything) ms → Stand everything (plain f ∷ ms)
+      stands_plain ms none same rest =
+          let behind = rest (names_plain names everything a f.name first_plain) (λ x h. same x (neither (bytes_eq f.name x) (has_name everything x) h).1) in (
+            (
+              plain_well names n f t made r a.old first_plain none,
+              plain_headed names n f t made r a.old first_plain none,
+              a.own f.name first_plain t.new,
+              calls_among names everything a.among f.eqns t.calls,
+              behind.0,
+            ),
+            (plain_within names n f t made r a.old first_plain none, behind.1),
+            (tt, behind.2),
+            λ answers. (plain_closes names n f t made r a.old first_plain none answers, behind.3 answers),
+          )
 
   -- ---- behind one with a contract
 
