@@ -15,7 +15,7 @@ use Rattle.law_choices.proofs.AddingLemmas.WorkedSteps.{never, placed_eqns, is_m
 
 -- ---- the node that is watched chooses
 
-pub watched_unranked : FlatNode
+watched_unranked : FlatNode
 watched_unranked = with_copy 5 (with_copy 5 (controlled some_watched.node free_machine (codes "f$ctl") some_watched.early some_watched.late one_control))
 
 pub watched_ranked : FlatNode

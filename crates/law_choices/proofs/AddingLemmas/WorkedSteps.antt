@@ -146,7 +146,7 @@ some_controlled_law = (
 
 -- ---- a node that is made of it, with ranks
 
-pub placed_eqns : List ℕ → List FlatEqn → List FlatEqn
+unfoldable pub placed_eqns : List ℕ → List FlatEqn → List FlatEqn
 placed_eqns [] es = es
 placed_eqns (at ∷ ats) [] = []
 placed_eqns (at ∷ ats) (e ∷ es) = record e { at = at } ∷ placed_eqns ats es

@@ -11,8 +11,8 @@ use Rattle.hp_controller.specs.Laws.{WellMadeLaw}
 use Rattle.hp_watch.specs.Adding.{with_variable, with_eqn}
 use Rattle.hp_watch.specs.Watching.{IsWatched}
 use Rattle.law_choices.specs.Adding.Worked.{free_node, free_machine, one_control, one_observer}
-use Rattle.law_choices.proofs.AddingLemmas.WorkedSteps.{is_machine, some_watched, placed_eqns}
-use Rattle.law_choices.proofs.AddingLemmas.WorkedChoosing.{watched_ranked, watched_unranked, watched_whole}
+use Rattle.law_choices.proofs.AddingLemmas.WorkedSteps.{is_machine, some_watched}
+use Rattle.law_choices.proofs.AddingLemmas.WorkedChoosing.{watched_ranked, watched_whole}
 use Rattle.law_choices.specs.InTurn.Nodes.{Contracted}
 use Rattle.law_choices.specs.InTurn.Worked.{contract_tree, free_controller, SomeContractedLaw}
 
@@ -61,7 +61,7 @@ abbrev some_contracted : Contracted
 some_contracted = record { plant = free_node; controller = free_controller; own = watched_ranked; chosen = record { node = watched_ranked; assume = 6; enforce = 7 } }
 
 pub some_contracted_law : WellMadeLaw → SomeContractedLaw
-unfolding watched_ranked watched_unranked placed_eqns with_variable with_eqn
+unfolding with_variable with_eqn
 some_contracted_law well_made = (
   some_contracted,
   record {
