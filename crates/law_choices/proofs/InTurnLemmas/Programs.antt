@@ -435,7 +435,7 @@ module _ (laws : TurnLaws) (program after : List Item) (observers : Observing) (
   all_stand : AreInTurn types all [] (all_nodes ms) × AllByRecursion IsWithin (all_nodes ms) × AllByRecursion (Grounded laws types (known_of low) (enumerations [] after) observers all have_bytes h.suit h.alone all_old) ms × ((answers : Answers) → AreClosed answers (controls_in after) (loops ms))
   all_stand =
       let nodes = ready_nodes laws.targets laws.calls program after h.ready h.removable h.form h.short (plants (loops ms)) h.equations in
-      let made = laws.ready program after h.ready h.removable h.form h.short (plants (loops ms)) h.equations h.within in
+      let made = laws.ready program after h.ready h.removable h.form h.short (plants (loops ms)) h.equations in
       stands laws types (known_of low) (enumerations [] after) observers all have_bytes h.suit h.alone all_old after ms [] [] nodes.turned h.equations h.made h.names made no_names (λ f e. (refl, refl))
 
   all_some : (f : List ℕ) → AllByRecursion HasSome (all.gives f)

@@ -43,7 +43,7 @@ names_written (TypeItem t ∷ xs) (y ∷ ys) w h = subst (λ z. EachNode Unsigne
 names_written (NodeItem n ∷ xs) (y ∷ ys) w h = let it = w.0 in subst (λ z. EachNode Unsigned (z ∷ ys)) (sym it.2) (h.0, names_written xs ys w.1 h.1)
 
 pub text_law : TextNamesLaw → TextLaw
-text_law names text tokens program after observers ms a p n t d f i c equations within suit alone made =
+text_law names text tokens program after observers ms a p n t d f i c equations suit alone made =
     let q = when_accepted text tokens program after a p n t d f i c in
     record {
       ready = q.ready;
@@ -52,7 +52,6 @@ text_law names text tokens program after observers ms a p n t d f i c equations 
       short = q.short;
       names = names_written (replaced program) after c (names_replaced no_node program (source_names program (names text tokens program a p)));
       equations = equations;
-      within = within;
       suit = suit;
       alone = alone;
       made = made;

@@ -35,7 +35,7 @@ use Rattle.law_choices.specs.InTurn.Nodes.{Made, plain, contracted, contract_nam
 abbrev pub said_of : List Item → List Made → Callees
 said_of after ms = all_said (obc_types (types_of after)) ms (callees_of after)
 
--- What is asked of a program and what is made of it: its clocked equations are plants, whose numbers are those of their variables; no name of a node holds the sign; observers suit, and call nothing.
+-- What is asked of a program and what is made of it: its clocked equations are plants; no name of a node holds the sign; observers suit, and call nothing.
 pub record IsChoosing (program after : List Item) (observers : Observing) (ms : List Made) : Type 0 where
   pub ready : IsReady program after
   pub removable : IsRemovable after
@@ -43,7 +43,6 @@ pub record IsChoosing (program after : List Item) (observers : Observing) (ms : 
   pub short : EachNode NodeShort after
   pub names : EachNode (λ (n : Node). is_new n.name ≡ false) after
   pub equations : AreMadeOf (known_of (lowered_program after)) (lowered_program after) (plants (loops ms))
-  pub within : AllByRecursion IsWithin (plants (loops ms))
   pub suit : AllSuit (obc_types (types_of after)) (said_of after ms) observers
   pub alone : CallNothing observers
   pub made : AreAllMade (obc_types (types_of after)) observers after ms

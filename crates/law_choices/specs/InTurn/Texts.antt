@@ -1,7 +1,6 @@
 -- What is asked of programs whose nodes choose is so of those of texts.
 -- Source: own.
 use Rattle.std.specs.Prelude.{ℕ, List}
-use Rattle.std.specs.List.{AllByRecursion}
 use Rattle.hp_lexer.specs.Lexing.{AreTokensOf}
 use Rattle.hp_lexer.specs.declared.token.Token.{Token}
 use Rattle.hp_parser.specs.Lexemes.{lexemes}
@@ -18,7 +17,6 @@ use Rattle.hp_expand.specs.Refusals.{IsFormed}
 use Rattle.hp_expand.specs.Numbering.{replaced}
 use Rattle.hp_automata.specs.Lowering.{lowered_program}
 use Rattle.law_equations.specs.Made.Types.{obc_types}
-use Rattle.law_equations.specs.Meaning.Scheduling.{IsWithin}
 use Rattle.hp_complete.specs.Declaring.{known_of}
 use Rattle.hp_complete.specs.Made.{AreMadeOf}
 use Rattle.hp_watch.specs.Watching.{Observing}
@@ -33,5 +31,5 @@ abbrev pub TextLaw : Type 0
 TextLaw =
     (text : List ℕ) (tokens : List Token) (program after : List Item) (observers : Observing) (ms : List Made) → AreTokensOf text tokens → IsProgram (lexemes text tokens) program
     → WellNamed program → WellTyped program → WellDefined program → IsFormed program → IsInitialised (replaced program) → AreWritten IsClocked (replaced program) after
-    → AreMadeOf (known_of (lowered_program after)) (lowered_program after) (plants (loops ms)) → AllByRecursion IsWithin (plants (loops ms)) → AllSuit (obc_types (types_of after)) (said_of after ms) observers → CallNothing observers
+    → AreMadeOf (known_of (lowered_program after)) (lowered_program after) (plants (loops ms)) → AllSuit (obc_types (types_of after)) (said_of after ms) observers → CallNothing observers
     → AreAllMade (obc_types (types_of after)) observers after ms → IsChoosing program after observers ms
