@@ -4,12 +4,13 @@
 #![tactic(auto)]
 
 ghost use Rattle.law_choices.specs.Closed.Clocking.{FitLaw, SomeLaw, WellMadeLaw};
-ghost use Rattle.law_choices.specs.Closed.Closed.{ClosedLaw};
+ghost use Rattle.law_choices.specs.Closed.Closed.{ClosedLaw, WithinLaw};
 ghost use Rattle.law_choices.specs.Closed.Exclusive.{ExclusiveLaw};
 
-/// Each variable of a node is an input or a target of an equation, and so is each that stands in an equation.
+/// Each variable of a node is an input or a target of an equation, and so is each that stands in an equation: all numbers are those of variables.
 pub fn equations_are_closed()
-    ensures { ClosedLaw }
+    ensures closed { ClosedLaw }
+    ensures within { WithinLaw }
 {}
 
 /// Whatever the values at an instant are, no two equations that are there define one variable.

@@ -18,8 +18,8 @@ use Rattle.law_choices.specs.Adding.Adding.{IsWellBuilt}
 use Rattle.law_choices.specs.Adding.Base.{based}
 use Rattle.law_choices.specs.Adding.Lifts.{HaveBytes}
 use Rattle.law_choices.specs.Adding.Made.{IsReadyMade, ReadyMadeLaw, BytesLaw}
-use Rattle.law_choices.proofs.ClosedLemmas.ClosedLaws.{each_both}
-use Rattle.law_choices.proofs.OnClocksLemmas.Programs.{own_clocks_law}
+use Rattle.law_choices.proofs.ClosedLemmas.ClosedLaws.{each_both, within_law}
+use Rattle.law_choices.proofs.OnClocksLemmas.Programs.{some_of, number_of, own_clocks_law}
 use Rattle.law_choices.proofs.OnClocksLemmas.WellMade.{IsKnown, known_law}
 use Rattle.law_choices.proofs.AddingLemmas.Steps.{based_law, own_same}
 
@@ -58,7 +58,8 @@ module _ (types : List ObcType) (callees : Callees) (n : FlatNode) (k : IsKnown 
 -- ---- the nodes
 
 pub ready_made_law : TargetsLaw → ReadyMadeLaw
-ready_made_law law program after r ok form short fs made within =
+ready_made_law law program after r ok form short fs made =
+    let within = within_law program after r ok (some_of (types_of program) form.counts) (number_of (types_of program) form.number) fs made in
     let types = obc_types (types_of after) in
     let callees = callees_of after in
     each_both (λ f. IsKnown types callees f × HasOwnClocks types f) IsWithin (IsReadyMade types callees) (λ f k w. ready_made types callees f k.0 k.1 w) fs

@@ -24,7 +24,7 @@ use Rattle.hp_flat.specs.Equations.{Clock, Right, operator, register, called, Fl
 use Rattle.hp_flat.specs.Nodes.{FlatNode}
 use Rattle.law_equations.specs.Meaning.Fitting.{atom_variables, operands}
 use Rattle.law_equations.specs.Meaning.Reactions.{has}
-use Rattle.law_equations.specs.Meaning.Scheduling.{clock_variables}
+use Rattle.law_equations.specs.Meaning.Scheduling.{clock_variables, EqnWithin, IsWithin}
 use Rattle.law_equations.specs.Made.Laws.{unplaced}
 use Rattle.law_equations.specs.Made.Making.{Known, Sketch, next, numbers_from, sketch_node}
 use Rattle.law_equations.specs.Made.Types.{obc_types}
@@ -32,18 +32,21 @@ use Rattle.law_automata.specs.Readied.Laws.{IsWhole}
 use Rattle.law_automata.specs.Readied.Sound.{HasOne, HaveConstructors, SoundBehind}
 use Rattle.law_automata.proofs.ReadiedLemmas.SoundPrograms.{ready_sound_law}
 use Rattle.law_automata.proofs.ReadiedLemmas.Whole.{whole_law}
+use Rattle.law_values.specs.Accepted.Laws.{IsReady}
 use Rattle.law_values.specs.Filled.Firsts.{TypesHaveConstructors}
+use Rattle.law_automata.specs.Lowered.Removable.{IsRemovable}
 use Rattle.hp_complete.specs.Declaring.{known_of}
 use Rattle.hp_complete.specs.Made.{IsMadeOf, AreMadeOf}
 use Rattle.law_equations.specs.Answered.Answering.{AreApart}
 use Rattle.law_wellmade.specs.Timely.Tested.{AreTested}
+use Rattle.law_wellmade.specs.Begun.Laws.{HasFewTypes}
 use Rattle.law_wellmade.proofs.TestedLemmas.TestedPrograms.{tested_law}
 use Rattle.law_wellmade.proofs.BegunLemmas.Keeping.{HasType}
 use Rattle.law_wellmade.proofs.BegunLemmas.NamesApart.{lowered_apart}
 use Rattle.law_wellmade.proofs.BegunLemmas.Grounds.{grounded}
-use Rattle.law_wellmade.proofs.RegularLemmas.Good.{each_append, types_of_decls, inputs_of, ClockGood, ArgsTyped, RightTyped, EqnGood}
+use Rattle.law_wellmade.proofs.RegularLemmas.Good.{each_append, types_of_decls, inputs_of, HaveTypes, RestartGood, ClockGood, ArgsTyped, RightTyped, EqnGood}
 use Rattle.law_wellmade.proofs.RegularLemmas.GoodPrograms.{NodeGood, ready_good}
-use Rattle.law_choices.specs.Closed.Closed.{IsTarget, IsGiven, variables_in, IsClosed, ClosedLaw}
+use Rattle.law_choices.specs.Closed.Closed.{IsTarget, IsGiven, variables_in, IsClosed, ClosedLaw, WithinLaw}
 use Rattle.law_choices.proofs.ClosedLemmas.Filling.{is_target}
 use Rattle.law_choices.proofs.ClosedLemmas.Nodes.{NodeFills, node_fills}
 
@@ -121,15 +124,27 @@ module _ (types : List ObcType) (k : Known) (d : Sketch) where
   right_below (register first (Fixed v)) ts h = tt
   right_below (called f args) ts h = args_below args (types_of_decls k (inputs_of (k.nodes f))) h.0
 
+  targets_below : (xs : List ℕ) (ts : List FlatTy) → HaveTypes d xs ts → AllByRecursion Below xs
+  targets_below [] ts h = tt
+  targets_below (x ∷ xs) [] h = absurd h
+  targets_below (x ∷ xs) (t ∷ ts) h = (typed_below x t h.0, targets_below xs ts h.1)
+
+  restart_below : (xs : List ℕ) → RestartGood d xs → AllByRecursion Below xs
+  restart_below xs h = each_other (λ x. HasType d x _) Below (λ x t. typed_below x _ t) xs h
+
+  eqn_within : (e : FlatEqn) → EqnGood types k d e → EqnWithin (length d.variables) e
+  eqn_within e h = record { targets = targets_below e.targets h.given h.targets; clock = clock_below e.clock h.clock; operands = right_below e.right h.given h.right; restart = restart_below e.restart h.restart }
+
   eqn_below : (e : FlatEqn) → EqnGood types k d e → AllByRecursion Below (variables_in e)
   eqn_below e h =
       each_append Below (clock_variables e.clock) (e.restart ++ operands e.right) (clock_below e.clock h.clock)
-      (each_append Below e.restart (operands e.right) (each_other (λ x. HasType d x _) Below (λ x t. typed_below x _ t) e.restart h.restart) (right_below e.right h.given h.right))
+      (each_append Below e.restart (operands e.right) (restart_below e.restart h.restart) (right_below e.right h.given h.right))
 
 -- ---- nodes that are made
 
--- each variable behind the inputs is defined, and the outputs are variables
+-- inputs and outputs are variables, and each variable behind the inputs is defined
 record NodeFilled (f : FlatNode) : Type 0 where
+  inputs : f.inputs ≤ length f.variables
   filled : (x : ℕ) → f.inputs ≤ x → x < length f.variables → is_target f.eqns x ≡ true
   outputs : AllByRecursion (λ x. x < length f.variables) f.outputs
 
@@ -143,6 +158,7 @@ made_filled k n f made h =
     let start = made.inputs in
     let long = h.long in
     record {
+      inputs = omega (arith, same, long, start);
       filled = λ x l u.
           sym (target_unplaced f.eqns x) ∙ ap (λ es. is_target es x) made.eqns ∙ target_unplaced (sketch_node k n).eqns x ∙ h.filled x (omega (arith, start, l)) (omega (arith, same, u));
       outputs = subst (λ xs. AllByRecursion (λ x. x < length f.variables) xs) (sym made.outputs)
@@ -172,6 +188,14 @@ closed types k f good h =
         by : (x < f.inputs) ⊎ (f.inputs ≤ x) → IsGiven f x
         by (inl l) = inl l
         by (inr l) = inr (target_it f.eqns x (h.filled x l u))
+
+in_range : (types : List ObcType) (k : Known) (f : FlatNode) → NodeGood types k f → NodeFilled f → IsWithin f
+in_range types k f good h =
+    record {
+      inputs = h.inputs;
+      outputs = h.outputs;
+      eqns = subst (λ vs. AllByRecursion (EqnWithin (length vs)) f.eqns) (sym good.variables) (each_other (EqnGood types k good.sketch) (EqnWithin (length good.sketch.variables)) (eqn_within types k good.sketch) f.eqns good.eqns);
+    }
 
 -- ---- programs
 
@@ -203,8 +227,10 @@ module _ (program : List Item) (types : List TypeDecl) (apart : AreApart (revers
       subst (λ xs. EachNode (NodeFills (known_of program)) xs) (twice program)
       (each_reverse (NodeFills (known_of program)) (reverse program) (filled_behind [] (reverse program) refl sound (each_reverse IsWhole program whole) tested))
 
-pub closed_law : ClosedLaw
-closed_law program after r ok full few fs made =
+-- what is known of the nodes of a ready program
+known_nodes : (program after : List Item) → IsReady program after → IsRemovable after → TypesHaveConstructors (types_of program) → HasFewTypes program → (fs : List FlatNode) → AreMadeOf (known_of (lowered_program after)) (lowered_program after) fs
+    → AllByRecursion (λ f. NodeGood (obc_types (types_of after)) (known_of (lowered_program after)) f × NodeFilled f) fs
+known_nodes program after r ok full few fs made =
     let low = lowered_program after in
     let k = known_of low in
     let types = types_of after in
@@ -213,4 +239,16 @@ closed_law program after r ok full few fs made =
     let tested = tested_law program after r ok some in
     let apart = lowered_apart program after r.named (clocked_of (replaced program) after r.clocks) in
     let filled = all_made_filled k low fs made (nodes_filled low types apart sound (whole_law program after r ok) tested) in
-    each_both (NodeGood (obc_types types) k) NodeFilled IsClosed (λ f g h. closed (obc_types types) k f g h) fs (ready_good program after r ok full few tested fs made) filled
+    each_both (NodeGood (obc_types types) k) NodeFilled (λ f. NodeGood (obc_types types) k f × NodeFilled f) (λ f g h. (g, h)) fs (ready_good program after r ok full few tested fs made) filled
+
+pub closed_law : ClosedLaw
+closed_law program after r ok full few fs made =
+    let k = known_of (lowered_program after) in
+    let types = obc_types (types_of after) in
+    each_other (λ f. NodeGood types k f × NodeFilled f) IsClosed (λ f h. closed types k f h.0 h.1) fs (known_nodes program after r ok full few fs made)
+
+pub within_law : WithinLaw
+within_law program after r ok full few fs made =
+    let k = known_of (lowered_program after) in
+    let types = obc_types (types_of after) in
+    each_other (λ f. NodeGood types k f × NodeFilled f) IsWithin (λ f h. in_range types k f h.0 h.1) fs (known_nodes program after r ok full few fs made)

@@ -14,7 +14,6 @@ use Rattle.hp_flat.specs.Equations.{Clock}
 use Rattle.hp_flat.specs.Nodes.{FlatNode}
 use Rattle.law_equations.specs.Made.Types.{obc_types, obc_types_of}
 use Rattle.law_equations.specs.Meaning.Kinding.{Callees}
-use Rattle.law_equations.specs.Meaning.Scheduling.{IsWithin}
 use Rattle.hp_complete.specs.Declaring.{known_of}
 use Rattle.hp_complete.specs.Made.{AreMadeOf}
 use Rattle.law_wellmade.specs.Spelled.Integers.{NodeShort}
@@ -29,11 +28,11 @@ pub record IsReadyMade (types : List ObcType) (callees : Callees) (n : FlatNode)
   pub based : IsBased types callees clock n
   pub own : AllByRecursion (DefinesOwn clock) n.eqns
 
--- So is each node that is made of a ready program without its automata, whose numbers are those of its variables.
+-- So is each node that is made of a ready program without its automata.
 abbrev pub ReadyMadeLaw : Type 0
 ReadyMadeLaw =
     (program after : List Item) → IsReady program after → IsRemovable after → TypesForm (obc_types_of program) → EachNode NodeShort after
-    → (fs : List FlatNode) → AreMadeOf (known_of (lowered_program after)) (lowered_program after) fs → AllByRecursion IsWithin fs → AllByRecursion (IsReadyMade (obc_types (types_of after)) (callees_of after)) fs
+    → (fs : List FlatNode) → AreMadeOf (known_of (lowered_program after)) (lowered_program after) fs → AllByRecursion (IsReadyMade (obc_types (types_of after)) (callees_of after)) fs
 
 -- Where types have form, each constructor has a number of one byte.
 abbrev pub BytesLaw : Type 0

@@ -11,7 +11,7 @@ use Rattle.law_automata.specs.Lowered.Removable.{IsRemovable}
 use Rattle.hp_flat.specs.Equations.{FlatEqn}
 use Rattle.hp_flat.specs.Nodes.{FlatNode}
 use Rattle.law_equations.specs.Meaning.Fitting.{operands}
-use Rattle.law_equations.specs.Meaning.Scheduling.{clock_variables}
+use Rattle.law_equations.specs.Meaning.Scheduling.{clock_variables, IsWithin}
 use Rattle.hp_complete.specs.Declaring.{known_of}
 use Rattle.hp_complete.specs.Made.{AreMadeOf}
 use Rattle.law_wellmade.specs.Begun.Laws.{HasFewTypes}
@@ -39,3 +39,9 @@ abbrev pub ClosedLaw : Type 0
 ClosedLaw =
     (program after : List Item) → IsReady program after → IsRemovable after → TypesHaveConstructors (types_of program) → HasFewTypes program
     → (fs : List FlatNode) → AreMadeOf (known_of (lowered_program after)) (lowered_program after) fs → AllByRecursion IsClosed fs
+
+-- And the numbers in each are those of its variables.
+abbrev pub WithinLaw : Type 0
+WithinLaw =
+    (program after : List Item) → IsReady program after → IsRemovable after → TypesHaveConstructors (types_of program) → HasFewTypes program
+    → (fs : List FlatNode) → AreMadeOf (known_of (lowered_program after)) (lowered_program after) fs → AllByRecursion IsWithin fs
