@@ -8,22 +8,23 @@ ghost use Rattle.hp_boolx.specs.Search.{Bits, Set};
 ghost use Rattle.hp_control.specs.Controlling.{AreFunctions, AreFunctionsAt, AreLeft, IsPermissive};
 ghost use Rattle.hp_synth.specs.Building.{HasEach, functions_at};
 ghost use Rattle.hp_synth.specs.Layouts.{place, IsLayout};
+ghost use Rattle.hp_synth.specs.Playing.{IsPlayed, Wins};
 ghost use Rattle.hp_synth.specs.Rounds.{IsCounts};
 ghost use Rattle.hp_synth.specs.Valued.{Valued, through, states, earlies, control_from, OfState, OfChoice};
 ghost use Rattle.hp_synth.specs.Verdicts.{IsWon};
 
 use crate::controlling::{control_bit, put};
-use crate::permitted::permitted_choices;
+use crate::permitted::{permitted_choices, without_bad};
 use hp_boolx::BoolMachine;
 use hp_diagram::{Ref, Table};
-use hp_synth::{Layout, Solved, Verdict, layout_of, renamed};
+use hp_synth::{End, Layout, Played, Solved, Verdict, layout_of, renamed};
 use std::alloc::{AllocError, Global};
 
 /// The functions of a controller, one for each control bit in order, in a table where the machine's variables stand at the places of a layout.
 #[derive(Drop)]
-pub struct PlacedFunctions {
-    pub layout: Layout,
-    pub funs: Vec<Ref>,
+struct PlacedFunctions {
+    layout: Layout,
+    funs: Vec<Ref>,
 }
 
 /// The functions of the control bits, one by one: each has its preferred value, unless only the other one leaves a choice, and takes its bit's place in what is left.
@@ -80,7 +81,7 @@ fn functions_of(
 /// The functions of a controller, one for each control bit in order: at each state and all early values they are the preferred permitted choice, and the preference
 /// itself where none is permitted. They are functions of variables that stand at the places of a layout. The verdict stays, and so does the function of each earlier
 /// reference.
-pub fn placed_functions(
+fn placed_functions(
     alloc: Global,
     s: &mut Solved,
     m: &BoolMachine,
@@ -98,6 +99,32 @@ pub fn placed_functions(
         Verdict::Lose { .. } => unreachable!(),
     };
     functions_of(alloc, &mut s.table, m, inv)
+}
+
+/// The functions of a controller of a machine whose rounds are over: at each state and all early values they are the preferred permitted choice, and the preference itself
+/// where none is permitted. They are functions of variables that stand at the places of its layout. What the rounds composed is not composed again.
+pub fn played_functions(
+    alloc: Global,
+    p: &mut Played,
+    m: &BoolMachine,
+) -> Result<Vec<Ref>, AllocError>
+    requires played { IsPlayed (game m.now) p.old }
+    requires won { Wins p.old.end }
+    ensures has { IfOk result (λ funs. HasEach p.new.table funs.items) }
+    ensures ok { IfOk result (λ funs. AreFunctionsAt (game m.now) (place p.old.layout) p.new.table funs.items) }
+    ensures layout { p.new.layout ≡ p.old.layout }
+    ensures keeps { Keeps p.old.table p.new.table }
+{
+    // The proof wants the machine's form.
+    let _vars = m.vars();
+    let lost = match p.end {
+        End::Won { lost } => lost,
+        End::Lost => unreachable!(),
+    };
+    let choices = p.choices();
+    let worse = p.bad(lost)?;
+    let permitted = without_bad(alloc, &mut p.table, &p.layout, choices, worse)?;
+    bits(alloc, &mut p.table, &p.layout, permitted, &m.prefer)
 }
 
 /// The same functions, where each variable stands at the place of its own number. The verdict stays, and so does the function of each earlier reference.

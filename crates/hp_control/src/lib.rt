@@ -5,6 +5,6 @@ mod choosing;
 mod controlling;
 mod permitted;
 
-pub use choosing::{PlacedFunctions, functions, permissive, placed_functions};
+pub use choosing::{functions, permissive, played_functions};
 pub use controlling::put;
 pub use permitted::permitted_at;

@@ -17,7 +17,7 @@ use hp_synth::{Layout, Sets, all_in, bad, next_values, placed, prepare};
 use std::alloc::{AllocError, Global};
 
 /// The valid choices by which, whatever the late values are, nothing bad comes.
-fn without_bad(
+pub(crate) fn without_bad(
     alloc: Global,
     t: &mut Table,
     layout: &Layout,

@@ -9,7 +9,7 @@ use hp_controller::{Control, ControlKind, Enumeration, controlled, controller};
 use hp_flat::{FlatNode, FlatTy};
 use hp_machines::regular_machine_of;
 use hp_obc::{Machine, ObcType};
-use hp_synth::{Verdict, solve};
+use hp_synth::{End, play};
 use hp_tree::{Node, Program, controls_of};
 use hp_watch::{Observers, add_copy, watch};
 use std::alloc::{AllocError, Global};
@@ -97,10 +97,10 @@ fn controller_of(alloc: Global, m: &BoolMachine) -> Result<FlatNode, ControlledE
     if m.name.bytes().len() > MAX_SOURCE_NAME {
         return Err(ControlledErr::NotBuilt);
     }
-    let mut solved = solve(alloc, m)?;
-    match solved.verdict {
-        Verdict::Lose { .. } => Err(ControlledErr::NotBuilt),
-        Verdict::Win { .. } => Ok(controller(alloc, &mut solved, m)?),
+    let mut played = play(alloc, m)?;
+    match played.end {
+        End::Lost => Err(ControlledErr::NotBuilt),
+        End::Won { .. } => Ok(controller(alloc, &mut played, m)?),
     }
 }
 

@@ -1,20 +1,20 @@
 //! The controller of a machine.
 ghost use Rattle.std.specs.Prelude.{◌≡◌, ◌++◌, ◌≤◌, length, map, codes, IfOk};
-ghost use Rattle.hp_boolx.specs.Machine.{game, variables};
+ghost use Rattle.hp_boolx.specs.Machine.{game};
 ghost use Rattle.hp_controller.specs.Controllers.{moved};
 ghost use Rattle.hp_controller.specs.Controlling.{IsController};
 ghost use Rattle.hp_diagram.specs.Diagrams.{Keeps};
 ghost use Rattle.hp_synth.specs.Layouts.{variable};
-ghost use Rattle.hp_synth.specs.Verdicts.{IsWon};
+ghost use Rattle.hp_synth.specs.Playing.{IsPlayed, Wins};
 
 use crate::node::node_of_lines;
 use hp_base::Name;
 use hp_boolx::BoolMachine;
 use hp_cert::certmade::make_page;
-use hp_control::placed_functions;
+use hp_control::played_functions;
 use hp_flat::FlatNode;
 use hp_quant::Line;
-use hp_synth::{Layout, Solved};
+use hp_synth::{Layout, Played};
 use std::alloc::{AllocError, Global};
 
 /// The name of the controller of a node.
@@ -43,20 +43,18 @@ fn named_lines(alloc: Global, layout: &Layout, lines: &[Line]) -> Result<Vec<Lin
 }
 
 /// The controller of a machine in which nothing is forced: at each state and all early values it gives the preferred permitted choice, and the preference where none is
-/// permitted. It has a line for each node of its functions in the solver's order of variables, in which there are few. The verdict stays, and so does the function of each
-/// earlier reference.
-pub fn controller(alloc: Global, s: &mut Solved, m: &BoolMachine) -> Result<FlatNode, AllocError>
-    requires fits { variables m.now ≡ s.old.table.vars }
-    requires won { IsWon (game m.now) s.old.table s.old.verdict }
+/// permitted. It has a line for each node of its functions in the solver's order of variables, in which there are few. The function of each earlier reference stays.
+pub fn controller(alloc: Global, p: &mut Played, m: &BoolMachine) -> Result<FlatNode, AllocError>
+    requires played { IsPlayed (game m.now) p.old }
+    requires won { Wins p.old.end }
     requires name { length m.now.name ≤ 255 }
     ensures controller { IfOk result (IsController m.now) }
-    ensures verdict { s.new.verdict ≡ s.old.verdict }
-    ensures keeps { Keeps s.old.table s.new.table }
+    ensures keeps { Keeps p.old.table p.new.table }
 {
     let counts = m.counts;
-    let placed = placed_functions(alloc, s, m)?;
-    let page = make_page(alloc, &s.table, &placed.funs)?;
-    let lines = named_lines(alloc, &placed.layout, &page.lines)?;
+    let funs = played_functions(alloc, p, m)?;
+    let page = make_page(alloc, &p.table, &funs)?;
+    let lines = named_lines(alloc, &p.layout, &page.lines)?;
     let name = controller_name(alloc, &m.name)?;
     let node = node_of_lines(
         alloc,

@@ -4,9 +4,9 @@ ghost use Rattle.hp_boolx.specs.Machine.{game, variables};
 ghost use Rattle.hp_synth.specs.Verdicts.{IsWon};
 
 use hp_boolx::BoolMachine;
-use hp_control::{functions, placed_functions};
+use hp_control::{functions, played_functions};
 use hp_diagram::{Ref, Table};
-use hp_synth::{Solved, Verdict, solve};
+use hp_synth::{End, Solved, Verdict, play, solve};
 use std::alloc::{AllocError, Global};
 use std::io;
 
@@ -94,18 +94,16 @@ fn say_win(
     println!(rt; "choices {choices}")
 }
 
-/// Makes the functions of a controller, and says how many there are.
-fn say_functions(
-    rt: &(impl Print + AllocGlobal),
-    m: &BoolMachine,
-    solved: &mut Solved,
-) -> io::Result<()>
-    requires fits { variables m.now ≡ solved.old.table.vars }
-    requires won { IsWon (game m.now) solved.old.table solved.old.verdict }
-{
-    let placed = placed_functions(rt.alloc(), solved, m)?;
-    let count = placed.funs.len();
-    println!(rt; "functions {count}")
+/// Goes through the rounds of a machine, and makes the functions of its controller, if nothing is forced. It says how many there are.
+fn say_functions(rt: &(impl Print + AllocGlobal), m: &BoolMachine) -> io::Result<()> {
+    let mut played = play(rt.alloc(), m)?;
+    match played.end {
+        End::Lost => println!(rt; "lose"),
+        End::Won { .. } => {
+            let count = played_functions(rt.alloc(), &mut played, m)?.len();
+            println!(rt; "win\nfunctions {count}")
+        }
+    }
 }
 
 fn say_lose(
@@ -122,7 +120,7 @@ fn say_lose(
 }
 
 /// Solves a machine, and says what is found.
-pub fn say_answer(
+fn say_solved(
     rt: &(impl Print + AllocGlobal),
     m: &BoolMachine,
     detail: Detail,
@@ -132,11 +130,10 @@ pub fn say_answer(
         Verdict::Win { inv } => {
             println!(rt; "win")?;
             let inv = *inv;
-            match detail {
-                Detail::Verdict => Ok(()),
-                Detail::Functions => say_functions(rt, m, &mut solved),
-                Detail::Whole => say_win(rt, m, &mut solved, inv),
+            if detail == Detail::Whole {
+                say_win(rt, m, &mut solved, inv)?;
             }
+            Ok(())
         }
         Verdict::Lose { ranks } => {
             let count = ranks.len();
@@ -146,5 +143,17 @@ pub fn say_answer(
             }
             Ok(())
         }
+    }
+}
+
+/// Says of a machine what is wanted.
+pub fn say_answer(
+    rt: &(impl Print + AllocGlobal),
+    m: &BoolMachine,
+    detail: Detail,
+) -> io::Result<()> {
+    match detail {
+        Detail::Functions => say_functions(rt, m),
+        Detail::Verdict | Detail::Whole => say_solved(rt, m, detail),
     }
 }

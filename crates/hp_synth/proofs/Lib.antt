@@ -12,3 +12,4 @@ pub mod SoughtLaws
 pub mod PreparedLaws
 pub mod SearchSteps
 pub mod CourseLaws
+pub mod PlayedLaws

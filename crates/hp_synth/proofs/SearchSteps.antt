@@ -91,8 +91,8 @@ module _ (vars : ℕ) (l : Layout) (placed : IsLayout vars l) (g : Game) (form :
       ap (forced g n) (sym w) ∙ sym (now_x.value v) ∙ same v ∙ is.value v ∙ ap (forced g (suc n)) w
 
   -- the set stopped
-  pub wins : ((v : Valued) → function u x v ≡ function u y v) → Means u (over (place l) (OfState g (forced g n))) x × IsWin g (λ r. not (forced g n r))
-  wins same = (now_x, win-at g form n (stopped_when_same same) stands.out)
+  pub wins : ((v : Valued) → function u x v ≡ function u y v) → Means u (over (place l) (OfState g (forced g n))) x × IsWin g (λ r. not (forced g n r)) × AllMean u (base_at (place l) g ++ rounds (place l) g n) roots
+  wins same = (now_x, win-at g form n (stopped_when_same same) stands.out, all-keeps t u (base_at (place l) g ++ rounds (place l) g n) roots keeps stands.all_mean)
 
   module _ (init : Bits) (at : states g (through (place l) (valuation init)) ≡ g.init) where
     first : forced g (suc n) g.init ≡ function u y (valuation init)

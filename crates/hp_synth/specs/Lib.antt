@@ -9,3 +9,4 @@ pub mod Rooted
 pub mod Sought
 pub mod Courses
 pub mod Verdicts
+pub mod Playing

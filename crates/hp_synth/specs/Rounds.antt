@@ -1,7 +1,7 @@
 -- The diagrams that a round of a solver works on.
-use Rattle.std.specs.Prelude.{◌≡◌, ℕ, List, Option, not, ◌&&◌, ◌||◌}
+use Rattle.std.specs.Prelude.{◌≡◌, ℕ, List, Option, slice_index_or, not, ◌&&◌, ◌||◌}
 use Rattle.hp_diagram.specs.declared.reference.Ref.{Ref}
-use Rattle.hp_diagram.specs.Diagrams.{Diagrams, function, Has, Means}
+use Rattle.hp_diagram.specs.Diagrams.{Diagrams, function, Has, Means, zero_ref}
 use Rattle.hp_quant.specs.Replacements.{replaced}
 use Rattle.hp_synth.specs.declared.rounds.Sets.{Sets}
 use Rattle.hp_boolx.specs.declared.machine.Counts.{Counts}
@@ -15,6 +15,10 @@ pub record HasSets (t : Diagrams) (s : Sets) : Type 0 where
   pub duty : Has t s.duty
   pub choices : Has t s.choices
   pub earlies : Has t s.earlies
+
+-- what these are of the references of a solver
+abbrev pub sets_in : List Ref → Sets
+sets_in roots = record { valid = slice_index_or roots 0 zero_ref; hyp = slice_index_or roots 1 zero_ref; duty = slice_index_or roots 2 zero_ref; choices = slice_index_or roots 3 zero_ref; earlies = slice_index_or roots 4 zero_ref }
 
 -- valid, and the hypothesis holds, and the duty fails or the next state is in the set
 abbrev pub bad_of : Diagrams → Sets → List (Option Ref) → Ref → Fun

@@ -37,6 +37,6 @@ pub record Stands (place : ℕ → ℕ) (g : Game) (t : Diagrams) (roots : List 
 
 -- Behind it: the set stopped and nothing is forced; or the initial state came into it; or there is one round more, and fewer states are left.
 abbrev pub Went : (ℕ → ℕ) → Game → Ref → ℕ → Diagrams → List Ref → Progress → Type 0
-Went place g x n t roots Stopped = Means t (over place (OfState g (forced g n))) x × IsWin g (λ r. not (forced g n r))
+Went place g x n t roots Stopped = Means t (over place (OfState g (forced g n))) x × IsWin g (λ r. not (forced g n r)) × AllMean t (base_at place g ++ rounds place g n) roots
 Went place g x n t roots Reached = AllMean t (base_at place g ++ rounds place g (suc n)) roots × IsLose g (ranks_of g (suc n))
 Went place g x n t roots (Next y) = Stands place g t roots y (suc n) × (2 ^ g.registers - count_of g.registers (forced g (suc n)) < 2 ^ g.registers - count_of g.registers (forced g n))

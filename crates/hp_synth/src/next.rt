@@ -13,7 +13,7 @@ ghost use Rattle.hp_synth.specs.Valued.{Fun, over, OfState};
 
 use crate::course::Course;
 use crate::layout::Layout;
-use crate::rounds::{Sets, round};
+use crate::rounds::{round, sets_of};
 use hp_diagram::{Ref, Table};
 use std::alloc::{AllocError, Global};
 
@@ -58,12 +58,6 @@ pub(crate) fn further_set(
     ensures keeps { Keeps t.old t.new }
     ensures course { OnOk result (IsCourse t.new layout.now roots.now course.new) }
 {
-    let sets = Sets {
-        valid: roots[0],
-        hyp: roots[1],
-        duty: roots[2],
-        choices: roots[3],
-        earlies: roots[4],
-    };
+    let sets = sets_of(roots);
     round(alloc, t, layout, sets, &course.by, &mut course.composed, x)
 }

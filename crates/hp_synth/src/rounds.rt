@@ -1,17 +1,17 @@
 //! One round of the solver.
-ghost use Rattle.std.specs.Prelude.{◌≡◌, ◌||◌, length, IfOk, OnOk};
+ghost use Rattle.std.specs.Prelude.{◌≡◌, ◌≤◌, ◌||◌, length, IfOk, OnOk};
 ghost use Rattle.hp_diagram.specs.Diagrams.{Has, function, Means, Keeps};
 ghost use Rattle.hp_quant.specs.Replacements.{AllComposed, HasAll};
 ghost use Rattle.hp_boolx.specs.Search.{Bits, Set};
 ghost use Rattle.hp_boolx.specs.Game.{Game, attract};
 ghost use Rattle.hp_synth.specs.Layouts.{place, IsLayout};
 ghost use Rattle.hp_synth.specs.Valued.{Valued, over, OfState};
-ghost use Rattle.hp_synth.specs.Rounds.{HasSets, bad_of, at_once_of, later_of, of_all, alternating, IsCounts, AreSets};
+ghost use Rattle.hp_synth.specs.Rounds.{HasSets, bad_of, at_once_of, later_of, of_all, alternating, IsCounts, AreSets, sets_in};
 
 use crate::layout::Layout;
 use crate::quantifying::{all_in, either_from, some_in};
 use hp_diagram::{Ref, Table};
-use hp_quant::{Memo, compose, compose_with};
+use hp_quant::{Memo, compose_with};
 use std::alloc::{AllocError, Global};
 
 /// The gates of a machine and what is valid, as diagrams.
@@ -22,6 +22,20 @@ pub struct Sets {
     pub duty: Ref,
     pub choices: Ref,
     pub earlies: Ref,
+}
+
+/// The gates and what is valid, of the references of a solver.
+pub(crate) fn sets_of(roots: &[Ref]) -> Sets
+    requires { 5 ≤ length roots.now }
+    ensures { result ≡ sets_in roots.now }
+{
+    Sets {
+        valid: roots[0],
+        hyp: roots[1],
+        duty: roots[2],
+        choices: roots[3],
+        earlies: roots[4],
+    }
 }
 
 /// The valuations by which a violation comes at once, or by which the set comes.
@@ -39,7 +53,26 @@ pub fn bad(
     ensures ok { IfOk result (Means t.new (bad_of t.old sets by.now x)) }
     ensures keeps { Keeps t.old t.new }
 {
-    let after = compose(alloc, t, x, by)?;
+    bad_beside(t, sets, by, &mut Memo::new(alloc), x)
+}
+
+/// The same, beside what was composed before with the same replacements.
+pub(crate) fn bad_beside(
+    t: &mut Table,
+    sets: Sets,
+    by: &[Option<Ref>],
+    composed: &mut Memo,
+    x: Ref,
+) -> Result<Ref, AllocError>
+    requires sets { HasSets t.old sets }
+    requires x { Has t.old x }
+    requires replacements { HasAll t.old by.now }
+    requires each { length by.now ≡ t.old.vars }
+    requires right { AllComposed t.old by.now composed.old }
+    ensures ok { IfOk result (Means t.new (bad_of t.old sets by.now x)) }
+    ensures keeps { Keeps t.old t.new }
+{
+    let after = compose_with(t, x, by, composed)?;
     let kept = t.not(sets.duty)?;
     let fails = t.or(kept, after)?;
     let both = t.and(sets.hyp, fails)?;

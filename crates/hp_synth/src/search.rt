@@ -1,25 +1,22 @@
 //! The rounds of a solver.
-ghost use Rattle.std.specs.Prelude.{◌≡◌, ◌+◌, ◌≤◌, not, ℕ, List, length, map, drop, IfOk, OnOk};
+ghost use Rattle.std.specs.Prelude.{◌≡◌, ◌+◌, ◌≤◌, ◌++◌, ℕ, length, IfOk, OnOk};
 ghost use Rattle.hp_diagram.specs.Diagrams.{valuation, Has, Means};
 ghost use Rattle.hp_boolx.specs.Game.{Game, IsForm};
 ghost use Rattle.hp_boolx.specs.Machine.{game};
-ghost use Rattle.hp_boolx.specs.Search.{Set};
-ghost use Rattle.hp_boolx.specs.Solved.{IsWin, IsLose};
 ghost use Rattle.hp_synth.specs.Building.{HasEach};
 ghost use Rattle.hp_synth.specs.Courses.{IsCourse};
-ghost use Rattle.hp_synth.specs.Kept.{AllMean, AreCarried, HoldsOnly};
+ghost use Rattle.hp_synth.specs.Kept.{AllMean, AreCarried};
 ghost use Rattle.hp_synth.specs.Rounds.{IsCounts};
 ghost use Rattle.hp_synth.specs.Layouts.{place, IsLayout};
-ghost use Rattle.hp_synth.specs.Sought.{Stands, Went, base_at};
-ghost use Rattle.hp_synth.specs.Valued.{states, through, over, OfState};
-ghost use Rattle.hp_synth.specs.Verdicts.{IsSolved, refs_of};
+ghost use Rattle.hp_synth.specs.Playing.{Ends};
+ghost use Rattle.hp_synth.specs.Sought.{Stands, Went, base_at, rounds};
+ghost use Rattle.hp_synth.specs.Valued.{states, through};
 
 use crate::course::Course;
 use crate::layout::Layout;
 use crate::next::further_set;
-use crate::renaming::renamed;
+use crate::played::End;
 use crate::sweep::swept;
-use crate::verdict::Verdict;
 use hp_boolx::BoolMachine;
 use hp_diagram::{Ref, Table, zero};
 use std::alloc::{AllocError, Global};
@@ -93,42 +90,7 @@ fn advance(
     Ok(Progress::Next(roots[roots.len() - 1]))
 }
 
-/// The set of all others, alone in the table, where each variable stands at the place of its own number.
-fn win(alloc: Global, layout: &Layout, t: &mut Table, x: Ref) -> Result<Verdict, AllocError>
-    requires layout { IsLayout t.old.vars layout.now }
-    requires x { Has t.old x }
-    ensures vars { OnOk result (t.new.vars ≡ t.old.vars) }
-    ensures only { IfOk result (λ verdict. HoldsOnly t.new (refs_of verdict)) }
-    ensures solved { IfOk result (λ verdict. (g : Game) (X : Set) → Means t.old (over (place layout.now) (OfState g X)) x → IsWin g (λ r. not (X r)) → IsSolved g t.new verdict) }
-{
-    let inv = t.not(x)?;
-    let own = renamed(alloc, t, layout, &[inv])?;
-    let kept = swept(alloc, t, &own)?;
-    Ok(Verdict::Win { inv: kept[0] })
-}
-
-/// The sets of the rounds, alone in the table, where each variable stands at the place of its own number.
-fn lose(alloc: Global, layout: &Layout, t: &mut Table, ranks: &[Ref]) -> Result<Verdict, AllocError>
-    requires layout { IsLayout t.old.vars layout.now }
-    requires ranks { HasEach t.old ranks.now }
-    ensures vars { OnOk result (t.new.vars ≡ t.old.vars) }
-    ensures only { IfOk result (λ verdict. HoldsOnly t.new (refs_of verdict)) }
-    ensures solved { IfOk result (λ verdict. (g : Game) (Xs : List Set) → AllMean t.old (map (λ X. over (place layout.now) (OfState g X)) Xs) ranks.now → IsLose g Xs → IsSolved g t.new verdict) }
-{
-    let own = renamed(alloc, t, layout, ranks)?;
-    let ranks = swept(alloc, t, &own)?;
-    Ok(Verdict::Lose { ranks })
-}
-
-/// The sets of the rounds, behind what they work on.
-fn behind(roots: &[Ref], registers: u16) -> &[Ref]
-    requires { 5 + registers ≤ length roots.now }
-    ensures { result.now ≡ drop (5 + registers) roots.now }
-{
-    &roots[5 + usize::from(registers)..]
-}
-
-/// Goes from round to round until the set stops or has the initial state.
+/// Goes from round to round until the set stops or has the initial state. It gives the end, and what was composed on the way.
 pub(crate) fn search(
     alloc: Global,
     m: &BoolMachine,
@@ -136,15 +98,16 @@ pub(crate) fn search(
     t: &mut Table,
     roots: &mut Vec<Ref>,
     init: &[bool],
-) -> Result<Verdict, AllocError>
+) -> Result<(End, Course), AllocError>
     requires layout { IsLayout t.old.vars layout.now }
     requires counts { IsCounts (game m.now) layout.now.counts }
     requires roots { AllMean t.old (base_at (place layout.now) (game m.now)) roots.old.items }
     requires values { t.old.vars ≤ length init.now }
     requires init { states (game m.now) (through (place layout.now) (valuation init.now)) ≡ m.now.init }
     ensures vars { OnOk result (t.new.vars ≡ t.old.vars) }
-    ensures only { IfOk result (λ verdict. HoldsOnly t.new (refs_of verdict)) }
-    ensures solved { IfOk result (IsSolved (game m.now) t.new) }
+    ensures course { IfOk result (λ r. IsCourse t.new layout.now roots.new.items r.1) }
+    ensures ended { IfOk result (λ r. (n : ℕ) × AllMean t.new (base_at (place layout.now) (game m.now) ++ rounds (place layout.now) (game m.now) n) roots.new.items
+        × Ends (game m.now) (place layout.now) t.new n r.0) }
 {
     // The proof wants the machine's form.
     let _vars = m.vars();
@@ -152,10 +115,8 @@ pub(crate) fn search(
     let mut course = Course::new(alloc, t.vars(), layout, roots)?;
     loop {
         match advance(alloc, layout, t, roots, &mut course, x, init)? {
-            Progress::Stopped => return win(alloc, layout, t, x),
-            Progress::Reached => {
-                return lose(alloc, layout, t, behind(roots, layout.counts.registers));
-            }
+            Progress::Stopped => return Ok((End::Won { lost: x }, course)),
+            Progress::Reached => return Ok((End::Lost, course)),
             Progress::Next(y) => x = y,
         }
     }

@@ -1,4 +1,4 @@
-use Rattle.std.proofs.Common.{◌≡◌, ◌+◌, ◌≤◌, not, List, length, sym, subst, arith}
+use Rattle.std.proofs.Common.{◌+◌, ◌≤◌, not, List, length, sym, subst, arith}
 use Rattle.hp_diagram.specs.declared.reference.Ref.{Ref}
 use Rattle.hp_diagram.proofs.Choices.{Keeps-trans, Means-keeps}
 use Rattle.hp_boolx.specs.Machine.{game}

@@ -1,7 +1,5 @@
-use Rattle.std.proofs.Common.{◌-◌, subst, arith}
-use Rattle.hp_diagram.specs.Diagrams.{function}
+use Rattle.std.proofs.Common.{arith}
 use Rattle.hp_diagram.proofs.Choices.{Keeps-trans}
-use Rattle.hp_synth.specs.Layouts.{place}
 use Rattle.hp_synth.proofs.RoundSteps.{if_ok-map}
 use Rattle.hp_control.proofs.PermittedLaws.{permitted-means}
 use Rattle.hp_control.proofs.permitted.without_bad.Goals as goal

@@ -2,7 +2,7 @@ use Rattle.std.proofs.Common.{◌≡◌, ◌+◌, ◌<◌, ℕ, List, Option, So
 use Rattle.hp_diagram.specs.declared.reference.Ref.{Ref}
 use Rattle.hp_diagram.specs.Diagrams.{zero_ref}
 use Rattle.hp_synth.specs.Layouts.{place}
-use Rattle.hp_synth.specs.Rounds.{AreSets}
+use Rattle.hp_synth.specs.Rounds.{AreSets, sets_in}
 use Rattle.hp_synth.specs.declared.rounds.Sets.{Sets}
 use Rattle.hp_quant.specs.Replacements.{HasAll}
 use Rattle.hp_synth.proofs.CourseLaws.{course-has-all}
@@ -17,8 +17,9 @@ returns-clause-ok c =
     let by = c.args.course.now.by.items in
     if_ok-map c.round.result (λ r is g X rest form counts all x.
     let at : (k : ℕ) → k < g.registers → slice_index_or by (place c.args.layout.now k) None ≡ Some (slice_index_or roots (5 + k) zero_ref) = λ k l. c.requires.course.registers_are k (subst (λ n. k < n) counts.0 l) in
-    let sets : Sets = record { valid = slice_index_or roots 0 zero_ref; hyp = slice_index_or roots 1 zero_ref; duty = slice_index_or roots 2 zero_ref; choices = slice_index_or roots 3 zero_ref; earlies = slice_index_or roots 4 zero_ref } in
-    is g X counts (subst (λ (rs : List (Option Ref)). AreSets (place c.args.layout.now) t sets rs g) (sym c.deref.ensures.value) (are-sets g form (place c.args.layout.now) t roots rest by zero_ref all at)) x)
+    let are = are-sets g form (place c.args.layout.now) t roots rest by zero_ref all at in
+    let here = subst (λ (rs : List (Option Ref)). AreSets (place c.args.layout.now) t (sets_in roots) rs g) (sym c.deref.ensures.value) are in
+    is g X counts (subst (λ (s : Sets). AreSets (place c.args.layout.now) t s c.deref.result.now g) (sym c.sets_of-sets.ensures) here) x)
     c.round.ensures.ok
 
 pub round-requires-clause-replacements : goal.round-requires-clause-replacements

@@ -5,7 +5,7 @@ use Rattle.hp_synth.specs.Layouts.{place}
 use Rattle.hp_synth.specs.Valued.{over, OfState}
 use Rattle.hp_synth.proofs.RoundSteps.{Means-equal}
 use Rattle.hp_synth.proofs.SearchSteps.{alone}
-use Rattle.hp_synth.proofs.search.win.Goals as goal
+use Rattle.hp_synth.proofs.solving.win.Goals as goal
 
 pub returns-clause-only : goal.returns-clause-only
 returns-clause-only c =

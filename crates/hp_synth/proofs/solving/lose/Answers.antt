@@ -4,7 +4,7 @@ use Rattle.hp_synth.specs.Kept.{AllMean}
 use Rattle.hp_synth.specs.Layouts.{place}
 use Rattle.hp_synth.specs.Valued.{Fun, over, OfState}
 use Rattle.hp_synth.proofs.SearchSteps.{map-map}
-use Rattle.hp_synth.proofs.search.lose.Goals as goal
+use Rattle.hp_synth.proofs.solving.lose.Goals as goal
 
 pub returns-clause-solved : goal.returns-clause-solved
 returns-clause-solved c = λ g Xs all lost.
