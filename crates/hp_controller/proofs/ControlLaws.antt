@@ -1,7 +1,7 @@
 -- The node of the lines of a machine's functions is its controller.
 use Rattle.std.proofs.Common.{◌≡◌, ℕ, zero, suc, ◌+◌, ◌<◌, Bool, false, List, [], ◌∷◌, ◌++◌, length, map, slice_index_or, codes, refl, sym, ap, ap₂, subst, ◌∙◌, arith}
 use Rattle.std.specs.List.{AllByRecursion, range_with_len}
-use Rattle.std.proofs.lemmas.List.{length-append}
+use Rattle.std.proofs.lemmas.List.{length-append, length-map}
 use Rattle.hp_base.specs.declared.value.Value.TheVariants.{B}
 use Rattle.hp_boolx.specs.Machine.{Machine, game}
 use Rattle.hp_boolx.specs.Search.{Bits}
@@ -27,7 +27,7 @@ use Rattle.hp_controller.specs.Controlling.{IsOperator, IsController}
 use Rattle.hp_controller.specs.Laws.{bit_at}
 use Rattle.hp_controller.proofs.ControllerLaws.{gives}
 use Rattle.hp_controller.proofs.MovedLaws.{lines_moved, back_moved}
-use Rattle.hp_controller.proofs.WellMadeLaws.{well_made}
+use Rattle.hp_controller.proofs.WellMadeLaws.{outputs_long, well_made, within}
 
 -- ---- bits
 
@@ -74,6 +74,15 @@ controls m vars layout placed t funs name at_places numbers are have back named 
   name = named;
   bits = all_bits 0 (m.registers + m.early + length (map (moved (variable layout)) at_places) + length numbers);
   inputs = refl;
+  outputs =
+      let moved_lines = map (moved (variable layout)) at_places in
+      let v : Valued = λ x. false in
+      let choice = are v in
+      outputs_long name (m.registers + m.early) moved_lines numbers
+      ∙ sym (length-map numbers (λ n. line_function at_places n v))
+      ∙ ap length (have v ∙ sym (functions-mapped t funs v))
+      ∙ choice.len;
+  within = within name (m.registers + m.early) (map (moved (variable layout)) at_places) numbers;
   stateless = lines_stateless (m.registers + m.early) 0 (map (moved (variable layout)) at_places) (output_eqns (m.registers + m.early) (length (map (moved (variable layout)) at_places)) (length (map (moved (variable layout)) at_places)) numbers) (outputs_stateless (m.registers + m.early) (length (map (moved (variable layout)) at_places)) (length (map (moved (variable layout)) at_places)) numbers);
   well_made = λ types callees. well_made types callees name (m.registers + m.early) (map (moved (variable layout)) at_places) numbers;
   gives = λ answers past r u now lr lu goes.

@@ -4,6 +4,7 @@ use Rattle.std.specs.Prelude.{IsTrue}
 use Rattle.std.specs.List.{AllByRecursion, IsDistinct, flat_map, range_with_len}
 use Rattle.std.proofs.lemmas.Bool.{lt-ltb}
 use Rattle.std.proofs.lemmas.Bool.Decides.{nat_tests}
+use Rattle.std.proofs.lemmas.List.{length-map}
 use Rattle.std.proofs.lemmas.List.FromFn.{get_or-map-range_with_len}
 use Rattle.hp_base.specs.Kinds.{Bools, IsOfKind}
 use Rattle.hp_base.specs.declared.value.Value.{Value}
@@ -22,7 +23,7 @@ use Rattle.law_equations.specs.Meaning.Instants.{Instant, holds}
 use Rattle.law_equations.specs.Meaning.Reactions.{has, is_set}
 use Rattle.law_equations.specs.Meaning.Fitting.{is_there, IsThere, atom_variables, operands}
 use Rattle.law_equations.specs.Meaning.Kinding.{Callees, HasValue, HaveKinds, EqnKinds, kind_of_type, variable_kind, is_present, OptionallyOf, IsPossible, ClocksFit, ClockIsThere}
-use Rattle.law_equations.specs.Meaning.Scheduling.{IsRanked, IsDefinedBelow, reads}
+use Rattle.law_equations.specs.Meaning.Scheduling.{IsRanked, IsDefinedBelow, reads, EqnWithin, IsWithin}
 use Rattle.law_equations.specs.Meaning.Solving.{IsExclusive, NoOther}
 use Rattle.hp_quant.specs.declared.line.Line.{Line}
 use Rattle.hp_controller.specs.Controllers.{atom_at, test_at, equation, line_eqns, output_eqns, bit_variable, node_of_lines}
@@ -177,6 +178,16 @@ exclusive_from inputs now i (e ∷ es) h =
       exclusive_from inputs now (i + 1) es h.1,
     )
 
+all_give : (inputs : ℕ) (lines : List Line) (numbers : List ℕ) → AllFrom inputs 0 (line_eqns inputs 0 lines ++ output_eqns inputs (length lines) (length lines) numbers)
+all_give inputs lines numbers =
+    let place : length lines ≡ 0 + length lines = omega arith in
+    lines_give inputs 0 lines (output_eqns inputs (length lines) (length lines) numbers)
+    (subst (λ j. AllFrom inputs j (output_eqns inputs (length lines) (length lines) numbers)) place (outputs_give inputs (length lines) (length lines) numbers (omega arith)))
+
+all_count : (inputs : ℕ) (lines : List Line) (numbers : List ℕ) → length (line_eqns inputs 0 lines ++ output_eqns inputs (length lines) (length lines) numbers) ≡ length lines + length numbers
+all_count inputs lines numbers =
+    lines_count inputs 0 lines (output_eqns inputs (length lines) (length lines) numbers) ∙ ap (λ n. length lines + n) (outputs_count inputs (length lines) (length lines) numbers)
+
 module _ (types : List ObcType) (callees : Callees) (name : List ℕ) (inputs : ℕ) (lines : List Line) (numbers : List ℕ) where
   abbrev node : FlatNode
   node = node_of_lines name inputs lines numbers
@@ -185,13 +196,10 @@ module _ (types : List ObcType) (callees : Callees) (name : List ℕ) (inputs : 
   size = inputs + length lines + length numbers
 
   all : AllFrom inputs 0 node.eqns
-  all =
-      let place : length lines ≡ 0 + length lines = omega arith in
-      lines_give inputs 0 lines (output_eqns inputs (length lines) (length lines) numbers)
-      (subst (λ j. AllFrom inputs j (output_eqns inputs (length lines) (length lines) numbers)) place (outputs_give inputs (length lines) (length lines) numbers (omega arith)))
+  all = all_give inputs lines numbers
 
   count : length node.eqns ≡ length lines + length numbers
-  count = lines_count inputs 0 lines (output_eqns inputs (length lines) (length lines) numbers) ∙ ap (λ n. length lines + n) (outputs_count inputs (length lines) (length lines) numbers)
+  count = all_count inputs lines numbers
 
   kind_at : (x : ℕ) → x < size → variable_kind types node.variables x ≡ Bools
   kind_at x h =
@@ -245,3 +253,36 @@ well_made types callees name inputs lines numbers =
       kinds = kinds types callees name inputs lines numbers;
       fit = fits types callees name inputs lines numbers;
     }
+
+-- ---- its numbers are those of its variables
+
+range_long : (from count : ℕ) → length (range_with_len from count) ≡ count
+range_long from zero = refl
+range_long from (suc n) = ap suc (range_long (from + 1) n)
+
+module _ (name : List ℕ) (inputs : ℕ) (lines : List Line) (numbers : List ℕ) where
+  abbrev it : FlatNode
+  it = node_of_lines name inputs lines numbers
+
+  abbrev many : ℕ
+  many = inputs + length lines + length numbers
+
+  long : length it.variables ≡ many
+  long = length-map (range_with_len 0 many) bit_variable ∙ range_long 0 many
+
+  pub outputs_long : length it.outputs ≡ length numbers
+  outputs_long = range_long (inputs + length lines) (length numbers)
+
+  pub within : IsWithin it
+  within = record {
+    inputs = omega (arith, long);
+    outputs = in_range (λ x. x < length it.variables) (inputs + length lines) (length numbers) (λ x h. omega (arith, h, long));
+    eqns = let count = all_count inputs lines numbers in
+        each_of inputs (EqnWithin (length it.variables)) 0 it.eqns
+        (λ i op args l u bits k. record {
+          targets = (omega (arith, u, count, long), tt);
+          clock = tt;
+          operands = each_map (λ x. x < inputs + i) (λ x. x < length it.variables) (λ x h. omega (arith, h, u, count, long)) (flat_map atom_variables args) (read_below (inputs + i) args bits);
+          restart = tt;
+        }) (all_give inputs lines numbers);
+  }

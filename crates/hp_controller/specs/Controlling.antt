@@ -13,6 +13,7 @@ use Rattle.hp_flat.specs.Nodes.{FlatNode}
 use Rattle.law_equations.specs.Meaning.Instants.{Instant}
 use Rattle.law_equations.specs.Meaning.Reactions.{Answers, Continues, outputs_at}
 use Rattle.law_equations.specs.Meaning.Kinding.{Callees, IsWellMade}
+use Rattle.law_equations.specs.Meaning.Scheduling.{IsWithin}
 
 -- an operator, which remembers nothing and asks no node
 abbrev pub IsOperator : Right → Type 0
@@ -20,11 +21,13 @@ IsOperator (operator op args) = ⊤
 IsOperator (register first next) = ⊥
 IsOperator (called f args) = ⊥
 
--- The node is the controller of the machine: it is named after it, has truth values alone, takes the registers and the early bits, remembers nothing, and gives its choice at each state and all early values.
+-- The node is the controller of the machine: it is named after it, has truth values alone, takes the registers and the early bits, gives so many as there are control bits, remembers nothing, and gives its choice at each state and all early values.
 pub record IsController (m : Machine) (node : FlatNode) : Type 0 where
   pub name : node.name ≡ m.name ++ codes "$ctl"
   pub bits : AllByRecursion (λ (x : Variable). x.ty ≡ Bool) node.variables
   pub inputs : node.inputs ≡ m.registers + m.early
+  pub outputs : length node.outputs ≡ length m.prefer
+  pub within : IsWithin node
   pub stateless : AllByRecursion (λ (e : FlatEqn). IsOperator e.right) node.eqns
   pub well_made : (types : List ObcType) (callees : Callees) → IsWellMade types callees node
   pub gives : (answers : Answers) (past : List Instant) (r u : Bits) (now : Instant) → length r ≡ m.registers → length u ≡ m.early → Continues answers node past (map (λ b. B b) (r ++ u)) now

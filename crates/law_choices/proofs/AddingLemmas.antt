@@ -10,6 +10,7 @@ pub mod Machine
 pub mod Decoding
 pub mod Placed
 pub mod WorkedSteps
+pub mod WorkedChoosing
 pub mod Embeds
 pub mod Watched
 pub mod Whole

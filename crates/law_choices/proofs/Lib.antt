@@ -16,3 +16,4 @@ pub mod PlacesLemmas
 mod AnsweredLemmas
 mod PartLemmas
 mod AddingLemmas
+mod InTurnLemmas

@@ -16,3 +16,4 @@ pub mod Places
 pub mod Answered
 pub mod Part
 pub mod Adding
+pub mod InTurn

@@ -16,7 +16,7 @@ ghost use Rattle.law_choices.specs.Adding.Placed.{PlacedLaw, PlacedLoopLaw, Plac
 ghost use Rattle.law_choices.specs.Adding.Surveyed.{SurveyedLaw};
 ghost use Rattle.law_choices.specs.Adding.Watched.{WatchedLaw};
 ghost use Rattle.law_choices.specs.Adding.Whole.{WholeLaw};
-ghost use Rattle.law_choices.specs.Adding.Worked.{SomeControlledLaw, SomeEmbeddedLaw, SomeWatchedLaw, SomeWatchingLaw, SomeWholeLaw};
+ghost use Rattle.law_choices.specs.Adding.Worked.{SomeCalledLaw, SomeChoosingLaw, SomeControlledLaw, SomeEmbeddedLaw, SomePlacedLaw, SomeWatchedLaw, SomeWatchingLaw, SomeWholeLaw};
 
 use crate::answered::extended_nodes_close;
 use law_equations::fitting::targets_differ;
@@ -107,7 +107,7 @@ pub fn watched_nodes_choose()
     nodes_that_choose_are_made();
 }
 
-/// A variable is lifted and watched, an observer is put into a node, and a node chooses the value of its control variable.
+/// A variable is lifted and watched, an observer is put into a node, and a node chooses the value of its control variable; it meets all that is asked at once. An equation takes another place, and of calls the same is said.
 pub fn worked_steps()
     ensures lift { SomeLiftLaw }
     ensures controlled { SomeControlledLaw }
@@ -115,4 +115,7 @@ pub fn worked_steps()
     ensures embedded { SomeEmbeddedLaw }
     ensures watched { SomeWatchedLaw }
     ensures watching { SomeWatchingLaw }
+    ensures choosing { SomeChoosingLaw }
+    ensures placed { SomePlacedLaw }
+    ensures called { SomeCalledLaw }
 {}

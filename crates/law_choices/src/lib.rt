@@ -9,6 +9,7 @@ pub mod closed;
 pub mod depending;
 pub mod filled;
 pub mod flat;
+pub mod in_turn;
 pub mod independent;
 pub mod on_clocks;
 pub mod once;

@@ -90,7 +90,7 @@ module _ (types : List ObcType) (callees : Callees) (vs added : List Variable) w
   right_kinds (register first next) ks w h = (h.0, h.1, atom_kind next h.0 w h.2, h.3)
   right_kinds (called f args) ks w h = (args_kinds args (callees.takes f) w h.0, h.1)
 
-  targets_kinds : (xs : List ℕ) → AreBelow (length vs) xs → map (variable_kind types (vs ++ added)) xs ≡ map (variable_kind types vs) xs
+  pub targets_kinds : (xs : List ℕ) → AreBelow (length vs) xs → map (variable_kind types (vs ++ added)) xs ≡ map (variable_kind types vs) xs
   targets_kinds [] w = refl
   targets_kinds (x ∷ xs) w = ap₂ (λ k ks. k ∷ ks) (same_kind x w.0) (targets_kinds xs w.1)
 

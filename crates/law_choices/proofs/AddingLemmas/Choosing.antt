@@ -38,14 +38,14 @@ no_copy (register first next) e c = absurd c
 no_copy (called f args) e c = absurd c
 
 -- a number of an event among equations
-abbrev HasEvent : List FlatEqn → ℕ → Type 0
+abbrev pub HasEvent : List FlatEqn → ℕ → Type 0
 HasEvent es k = (e : FlatEqn) × (slice_get es k ≡ Some e) × (IsCopy e.right → ⊥)
 
 at_last : (before : List FlatEqn) (e : FlatEqn) (es : List FlatEqn) → slice_get (before ++ e ∷ es) (length before) ≡ Some e
 at_last [] e es = refl
 at_last (d ∷ before) e es = at_last before e es
 
-events_are : (before es : List FlatEqn) → AllByRecursion (HasEvent (before ++ es)) (events_from (length before) es)
+pub events_are : (before es : List FlatEqn) → AllByRecursion (HasEvent (before ++ es)) (events_from (length before) es)
 events_are before [] = tt
 events_are before (e ∷ es) = by (is_event e.right) refl (turned (events_are (before ++ e ∷ []) es))
   where
@@ -62,11 +62,11 @@ events_are before (e ∷ es) = by (is_event e.right) refl (turned (events_are (b
 
 -- ---- a walk finds no more than is there
 
-to_along : (P : ℕ → Type 0) (xs : List ℕ) → AllByRecursion P xs → Along (λ (x y : ℕ). P x) xs xs
+pub to_along : (P : ℕ → Type 0) (xs : List ℕ) → AllByRecursion P xs → Along (λ (x y : ℕ). P x) xs xs
 to_along P [] h = tt
 to_along P (x ∷ xs) h = (h.0, to_along P xs h.1)
 
-from_along : (P : ℕ → Type 0) (xs ys : List ℕ) → Along (λ (x y : ℕ). P x) xs ys → AllByRecursion P xs
+pub from_along : (P : ℕ → Type 0) (xs ys : List ℕ) → Along (λ (x y : ℕ). P x) xs ys → AllByRecursion P xs
 from_along P [] ys h = tt
 from_along P (x ∷ xs) [] h = absurd h
 from_along P (x ∷ xs) (y ∷ ys) h = (h.0, from_along P xs ys h.1)

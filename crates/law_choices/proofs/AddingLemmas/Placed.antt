@@ -24,7 +24,7 @@ use Rattle.law_choices.proofs.ClosedLemmas.ClosedLaws.{each_other, first_one, la
 
 -- ---- equations
 
-abbrev AreSame : List FlatEqn → List FlatEqn → Type 0
+abbrev pub AreSame : List FlatEqn → List FlatEqn → Type 0
 AreSame [] [] = Unit {0}
 AreSame (e ∷ es) (f ∷ fs) = (unplaced e ≡ unplaced f) × AreSame es fs
 AreSame es fs = ⊥
@@ -37,7 +37,7 @@ rest_of : List FlatEqn → List FlatEqn
 rest_of [] = []
 rest_of (e ∷ es) = es
 
-same_eqns : (es fs : List FlatEqn) → map unplaced es ≡ map unplaced fs → AreSame es fs
+pub same_eqns : (es fs : List FlatEqn) → map unplaced es ≡ map unplaced fs → AreSame es fs
 unfolding first_of rest_of
 same_eqns [] [] h = tt
 same_eqns [] (f ∷ fs) h = absurd cc
@@ -45,7 +45,7 @@ same_eqns (e ∷ es) [] h = absurd cc
 same_eqns (e ∷ es) (f ∷ fs) h = (ap (first_of (unplaced e)) h, same_eqns es fs (ap rest_of h))
 
 -- what says nothing of places
-transfer : (P : FlatEqn → Type 0) → ((e : FlatEqn) → P e → P (unplaced e)) → ((e : FlatEqn) → P (unplaced e) → P e) → (es fs : List FlatEqn) → AreSame es fs → AllByRecursion P es → AllByRecursion P fs
+pub transfer : (P : FlatEqn → Type 0) → ((e : FlatEqn) → P e → P (unplaced e)) → ((e : FlatEqn) → P (unplaced e) → P e) → (es fs : List FlatEqn) → AreSame es fs → AllByRecursion P es → AllByRecursion P fs
 transfer P up down [] [] s h = tt
 transfer P up down [] (f ∷ fs) s h = absurd s
 transfer P up down (e ∷ es) [] s h = absurd s
@@ -83,7 +83,7 @@ exclusive now (e ∷ es) [] s h = absurd s
 exclusive now (e ∷ es) (f ∷ fs) s h =
     ((λ g. no_other now e f s.0 es fs s.1 (h.0 (subst (λ (z : FlatEqn). holds z.clock now ≡ true) (sym s.0) g))), exclusive now es fs s.1 h.1)
 
-set_same : (now : Instant) (x : ℕ) (es fs : List FlatEqn) → AreSame es fs → is_set es now x ≡ is_set fs now x
+pub set_same : (now : Instant) (x : ℕ) (es fs : List FlatEqn) → AreSame es fs → is_set es now x ≡ is_set fs now x
 set_same now x [] [] s = refl
 set_same now x [] (f ∷ fs) s = absurd s
 set_same now x (e ∷ es) [] s = absurd s

@@ -37,12 +37,12 @@ use Rattle.law_choices.proofs.AddingLemmas.Embeds.{keeps, place_kept}
 
 -- ---- lists
 
-at_number : {A : Type 0} (P : A → Type 0) (xs : List A) (k : ℕ) (x : A) → slice_get xs k ≡ Some x → AllByRecursion P xs → P x
+pub at_number : {A : Type 0} (P : A → Type 0) (xs : List A) (k : ℕ) (x : A) → slice_get xs k ≡ Some x → AllByRecursion P xs → P x
 at_number P [] k x e h = absurd cc
 at_number P (y ∷ xs) zero x e h = let same : y ≡ x = cc in subst P same h.0
 at_number P (y ∷ xs) (suc k) x e h = at_number P xs k x e h.1
 
-number_below : {A : Type 0} (xs : List A) (k : ℕ) (x : A) → slice_get xs k ≡ Some x → k < length xs
+pub number_below : {A : Type 0} (xs : List A) (k : ℕ) (x : A) → slice_get xs k ≡ Some x → k < length xs
 number_below [] k x e = absurd cc
 number_below (y ∷ xs) zero x e = omega arith
 number_below (y ∷ xs) (suc k) x e = let l = number_below xs k x e in omega (arith, l)
@@ -61,7 +61,7 @@ get_some [] k l = absurd (omega (arith, l))
 get_some (x ∷ xs) zero l = (x, refl)
 get_some (x ∷ xs) (suc k) l = get_some xs k (omega (arith, l))
 
-flat_all : {A B : Type 0} (P : B → Type 0) (f : A → List B) (xs : List A) → AllByRecursion (λ x. AllByRecursion P (f x)) xs → AllByRecursion P (flat_map f xs)
+pub flat_all : {A B : Type 0} (P : B → Type 0) (f : A → List B) (xs : List A) → AllByRecursion (λ x. AllByRecursion P (f x)) xs → AllByRecursion P (flat_map f xs)
 flat_all P f [] h = tt
 flat_all P f (x ∷ xs) h = both P (f x) (flat_map f xs) h.0 (flat_all P f xs h.1)
 

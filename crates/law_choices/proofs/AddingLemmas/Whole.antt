@@ -10,6 +10,7 @@ use Rattle.hp_flat.specs.declared.node.FlatTy.TheVariants.{Bool as Truth, Int, E
 use Rattle.hp_flat.specs.Equations.{Clock, FlatEqn}
 use Rattle.hp_flat.specs.Nodes.{FlatNode}
 use Rattle.law_equations.specs.Meaning.Kinding.{Callees, IsWellMade, kind_of_type}
+use Rattle.law_equations.specs.Meaning.Scheduling.{IsWithin}
 use Rattle.law_equations.specs.Meaning.Reactions.{Answers, is_set}
 use Rattle.hp_controller.specs.declared.decoding.Control.{Control}
 use Rattle.hp_controller.specs.Controlled.{placing_of, bit_variables, decoded_controls, controlled, IsControllable}
@@ -80,11 +81,14 @@ module _ (types : List ObcType) (callees : Callees) (clock : ℕ → Clock) (pla
 
   -- ---- the node is well made
 
+  other_based : IsBased types callees copies.clocks other
+  other_based = placed_law types callees copies.clocks closed other whole.placed copies.built
+
   well_made : OrderedLaw → IsWellMade types callees other
-  well_made ordered =
-      let b = copies.built in
-      let o = placed_law types callees copies.clocks closed other whole.placed b in
-      ordered types callees copies.clocks other o.well whole.ranked
+  well_made ordered = let o = other_based in ordered types callees copies.clocks other o.well whole.ranked
+
+  in_range : IsWithin other
+  in_range = let o = other_based in let w = o.well in w.within
 
   -- ---- it closes the plant
 
@@ -202,5 +206,6 @@ module _ (types : List ObcType) (callees : Callees) (clock : ℕ → Clock) (pla
 pub whole_law : OrderedLaw → ExtendedLoopLaw → ThenLaw → ControlledLoopLaw → WholeLaw
 whole_law ordered extended then_law controlled_loop types callees clock plant n other m name early late controls b k may whole = (
   well_made types callees clock plant n other m name early late controls k may whole ordered,
+  in_range types callees clock plant n other m name early late controls k may whole,
   λ answers. closes types callees clock plant n other m name early late controls k may whole b extended then_law controlled_loop answers,
 )

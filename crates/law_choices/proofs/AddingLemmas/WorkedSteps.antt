@@ -99,7 +99,7 @@ free_differ : TargetsDiffer free_node
 unfolding IsDistinct
 free_differ = ((tt, tt), tt)
 
-free_based : IsBased [] asked_alone (λ x. []) free_node
+pub free_based : IsBased [] asked_alone (λ x. []) free_node
 free_based = record {
   well = record {
     within = record { inputs = omega arith; outputs = (omega arith, tt); eqns = (record { targets = (omega arith, tt); clock = tt; operands = (omega arith, tt); restart = tt }, tt) };
@@ -114,7 +114,7 @@ free_based = record {
   inputs = λ x l. refl;
 }
 
-is_machine : IsMachine free_machine
+pub is_machine : IsMachine free_machine
 is_machine = record {
   few = omega arith;
   gates = (omega arith, omega arith);
@@ -146,7 +146,7 @@ some_controlled_law = (
 
 -- ---- a node that is made of it, with ranks
 
-placed_eqns : List ℕ → List FlatEqn → List FlatEqn
+unfoldable pub placed_eqns : List ℕ → List FlatEqn → List FlatEqn
 placed_eqns [] es = es
 placed_eqns (at ∷ ats) [] = []
 placed_eqns (at ∷ ats) (e ∷ es) = record e { at = at } ∷ placed_eqns ats es
@@ -157,7 +157,7 @@ unranked = with_copy 3 (with_copy 3 (controlled free_node free_machine (codes "f
 with_ranks : FlatNode
 with_ranks = record { name = unranked.name; variables = unranked.variables; inputs = unranked.inputs; outputs = unranked.outputs; eqns = placed_eqns (2 ∷ 0 ∷ 0 ∷ 1 ∷ 1 ∷ 1 ∷ []) unranked.eqns }
 
-never : {P : Type 0} → false ≡ true → P
+pub never : {P : Type 0} → false ≡ true → P
 never h = absurd cc
 
 some_whole : IsWhole free_node free_machine (codes "f$ctl") [] [] one_control with_ranks
@@ -201,16 +201,16 @@ some_watched_law = record {
 some_suits : (f : List ℕ) → Suits [] asked_alone f one_observer
 some_suits f = record { own = λ x. []; based = free_based; takes = refl; free = tt }
 
-all_suit : AllSuit [] asked_alone (λ f. Some one_observer)
+pub all_suit : AllSuit [] asked_alone (λ f. Some one_observer)
 all_suit f o e = let same : one_observer ≡ o = cc in subst (Suits [] asked_alone f) same (some_suits f)
 
-abbrev some_watched : Watched
+abbrev pub some_watched : Watched
 some_watched = watched_by [] [] (surveyed (λ f. Some one_observer) one_observer 0 [] free_node)
 
-is_watched : IsWatched [] (λ f. Some one_observer) some_tree [] free_node some_watched
+pub is_watched : IsWatched [] (λ f. Some one_observer) some_tree [] free_node some_watched
 is_watched = record { fits = record { events = refl; own = one_observer; has = refl; places = refl }; is = refl }
 
-of_some_tree : IsOfNode [] asked_alone (λ x. []) some_tree free_node
+pub of_some_tree : IsOfNode [] asked_alone (λ x. []) some_tree free_node
 of_some_tree = record { based = free_based; few = omega arith; takes = refl; gives = refl; own = ((inl refl, tt), tt) }
 
 pub some_watching_law : SomeWatchingLaw

@@ -31,7 +31,7 @@ set_front (e ∷ es) fs now x h = by (holds e.clock now && has e.targets x) h (�
     by true h rest = refl
     by false h rest = rest h
 
-set_behind : (es fs : List FlatEqn) (now : Instant) (x : ℕ) → is_set fs now x ≡ true → is_set (es ++ fs) now x ≡ true
+pub set_behind : (es fs : List FlatEqn) (now : Instant) (x : ℕ) → is_set fs now x ≡ true → is_set (es ++ fs) now x ≡ true
 set_behind [] fs now x h = h
 set_behind (e ∷ es) fs now x h = ap (λ b. (holds e.clock now && has e.targets x) || b) (set_behind es fs now x h) ∙ true_right (holds e.clock now && has e.targets x)
 
@@ -42,7 +42,7 @@ all_behind es fs now (x ∷ xs) h = (set_behind es fs now x h.0, all_behind es f
 same_number : (x : ℕ) → nat_eq x x ≡ true
 same_number x = grind (arith, nat_tests)
 
-copy_set : (target : ℕ) (a : Atom) (now : Instant) → is_set (equation 0 target Copy (a ∷ []) ∷ []) now target ≡ true
+pub copy_set : (target : ℕ) (a : Atom) (now : Instant) → is_set (equation 0 target Copy (a ∷ []) ∷ []) now target ≡ true
 copy_set target a now = ap (λ b. (b || false) || false) (same_number target)
 
 control_set : (target b next width : ℕ) (k : ControlKind) (now : Instant) → is_set (control_eqns target b next width k).eqns now target ≡ true

@@ -63,7 +63,7 @@ more_holds (on ∷ c) t i now h g =
 
 -- ---- values of kinds
 
-kind_there : (k : KindData) (v : Value) → IsOfKind k v → IsTrue (is_there v)
+pub kind_there : (k : KindData) (v : Value) → IsOfKind k v → IsTrue (is_there v)
 kind_there k (B b) h = refl
 kind_there k (E t c) h = refl
 kind_there k (I n) h = refl

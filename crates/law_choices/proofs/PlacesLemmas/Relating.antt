@@ -54,7 +54,7 @@ module _ {X Y : Type 0} (P : X → Y → Type 0) where
   goes-compared false x y h = h
 
   mutual
-    expr-goes : (e : Expr) → Goes (walk e) (walk e)
+    pub expr-goes : (e : Expr) → Goes (walk e) (walk e)
     expr-goes (constant s c) xs ys h = (tt, h)
     expr-goes (variable s x) xs ys h = (tt, h)
     expr-goes (last_of s x) xs ys h = (tt, h)

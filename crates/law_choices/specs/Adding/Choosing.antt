@@ -9,6 +9,7 @@ use Rattle.hp_flat.specs.Equations.{Clock}
 use Rattle.hp_flat.specs.Nodes.{FlatNode}
 use Rattle.law_equations.specs.Meaning.Kinding.{Callees, IsWellMade, kinds_at}
 use Rattle.law_equations.specs.Meaning.Reactions.{Answers}
+use Rattle.law_equations.specs.Meaning.Scheduling.{IsWithin}
 use Rattle.hp_controller.specs.declared.decoding.Control.{Control}
 use Rattle.hp_controller.specs.Controlled.{IsControllable}
 use Rattle.hp_watch.specs.Watching.{Observing, Watched, IsWatched}
@@ -35,10 +36,10 @@ WatchingLaw =
     (types : List ObcType) (callees : Callees) (clock : ℕ → Clock) (observers : Observing) (node : Node) (is_early : List Bool) (n : FlatNode) (w : Watched) → HaveBytes types → IsOfNode types callees clock node n
     → AllSuit types callees observers → IsWatched types observers node is_early n w → HasBits types callees clock n w
 
--- So the node that chooses is well made, and closes the node, whatever nodes answer.
+-- So the node that chooses is well made, its numbers are those of its variables, and it closes the node, whatever nodes answer.
 abbrev pub ChoosingLaw : Type 0
 ChoosingLaw =
     (types : List ObcType) (callees : Callees) (clock : ℕ → Clock) (observers : Observing) (node : Node) (is_early : List Bool) (n : FlatNode) (w : Watched) → HaveBytes types → IsOfNode types callees clock node n
     → AllSuit types callees observers → IsWatched types observers node is_early n w → (m : Machine) (name : List ℕ) (controls : List Control) (other : FlatNode) → IsControllable w.node m w.early controls → IsAskedFor callees m name
     → HaveControlKinds types n.variables (n.inputs - length controls) controls → IsWhole w.node m name w.early w.late controls other
-    → IsWellMade types callees other × ((answers : Answers) → IsClosed answers (length controls) (record { plant = n; closed = other }))
+    → IsWellMade types callees other × IsWithin other × ((answers : Answers) → IsClosed answers (length controls) (record { plant = n; closed = other }))

@@ -9,7 +9,7 @@ use Rattle.hp_flat.specs.Equations.{Clock}
 use Rattle.hp_flat.specs.Nodes.{FlatNode}
 use Rattle.law_equations.specs.Meaning.Kinding.{Callees, IsWellMade}
 use Rattle.law_equations.specs.Meaning.Reactions.{Answers}
-use Rattle.law_equations.specs.Meaning.Scheduling.{IsRanked}
+use Rattle.law_equations.specs.Meaning.Scheduling.{IsRanked, IsWithin}
 use Rattle.hp_controller.specs.declared.decoding.Control.{Control}
 use Rattle.hp_controller.specs.Controlled.{bits_added, controlled, IsControllable}
 use Rattle.hp_watch.specs.Adding.{with_copy}
@@ -39,9 +39,9 @@ pub record MayChoose (types : List ObcType) (callees : Callees) (clock : ℕ →
   pub late_there : AllByRecursion (IsThereAlways types n clock Bools) late
   pub kinds : HaveControlKinds types n.variables (n.inputs - length controls) controls
 
--- So the node that chooses is well made, and closes the node that is watched in it, whatever nodes answer.
+-- So the node that chooses is well made, its numbers are those of its variables, and it closes the node that is watched in it, whatever nodes answer.
 abbrev pub WholeLaw : Type 0
 WholeLaw =
     (types : List ObcType) (callees : Callees) (clock : ℕ → Clock) (plant n other : FlatNode) (m : Machine) (name early late : List ℕ) (controls : List Control) → IsBased types callees clock plant → (k : Keeps types callees clock plant n)
     → MayChoose types callees k.clocks n m name early late controls → IsWhole n m name early late controls other
-    → IsWellMade types callees other × ((answers : Answers) → IsClosed answers (length controls) (record { plant = plant; closed = other }))
+    → IsWellMade types callees other × IsWithin other × ((answers : Answers) → IsClosed answers (length controls) (record { plant = plant; closed = other }))

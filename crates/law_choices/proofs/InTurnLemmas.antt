@@ -1,0 +1,11 @@
+mod Calls
+mod Contracted
+mod Names
+pub mod Observers
+pub mod Programs
+mod Said
+mod Telling
+mod Tells
+mod Texts
+mod Types
+pub mod WorkedContract

@@ -1,0 +1,6 @@
+pub mod Nodes
+pub mod Calling
+pub mod Laws
+pub mod Worked
+pub mod Observers
+pub mod Texts
