@@ -1,3 +1,6 @@
-pub mod PartLaws
+pub mod AddedLaws
+pub mod AllowedLaws
 pub mod MachineLaws
-pub mod WholeLaws
+pub mod MadeLaws
+pub mod NameLaws
+pub mod PartLaws

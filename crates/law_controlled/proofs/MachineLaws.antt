@@ -17,11 +17,13 @@ use Rattle.hp_form.specs.Regular.Regular.{IsRegular, RegularLaw}
 use Rattle.hp_machines.specs.Making.{AreMade, defines_some, giving}
 use Rattle.law_history.proofs.StreamsLemmas.Giving.{kept_all, kept_nodes}
 use Rattle.law_history.proofs.StreamsLemmas.MadeMachines.{are_compiled, are_regular}
+use Rattle.law_equations.specs.Meaning.Kinding.{Callees}
+use Rattle.law_choices.specs.OnClocks.Meaning.{AreInTurn}
 use Rattle.law_choices.specs.Part.Laws as laws
 use Rattle.law_choices.specs.Part.Part.{Renumbering, ArePart, IsPart, renumbered, renumbered_right}
 use Rattle.law_choices.specs.Part.Part.ArePart.{no_eqn, kept_eqn, left_eqn}
 use Rattle.law_controlled.specs.Parts.{MadePartLaw, with_outputs}
-use Rattle.law_controlled.specs.Machines.{AnswerAsWhole, AreMadeFrom, AreShapedInTurn, HasShape, IsMadeFrom, MadeMachinesLaw}
+use Rattle.law_controlled.specs.Machines.{AnswerAsWhole, AreMadeFrom, AreShapedInTurn, HasShape, IsMadeFrom, IsWritable, MadeMachinesLaw, TurnMachinesLaw}
 use Rattle.law_controlled.specs.Machines.IsMadeFrom.{itself, a_part}
 
 -- ---- without the equations that define nothing
@@ -164,3 +166,19 @@ made_machines l regular compiled types ws ns machines answers takes form shaped_
     let all = compiled types (map giving ns) machines answers takes flat (are_compiled types ns machines made) (answered_kept answers takes ns (all_answered l regular types form answers takes [] ws ns from shaped_ws answered)) in
     of_names l regular types form
     (λ x. (inputs : List (List Value)) → AllByRecursion (AreOfKinds (takes x)) inputs → run (machine_behaviour (file_of types machines) x) (reverse inputs) ≡ reverse (all_answers (answers x) inputs)) ws ns from all
+
+-- ---- nodes in turn
+
+shaped_in_turn : (types : List ObcType) (callees : Callees) (earlier : List (List ℕ)) (ws : List FlatNode) → AreInTurn types callees earlier ws → AllByRecursion IsWritable ws → AreShapedInTurn earlier ws
+shaped_in_turn types callees earlier [] turn all = tt
+shaped_in_turn types callees earlier (w ∷ ws) turn all =
+    let well = turn.0 in
+    let one = all.0 in
+    (
+      record { within = one.within; no_inputs = well.no_inputs; ranked = well.ranked; names_differ = one.names_differ; names_own = one.names_own },
+      turn.3,
+      shaped_in_turn types callees (w.name ∷ earlier) ws turn.4 all.1,
+    )
+
+pub turn_machines : MadeMachinesLaw → TurnMachinesLaw
+turn_machines law types callees ws ns machines form turn all from made one = law types ws ns machines one.answers callees.takes form (shaped_in_turn types callees [] ws turn all) from made one.answered

@@ -85,7 +85,8 @@ names_law n other has adds few =
     let count : length other.variables ≡ length (n.variables ++ adds.more) = ap length adds.variables in
     let enough : length n.variables + length adds.more ≤ 2 ^ 64 = omega (arith, longer, count, few) in
     let split : names other.variables ≡ names n.variables ++ names adds.more = ap names adds.variables ∙ names_both n.variables adds.more in
-    (
-      subst (IsDistinct bytes_eq) (sym split) (both_differ (names n.variables) (length n.variables) adds.more has.free has.differ enough adds.added),
-      subst (AllByRecursion IsOwn) (sym split) (all_both IsOwn (names n.variables) (names adds.more) has.own (own_names (length n.variables) adds.more adds.added)),
-    )
+    let before = has.names_free in
+    record {
+      differ = subst (IsDistinct bytes_eq) (sym split) (both_differ (names n.variables) (length n.variables) adds.more has.free before.differ enough adds.added);
+      own = subst (AllByRecursion IsOwn) (sym split) (all_both IsOwn (names n.variables) (names adds.more) before.own (own_names (length n.variables) adds.more adds.added));
+    }

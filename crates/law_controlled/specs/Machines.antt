@@ -15,6 +15,8 @@ use Rattle.law_equations.specs.Meaning.Reactions.{Answers}
 use Rattle.law_equations.specs.Meaning.Scheduling.{IsRanked, IsWithin, DefinesNoInput}
 use Rattle.hp_machines.specs.Making.{AreMade}
 use Rattle.hp_controlled.specs.Parts as compiled
+use Rattle.law_equations.specs.Meaning.Kinding.{Callees}
+use Rattle.law_choices.specs.OnClocks.Meaning.{AreInTurn, HasOneMeaning}
 use Rattle.law_controlled.specs.Parts.{with_outputs}
 
 -- What is asked of a whole node: numbers are those of its variables, equations define no input and have ranks, and names differ and are no names of memories or instances.
@@ -52,3 +54,15 @@ abbrev pub MadeMachinesLaw : Type 0
 MadeMachinesLaw =
     (types : List ObcType) (ws ns : List FlatNode) (machines : List Machine) (answers : Answers) (takes : Names (List KindData)) → TypesForm types → AreShapedInTurn [] ws → AreMadeFrom ws ns → AreMade types ns machines
     → AllByRecursion (Answered answers takes) ws → AnswerAsWhole types machines answers takes ws
+
+-- What is asked of a node that stands in turn, besides: numbers are those of its variables, whose names differ and are no names of memories or instances.
+pub record IsWritable (n : FlatNode) : Type 0 where
+  pub within : IsWithin n
+  pub names_differ : IsDistinct bytes_eq (names n.variables)
+  pub names_own : AllByRecursion IsOwn (names n.variables)
+
+-- So the machines of nodes in turn answer as their one meaning.
+abbrev pub TurnMachinesLaw : Type 0
+TurnMachinesLaw =
+    (types : List ObcType) (callees : Callees) (ws ns : List FlatNode) (machines : List Machine) → TypesForm types → AreInTurn types callees [] ws → AllByRecursion IsWritable ws → AreMadeFrom ws ns → AreMade types ns machines
+    → (one : HasOneMeaning callees ws) → AnswerAsWhole types machines one.answers callees.takes ws

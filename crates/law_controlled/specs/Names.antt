@@ -22,12 +22,16 @@ pub record Adds (n other : FlatNode) : Type 0 where
   pub variables : other.variables ≡ n.variables ++ more
   pub added : AreAdded (length n.variables) more
 
--- Names of variables differ and are no names of memories or instances, and none is that of an added variable of a larger number.
-pub record HasNames (n : FlatNode) : Type 0 where
+-- Names of variables differ and are no names of memories or instances.
+pub record HasFreeNames (n : FlatNode) : Type 0 where
   pub differ : IsDistinct bytes_eq (names n.variables)
   pub own : AllByRecursion IsOwn (names n.variables)
+
+-- So it is, and none is that of an added variable of a larger number.
+pub record HasNames (n : FlatNode) : Type 0 where
+  pub names_free : HasFreeNames n
   pub free : AllByRecursion (λ (x : List ℕ). (k : ℕ) → length n.variables ≤ k → IsAdded k x → ⊥) (names n.variables)
 
 -- Where variables are added, names differ still: there are no more than memory holds.
 abbrev pub NamesLaw : Type 0
-NamesLaw = (n other : FlatNode) → HasNames n → Adds n other → length other.variables ≤ 2 ^ 64 → IsDistinct bytes_eq (names other.variables) × AllByRecursion IsOwn (names other.variables)
+NamesLaw = (n other : FlatNode) → HasNames n → Adds n other → length other.variables ≤ 2 ^ 64 → HasFreeNames other
