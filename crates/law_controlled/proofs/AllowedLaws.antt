@@ -1,0 +1,57 @@
+-- The machines of a program that chooses give what the program allows.
+use Rattle.std.proofs.Common.{◌≡◌, List, [], ◌∷◌, sym, subst}
+use Rattle.std.specs.List.{AllByRecursion}
+use Rattle.hp_obc.specs.Form.{TypesForm}
+use Rattle.hp_obc.specs.Machines.{Machine, Obc, ObcType}
+use Rattle.hp_tree.specs.Meaning.{types_of}
+use Rattle.hp_automata.specs.Lowering.{enumerations, lowered_program}
+use Rattle.hp_complete.specs.Declaring.{known_of}
+use Rattle.hp_complete.specs.Made.{AreMadeOf}
+use Rattle.hp_flat.specs.Nodes.{FlatNode}
+use Rattle.hp_machines.specs.Making.{AreMade}
+use Rattle.law_equations.specs.Made.Types.{obc_types}
+use Rattle.law_equations.specs.Meaning.Scheduling.{IsWithin}
+use Rattle.law_choices.specs.InTurn.Laws as turn
+use Rattle.law_choices.specs.InTurn.Nodes.{all_nodes}
+use Rattle.hp_controlled.specs.Compiled.{AreNodes, HaveMachines}
+use Rattle.law_controlled.specs.Machines.{AnswerAsWhole, IsWritable, TurnMachinesLaw}
+use Rattle.law_controlled.specs.Names.{HasFreeNames}
+use Rattle.law_controlled.specs.Program.{HaveMade, MadeNodesLaw}
+use Rattle.law_controlled.specs.Allowed.{AllowedLaw}
+
+writable : (ns : List FlatNode) → AllByRecursion IsWithin ns → AllByRecursion HasFreeNames ns → AllByRecursion IsWritable ns
+writable [] h k = tt
+writable (n ∷ ns) h k =
+    let names = k.0 in
+    (record { within = h.0; names_differ = names.differ; names_own = names.own }, writable ns h.1 k.1)
+
+pub allowed_law : MadeNodesLaw → TurnMachinesLaw → turn.TurnLaw → turn.WithinLaw → turn.ChoosingProgramLaw → AllowedLaw
+allowed_law made_law machines_law in_turn within means program after ranks o ready removable fall form short names machines owed =
+    let c = machines.machines in
+    let equations = c.equations in
+    let have = c.have in
+    let types = obc_types (types_of after) in
+    let are = subst (λ (ts : List ObcType). AreNodes after ts c.observers after c.plants have.nodes) machines.types have.are in
+    let its_form = subst TypesForm machines.types machines.form in
+    let its_machines = subst (λ (ts : List ObcType). AreMade ts have.nodes o.machines) machines.types have.made in
+    let made = made_law after types c.observers (known_of (lowered_program after)) (enumerations [] after) after c.plants have.nodes equations.made are in
+    let chooses : turn.IsChoosing program after c.observers made.all = record {
+      ready = ready;
+      removable = removable;
+      form = form;
+      short = short;
+      names = names;
+      equations = subst (AreMadeOf (known_of (lowered_program after)) (lowered_program after)) (sym made.are_plants) equations.made;
+      within = subst (AllByRecursion IsWithin) (sym made.are_plants) owed.within;
+      suit = owed.suit made.all made.made;
+      alone = owed.alone;
+      made = made.made;
+    } in
+    let allowed = means program after ranks c.observers made.all fall chooses in
+    let runs = machines_law types (turn.said_of after made.all) (all_nodes made.all) have.nodes o.machines its_form (in_turn program after c.observers made.all chooses)
+    (writable (all_nodes made.all) (within program after c.observers made.all chooses) (owed.names made.all made.made made.are_plants)) made.from its_machines allowed.one in
+    record {
+      all = made.all;
+      allowed = allowed;
+      runs = subst (λ (ts : List ObcType). AnswerAsWhole ts o.machines allowed.one.answers (turn.said_of after made.all).takes (all_nodes made.all)) (sym machines.types) runs;
+    }

@@ -1,0 +1,7 @@
+use Rattle.law_controlled.proofs.AllowedLaws.{allowed_law}
+use Rattle.law_controlled.proofs.machines_say_what_is_allowed.Goals as goal
+
+pub returns : goal.returns
+returns c =
+    let turn = c.nodes_that_choose_stand_in_turn.ensures in
+    allowed_law c.nodes_are_made.ensures c.machines_answer_as_whole_nodes.ensures.turn turn.turn turn.within turn.means

@@ -1,0 +1,45 @@
+-- Each line that the machines of a program say whose nodes choose the values of their controllable variables is one that the program allows.
+-- Source: own; a controlled program does nothing that the program without its controller could not do, after Ramadge and Wonham (The control of discrete event systems, Proceedings of the IEEE, 1989).
+use Rattle.std.specs.Prelude.{◌≡◌, ℕ, false, List}
+use Rattle.std.specs.List.{AllByRecursion}
+use Rattle.hp_obc.specs.Form.{TypesForm}
+use Rattle.hp_obc.specs.Machines.{Obc}
+use Rattle.hp_tree.specs.declared.program.Item.{Item}
+use Rattle.hp_tree.specs.Meaning.{types_of}
+use Rattle.hp_tree.specs.Programs.{Node}
+use Rattle.hp_meaning.specs.Causal.RanksOfPoints.{AllFall}
+use Rattle.law_judged.specs.Named.Scoped.{EachNode}
+use Rattle.law_values.specs.Accepted.Laws.{IsReady}
+use Rattle.hp_automata.specs.NewNames.{is_new}
+use Rattle.law_automata.specs.Lowered.Removable.{IsRemovable}
+use Rattle.law_equations.specs.Made.Types.{obc_types, obc_types_of}
+use Rattle.law_equations.specs.Meaning.Scheduling.{IsWithin}
+use Rattle.law_wellmade.specs.Spelled.Integers.{NodeShort}
+use Rattle.law_choices.specs.Adding.Surveyed.{AllSuit}
+use Rattle.law_choices.specs.Answered.Loops as loop
+use Rattle.law_choices.specs.InTurn.Calling.{CallNothing}
+use Rattle.law_choices.specs.InTurn.Laws.{IsAllowed, said_of}
+use Rattle.law_choices.specs.InTurn.Nodes.{Made, AreAllMade, all_nodes, loops}
+use Rattle.hp_controlled.specs.Chosen.{AreControlledMachines}
+use Rattle.hp_controlled.specs.Compiled.{AreCompiled}
+use Rattle.law_controlled.specs.Machines.{AnswerAsWhole}
+use Rattle.law_controlled.specs.Names.{HasFreeNames}
+
+-- Some nodes are made of the program that have one meaning, which the program allows, and the machine of each name gives on inputs of the kinds, oldest first, what its node answers.
+pub record RunsAllowed (after : List Item) (o : Obc) : Type 0 where
+  pub all : List Made
+  pub allowed : IsAllowed after all
+  pub runs : AnswerAsWhole o.types o.machines allowed.one.answers (said_of after all).takes (all_nodes all)
+
+-- What is asked of compiled machines and is not proved yet: the numbers in the clocked equations of nodes are those of their variables; observers suit and call nothing; and the variables of whatever is made have names that differ and are no names of memories or instances.
+pub record AreOwed (after : List Item) (o : Obc) (c : AreCompiled after o.types o.machines) : Type 0 where
+  pub within : AllByRecursion IsWithin c.plants
+  pub suit : (all : List Made) → AreAllMade (obc_types (types_of after)) c.observers after all → AllSuit (obc_types (types_of after)) (said_of after all) c.observers
+  pub alone : CallNothing c.observers
+  pub names : (all : List Made) → AreAllMade (obc_types (types_of after)) c.observers after all → loop.plants (loops all) ≡ c.plants → AllByRecursion HasFreeNames (all_nodes all)
+
+-- So it is of the machines that are compiled of a ready program whose points have ranks.
+abbrev pub AllowedLaw : Type 0
+AllowedLaw =
+    (program after : List Item) (ranks : List (List ℕ)) (o : Obc) → IsReady program after → IsRemovable after → AllFall after ranks → TypesForm (obc_types_of program) → EachNode NodeShort after → EachNode (λ (n : Node). is_new n.name ≡ false) after
+    → (machines : AreControlledMachines after o) → AreOwed after o machines.machines → RunsAllowed after o

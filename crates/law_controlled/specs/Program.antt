@@ -1,0 +1,35 @@
+-- What is made of the nodes of a program whose nodes choose the values of their controllable variables.
+-- Source: own.
+use Rattle.std.specs.Prelude.{◌≡◌, List, map}
+use Rattle.hp_obc.specs.Machines.{ObcType}
+use Rattle.hp_tree.specs.declared.program.Item.{Item}
+use Rattle.hp_automata.specs.Lowering.{Enumerations, lowered_item}
+use Rattle.hp_flat.specs.Nodes.{FlatNode}
+use Rattle.law_equations.specs.Made.Making.{Known}
+use Rattle.hp_complete.specs.Made.{AreMadeOf}
+use Rattle.hp_watch.specs.Watching.{Observing}
+use Rattle.hp_abstract.specs.declared.abstracted.Abstraction.{Abstraction}
+use Rattle.hp_tree.specs.Programs.{Node}
+use Rattle.hp_controlled.specs.Choosing.{IsChoosing, Telling}
+use Rattle.hp_controlled.specs.Compiled.{AreNodes}
+use Rattle.law_controlled.specs.Names.{Adds}
+use Rattle.law_choices.specs.Answered.Loops as loop
+use Rattle.law_choices.specs.InTurn.Nodes.{Made, AreAllMade, all_nodes, loops}
+use Rattle.law_controlled.specs.Machines.{AreMadeFrom}
+
+-- It is known of each node what is made of it, and its machines are made of that: of controllers and of the nodes that choose, or of parts of these.
+pub record HaveMade (types : List ObcType) (observers : Observing) (items : List Item) (plants nodes : List FlatNode) : Type 0 where
+  pub all : List Made
+  pub made : AreAllMade types observers items all
+  pub are_plants : loop.plants (loops all) ≡ plants
+  pub from : AreMadeFrom (all_nodes all) nodes
+
+-- So it is of what the compiler makes, of the clocked equations of the nodes without their automata.
+abbrev pub MadeNodesLaw : Type 0
+MadeNodesLaw =
+    (program : List Item) (types : List ObcType) (observers : Observing) (k : Known) (enums : Enumerations) (items : List Item) (plants nodes : List FlatNode) → AreMadeOf k (map (lowered_item enums) items) plants
+    → AreNodes program types observers items plants nodes → HaveMade types observers items plants nodes
+
+-- The node that chooses has the variables of its clocked equations, and more with names of their own.
+abbrev pub ChoosingNamesLaw : Type 0
+ChoosingNamesLaw = (types : List ObcType) (observers : Observing) (node : Node) (n : FlatNode) (a : Abstraction) (c : Telling) → IsChoosing types observers node n a c → Adds n c.node
