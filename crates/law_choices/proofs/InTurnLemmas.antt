@@ -1,3 +1,4 @@
+mod Allowed
 mod Calls
 mod Contracted
 mod Names

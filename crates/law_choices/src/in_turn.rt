@@ -3,6 +3,7 @@
 //! The functions here do nothing: each is a law, which its contract states.
 #![tactic(auto)]
 
+ghost use Rattle.law_choices.specs.InTurn.Allowed.{AllowedRunLaw};
 ghost use Rattle.law_choices.specs.InTurn.Laws.{ChoosingProgramLaw, TellingLaw, TurnLaw, WithinLaw};
 ghost use Rattle.law_choices.specs.InTurn.Observers.{ObserverLaw};
 ghost use Rattle.law_choices.specs.InTurn.Texts.{TextLaw};
@@ -14,6 +15,7 @@ use crate::adding::{
 };
 use crate::answered::{closed_programs_answer_as_the_program_allows, extended_nodes_close};
 use crate::on_clocks::programs_have_one_meaning;
+use crate::runs::chosen_values_make_one_reaction;
 use hp_controller::lines_give_their_functions;
 use law_equations::fitting::{calls_are_kept, targets_differ};
 use law_equations::meaning::nodes_have_one_reaction;
@@ -37,6 +39,13 @@ pub fn nodes_that_choose_stand_in_turn()
     nodes_have_one_reaction();
     programs_have_one_meaning();
     closed_programs_answer_as_the_program_allows();
+}
+
+/// Line by line: the answers of a node are the outputs of a reaction of the program in which all controllable variables have values of their types.
+pub fn nodes_that_choose_answer_as_the_program_allows()
+    ensures { AllowedRunLaw }
+{
+    chosen_values_make_one_reaction();
 }
 
 /// What is asked of a program is so of that of a text that the judgements accept: no name of its nodes holds the sign.

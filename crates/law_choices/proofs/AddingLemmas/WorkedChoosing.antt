@@ -1,14 +1,13 @@
 -- A node that meets all that is asked of one that chooses; an equation at another place, and calls of which the same is said.
-use Rattle.std.proofs.Common.{◌≡◌, ℕ, zero, suc, ◌<◌, ◌≤◌, true, false, List, [], ◌∷◌, Some, refl, arith}
+use Rattle.std.proofs.Common.{◌≡◌, ℕ, zero, suc, ◌≤◌, false, [], ◌∷◌, refl, arith}
 use Rattle.std.specs.Prelude.{codes}
 use Rattle.hp_base.specs.declared.value.Value.TheVariants.{Absent}
 use Rattle.hp_flat.specs.Nodes.{FlatNode}
-use Rattle.law_equations.specs.Meaning.Reactions.{Answers, Reaction, is_set}
+use Rattle.law_equations.specs.Meaning.Reactions.{is_set}
 use Rattle.hp_controller.specs.Controlled.{controlled, IsControllable}
 use Rattle.hp_watch.specs.Adding.{with_variable, with_eqn, with_copy}
-use Rattle.law_choices.specs.Adding.Placed.{IsPlaced}
 use Rattle.law_choices.specs.Adding.Whole.{IsWhole}
-use Rattle.law_choices.specs.Adding.Worked.{free_node, free_machine, one_control, asked_alone, SomeChoosingLaw, later_node, both_true, SomePlacedLaw, asking_node, said_otherwise, SomeCalledLaw}
+use Rattle.law_choices.specs.Adding.Worked.{free_node, free_machine, one_control, asked_alone, SomeChoosingLaw, later_node, both_true, SomePlacedLaw, SomeCalledLaw}
 use Rattle.law_choices.proofs.AnsweredLemmas.Extended.{own_loop}
 use Rattle.law_choices.proofs.AddingLemmas.Decoding.{controlled_stays}
 use Rattle.law_choices.proofs.AddingLemmas.WorkedSteps.{never, placed_eqns, is_machine, free_based, all_suit, some_watched, is_watched, of_some_tree}

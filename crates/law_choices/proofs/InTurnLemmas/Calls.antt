@@ -1,6 +1,6 @@
 -- Which nodes the node that chooses calls: those that its plant calls, and its controller.
-use Rattle.std.proofs.Common.{◌≡◌, ℕ, zero, suc, ◌+◌, ◌-◌, Bool, true, false, if◌then◌else◌, List, [], ◌∷◌, ◌++◌, map, Option, None, Some, refl, sym, subst}
-use Rattle.std.specs.Prelude.{⊤, length, slice_get}
+use Rattle.std.proofs.Common.{◌≡◌, ℕ, zero, suc, ◌+◌, ◌-◌, Bool, true, false, if◌then◌else◌, List, [], ◌∷◌, ◌++◌, Option, None, Some, refl, sym, subst}
+use Rattle.std.specs.Prelude.{length, slice_get}
 use Rattle.std.specs.List.{AllByRecursion, range_with_len}
 use Rattle.hp_boolx.specs.declared.gate.Gate.{Gate}
 use Rattle.hp_boolx.specs.Machine.{Machine}
@@ -28,9 +28,9 @@ use Rattle.hp_controller.specs.Gates.{gate_eqns}
 use Rattle.hp_controller.specs.Steps.{register_eqns, asking_eqn, step_eqns, register_places, places}
 use Rattle.hp_watch.specs.declared.watching.Free.{Free}
 use Rattle.hp_watch.specs.Adding.{with_variable, with_eqn, with_operator, with_copy, next_variable, type_at}
-use Rattle.hp_watch.specs.Lifting.{Valued, with_each, case_eqn, with_cases, with_step, lifted, with_test, has_bit, with_either, either, with_bit, with_bits, with_code, with_spelling, spelled, width_of, count_of}
+use Rattle.hp_watch.specs.Lifting.{Valued, with_each, case_eqn, with_cases, lifted, with_test, has_bit, with_either, either, with_bit, with_bits, with_spelling, width_of, count_of}
 use Rattle.hp_watch.specs.Embedding.{Site, moved_right, moved_eqn, with_variables, with_inputs, with_moved, with_room, embedded}
-use Rattle.hp_watch.specs.Watching.{Observed, Observing, Placed, called_by, site_of, with_observer, with_called, with_called_at, placed, own_site, Surveyed, surveyed, walked, clock_of, spelled_place, Watched, with_place, with_places, unwatched, IsWatched}
+use Rattle.hp_watch.specs.Watching.{Observed, Observing, Placed, called_by, site_of, with_observer, with_called, placed, own_site, surveyed, walked, clock_of, spelled_place, Watched, with_place, with_places, unwatched, IsWatched}
 use Rattle.law_choices.proofs.AddingLemmas.Adding.{both}
 use Rattle.law_choices.specs.InTurn.Calling.{CallNothing}
 

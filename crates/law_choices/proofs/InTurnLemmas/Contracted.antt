@@ -1,9 +1,8 @@
 -- What is made of a node with a contract is well made.
 use Rattle.std.proofs.Common.{◌≡◌, ℕ, suc, ◌+◌, ◌-◌, ◌<◌, ◌≤◌, Bool, true, List, [], ◌∷◌, ◌++◌, map, refl, sym, ap, ap₂, subst, ◌∙◌, arith}
-use Rattle.std.specs.Prelude.{⊤, zero, length, codes}
+use Rattle.std.specs.Prelude.{zero, length, codes}
 use Rattle.std.specs.List.{AllByRecursion, range_with_len}
-use Rattle.std.proofs.lemmas.List.{length-append}
-use Rattle.hp_base.specs.Kinds.{KindData, Bools, Constructors}
+use Rattle.hp_base.specs.Kinds.{Bools, Constructors}
 use Rattle.hp_boolx.specs.Machine.{Machine}
 use Rattle.hp_obc.specs.Form.{has_name}
 use Rattle.hp_obc.specs.Machines.{ObcType}
@@ -15,7 +14,6 @@ use Rattle.hp_flat.specs.declared.node.Variable.{Variable}
 use Rattle.hp_flat.specs.Equations.{Clock, FlatEqn}
 use Rattle.hp_flat.specs.Nodes.{FlatNode}
 use Rattle.law_equations.specs.Followed.Programs.{CallsAmong, CallsOnly}
-use Rattle.law_equations.specs.Made.Laws.{unplaced}
 use Rattle.law_equations.specs.Meaning.Kinding.{Callees, constructors, kind_of_type, variable_kind, HasValue, kinds_at, IsWellMade}
 use Rattle.law_equations.specs.Meaning.Reactions.{Answers, inputs_of}
 use Rattle.law_equations.specs.Meaning.Scheduling.{AreBelow, IsRanked, IsWithin}
@@ -26,7 +24,6 @@ use Rattle.hp_controller.specs.declared.decoding.ControlKind.TheVariants.{Truth,
 use Rattle.hp_controller.specs.Controlled.{controlled, IsControllable}
 use Rattle.hp_watch.specs.Adding.{type_at, with_copy}
 use Rattle.hp_watch.specs.Watching.{Observing}
-use Rattle.law_choices.proofs.ClosedLemmas.ClosedLaws.{each_other}
 use Rattle.law_choices.specs.Answered.Loops.{Loop, IsLoop, IsClosed, OwnLoopLaw}
 use Rattle.law_choices.specs.Adding.Choosing.{IsOfNode, WatchingLaw, ChoosingLaw}
 use Rattle.law_choices.specs.Adding.Controls.{bools, IsAskedFor, HasControlKind, HaveControlKinds}
@@ -36,7 +33,7 @@ use Rattle.law_choices.specs.Adding.Surveyed.{AllSuit}
 use Rattle.law_choices.specs.Adding.Watched.{HasBits}
 use Rattle.law_choices.proofs.AddingLemmas.Adding.{targets_kinds}
 use Rattle.law_choices.proofs.AddingLemmas.One.{kind-at, value-at}
-use Rattle.law_choices.proofs.AddingLemmas.Placed.{AreSame, same_eqns, transfer}
+use Rattle.law_choices.proofs.AddingLemmas.Placed.{same_eqns, transfer}
 use Rattle.law_choices.proofs.AddingLemmas.Rows.{each_range}
 use Rattle.law_choices.specs.InTurn.Calling.{CallNothing}
 use Rattle.law_choices.specs.InTurn.Nodes.{Contracted, controller_name, telling, IsOfType, AreOfTypes, IsOwn, IsContracted}

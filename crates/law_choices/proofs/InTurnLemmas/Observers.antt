@@ -14,8 +14,8 @@ use Rattle.law_equations.specs.Meaning.Scheduling.{EqnWithin}
 use Rattle.hp_watch.specs.declared.watching.Free.{Free}
 use Rattle.hp_watch.specs.Adding.{type_at}
 use Rattle.hp_watch.specs.Walk.{events_from, walk_block, walk_condition, walk_contract}
-use Rattle.hp_watch.specs.Watching.{is_integer, compares_integers, free_target, free_by, free_of, free_at, clock_of, clock_by, observed}
-use Rattle.law_choices.specs.Closed.Clocking.{IsFrontOf, StepsStand, IsCopy, DefinesOwn}
+use Rattle.hp_watch.specs.Watching.{is_integer, compares_integers, free_target, free_by, free_of, free_at, clock_of, clock_by}
+use Rattle.law_choices.specs.Closed.Clocking.{StepsStand, IsCopy, DefinesOwn}
 use Rattle.law_choices.proofs.ClosedLemmas.ClosedLaws.{each_other, each_both}
 use Rattle.law_choices.proofs.PlacesLemmas.Relating.{expr-goes, block-goes}
 use Rattle.law_choices.specs.Adding.Keeping.{IsBased}
@@ -25,7 +25,7 @@ use Rattle.law_choices.specs.Adding.Watched.{IsFree}
 use Rattle.law_choices.proofs.AddingLemmas.Adding.{both}
 use Rattle.law_choices.proofs.AddingLemmas.Choosing.{to_along, from_along, events_are}
 use Rattle.law_choices.proofs.AddingLemmas.Surveyed.{at_number, number_below, flat_all}
-use Rattle.law_choices.specs.InTurn.Observers.{IsObserver, ObserverLaw}
+use Rattle.law_choices.specs.InTurn.Observers.{ObserverLaw}
 
 -- ---- a walk finds no more than is there
 

@@ -1,5 +1,5 @@
 -- The nodes that are made of a program stand in turn, and mean what the program allows.
-use Rattle.std.proofs.Common.{◌≡◌, ℕ, zero, suc, ◌+◌, ◌≤◌, Bool, true, false, ◌||◌, List, [], ◌∷◌, ◌++◌, map, Option, None, Some, refl, sym, ap, ap₂, subst, ◌∙◌, arith}
+use Rattle.std.proofs.Common.{◌≡◌, ℕ, zero, suc, ◌+◌, Bool, true, false, ◌||◌, List, [], ◌∷◌, ◌++◌, map, Option, None, Some, refl, sym, ap, ap₂, subst, ◌∙◌, arith}
 use Rattle.std.specs.Prelude.{⊤, length, Contains}
 use Rattle.std.specs.List.{AllByRecursion, range_with_len, flat_map}
 use Rattle.std.specs.Str.{bytes_eq}
@@ -26,7 +26,7 @@ use Rattle.law_equations.specs.Followed.Programs.{CallsAmong, CallsOnly, Answere
 use Rattle.law_equations.specs.Made.Making.{Known, flat_type, outputs_of}
 use Rattle.law_equations.specs.Made.Types.{obc_types}
 use Rattle.law_equations.specs.Meaning.Kinding.{Callees, HasValue, kind_of_type, variable_kind, kinds_at, IsWellMade, AnswersOfKinds, OneReactionLaw}
-use Rattle.law_equations.specs.Meaning.Reactions.{Answers, inputs_of}
+use Rattle.law_equations.specs.Meaning.Reactions.{Answers}
 use Rattle.law_equations.specs.Meaning.Scheduling.{IsWithin}
 use Rattle.law_equations.specs.Shaped.Shaped.{IsHeaded}
 use Rattle.hp_complete.specs.Declaring.{known_of}
@@ -49,7 +49,7 @@ use Rattle.law_choices.specs.Adding.Made.{IsReadyMade, ReadyMadeLaw, BytesLaw}
 use Rattle.law_choices.specs.Adding.Surveyed.{AllSuit}
 use Rattle.law_choices.specs.InTurn.Calling.{CallNothing}
 use Rattle.law_choices.specs.InTurn.Laws.{said_of, IsChoosing, TurnLaw, WithinLaw, ChoosingProgramLaw, Tells, TellingLaw}
-use Rattle.law_choices.specs.InTurn.Nodes.{Contracted, Made, plain, contracted, controller_name, contract_name, telling, IsMade, AreAllMade, loop_of, loops, nodes_of, all_nodes, besides, also_said, all_said, IsContracted}
+use Rattle.law_choices.specs.InTurn.Nodes.{Contracted, Made, plain, contracted, controller_name, contract_name, telling, IsMade, AreAllMade, loop_of, loops, nodes_of, all_nodes, besides, also_said, IsContracted}
 use Rattle.law_choices.proofs.InTurnLemmas.Calls.{calls_among}
 use Rattle.law_choices.proofs.InTurnLemmas.Contracted.{NodeLaws, Ground, controller_well, controller_calls, telling_is_well, telling_within, own_well, own_within, own_closes, own_calls, telling_calls, own_named, chosen_named, own_is_headed}
 use Rattle.law_choices.proofs.InTurnLemmas.Names.{right_of, AllNames, no_names, names_plain, names_contracted, fresh_controller, fresh_own, fresh_contract, controller_new, contract_new}

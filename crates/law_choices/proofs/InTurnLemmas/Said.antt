@@ -2,7 +2,6 @@
 use Rattle.std.proofs.Common.{◌≡◌, ℕ, Bool, true, false, if◌then◌else◌, List, [], ◌∷◌, refl, sym, ap, ◌∙◌}
 use Rattle.std.specs.List.{AllByRecursion}
 use Rattle.std.specs.Str.{bytes_eq}
-use Rattle.hp_base.specs.Kinds.{KindData}
 use Rattle.hp_obc.specs.Machines.{ObcType}
 use Rattle.hp_automata.specs.NewNames.{is_new}
 use Rattle.law_automata.proofs.LoweredLemmas.Apart.{bytes_same, bytes_differ}

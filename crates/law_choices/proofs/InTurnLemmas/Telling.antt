@@ -1,20 +1,14 @@
 -- The node that tells what its contract assumes and enforces is well made as the node that chooses.
-use Rattle.std.proofs.Common.{◌≡◌, ℕ, suc, ◌+◌, ◌<◌, Bool, true, false, ◌||◌, List, [], ◌∷◌, ◌++◌, refl, sym, ap, subst, ◌∙◌, arith}
+use Rattle.std.proofs.Common.{◌≡◌, ℕ, suc, ◌<◌, Bool, true, false, ◌||◌, List, [], ◌∷◌, refl, sym, ap, subst, ◌∙◌, arith}
 use Rattle.std.specs.Prelude.{length, nat_lt}
-use Rattle.std.specs.List.{AllByRecursion}
 use Rattle.std.proofs.lemmas.List.{length-append}
-use Rattle.hp_base.specs.Kinds.{KindData, IsOfKind}
-use Rattle.hp_base.specs.declared.value.Value.{Value}
-use Rattle.hp_base.specs.declared.value.Value.TheVariants.{B}
 use Rattle.hp_obc.specs.Machines.{ObcType}
-use Rattle.hp_obc.specs.declared.command.ObcOp.TheVariants.{Copy}
 use Rattle.hp_flat.specs.declared.equation.Atom.TheVariants.{Variable as Read}
 use Rattle.hp_flat.specs.declared.node.FlatTy.TheVariants.{Bool as Truth}
-use Rattle.hp_flat.specs.Equations.{FlatEqn}
 use Rattle.hp_flat.specs.Nodes.{FlatNode}
 use Rattle.law_equations.specs.Meaning.Fitting.{IsThere}
 use Rattle.law_equations.specs.Meaning.Instants.{Instant}
-use Rattle.law_equations.specs.Meaning.Kinding.{Callees, OptionallyOf, variable_kind, is_present, IsPossible, ClocksFit, IsWellMade}
+use Rattle.law_equations.specs.Meaning.Kinding.{Callees, OptionallyOf, variable_kind, IsPossible, ClocksFit, IsWellMade}
 use Rattle.law_equations.specs.Meaning.Reactions.{is_set}
 use Rattle.law_equations.specs.Meaning.Scheduling.{IsWithin}
 use Rattle.hp_watch.specs.Adding.{added_variable, with_eqn, with_variable, with_copy, next_variable}

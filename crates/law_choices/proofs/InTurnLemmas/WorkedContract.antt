@@ -1,8 +1,7 @@
 -- What is made of a node whose contract asks for nothing.
-use Rattle.std.proofs.Common.{◌≡◌, ◌⊎◌, inl, inr, ℕ, zero, suc, ◌<◌, true, false, List, [], ◌∷◌, ◌++◌, Some, length, map, refl, ap, arith}
+use Rattle.std.proofs.Common.{◌≡◌, ◌⊎◌, inl, inr, zero, suc, true, false, [], ◌∷◌, Some, length, refl, arith}
 use Rattle.std.specs.Prelude.{IsFalse, codes}
-use Rattle.hp_base.specs.declared.value.Value.TheVariants.{B}
-use Rattle.hp_boolx.specs.Game.{Before, Forced, Permitted, Safe, joined}
+use Rattle.hp_boolx.specs.Game.{Before, Forced, Permitted, Safe}
 use Rattle.hp_boolx.specs.Machine.{game}
 use Rattle.hp_boolx.specs.Search.{Bits}
 use Rattle.hp_boolx.specs.Solved.{IsChoice}

@@ -1,6 +1,6 @@
 -- Observers whose clocked equations are well built suit the nodes that they belong to.
 -- Source: own.
-use Rattle.std.specs.Prelude.{◌≡◌, ℕ, List, [], ◌++◌}
+use Rattle.std.specs.Prelude.{◌≡◌, ℕ, List, ◌++◌}
 use Rattle.hp_obc.specs.Machines.{ObcType}
 use Rattle.hp_tree.specs.Programs.{Contract}
 use Rattle.hp_flat.specs.Nodes.{FlatNode}

@@ -1,6 +1,6 @@
 -- A node with a contract, and what is made of it.
 -- Source: own.
-use Rattle.std.specs.Prelude.{codes, List, [], ◌∷◌, None, Some}
+use Rattle.std.specs.Prelude.{codes, [], ◌∷◌, None, Some}
 use Rattle.hp_tree.specs.Blocks.{block, no_eqn}
 use Rattle.hp_tree.specs.Programs.{Contract, Node}
 use Rattle.hp_tree.specs.Blocks.{Decl}
