@@ -2,17 +2,20 @@
 use Rattle.std.specs.Prelude.{◌≡◌, ℕ, List, [], ◌∷◌, ◌++◌, Some}
 use Rattle.hp_base.specs.declared.ty.Ty.TheVariants.{Bool}
 use Rattle.hp_machines.specs.Machined.{Heading, heading_of_machine, vars_of}
-use Rattle.hp_obc.specs.Form.{TypesForm, machine_named}
+use Rattle.hp_obc.specs.Form.{MachinesForm, TypesForm, machine_named}
 use Rattle.hp_obc.specs.Machines.{Machine, Obc}
 use Rattle.hp_obc.specs.declared.machine.Var.{Var}
 use Rattle.law_equations.specs.Made.Types.{obc_types_of}
 use Rattle.hp_tree.specs.Programs.{Node}
 use Rattle.hp_tree.specs.declared.program.Item.{Item}
+use Rattle.hp_controlled.specs.Compiled.{AreCompiled}
 
--- The types are those of the program, and have form.
+-- The types are those of the program, and types and machines have form. The machines are those of the program's nodes, which choose, and of their contracts.
 pub record AreControlledMachines (program : List Item) (o : Obc) : Type 0 where
   pub types : o.types ≡ obc_types_of program
   pub form : TypesForm o.types
+  pub machines_form : MachinesForm o.types [] o.machines
+  pub machines : AreCompiled program o.types o.machines
 
 -- what a node takes and gives that chooses the values of its controllable variables itself
 abbrev pub own_heading : Node → Heading

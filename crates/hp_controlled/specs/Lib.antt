@@ -1,6 +1,9 @@
 pub mod Among
+pub mod Choosing
 pub mod Chosen
+pub mod Compiled
 pub mod Errors
 pub mod Joining
+pub mod Lacking
 pub mod Parts
 pub mod Reaching

@@ -1,3 +1,5 @@
+ghost use Rattle.hp_controlled.specs.Errors.{IsOfAbstraction};
+
 use hp_abstract::AbsErr;
 use hp_complete::FlattenErr;
 use hp_form::FormErr;
@@ -92,9 +94,11 @@ impl From<WatchErr> for ControlledErr {
 }
 
 /// Why there is no Boolean machine, as why there are no machines that choose.
-pub fn of_abstraction(error: &AbsErr) -> ControlledErr {
+pub fn of_abstraction(error: &AbsErr) -> ControlledErr
+    ensures { IsOfAbstraction error.now result }
+{
     match error {
         AbsErr::OutOfMemory => ControlledErr::OutOfMemory,
-        _ => ControlledErr::NotBuilt,
+        AbsErr::Assume { .. } | AbsErr::Limit(_) | AbsErr::NotBuilt => ControlledErr::NotBuilt,
     }
 }

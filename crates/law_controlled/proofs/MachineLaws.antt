@@ -173,8 +173,7 @@ shaped_in_turn : (types : List ObcType) (callees : Callees) (earlier : List (Lis
 shaped_in_turn types callees earlier [] turn all = tt
 shaped_in_turn types callees earlier (w ∷ ws) turn all =
     let well = turn.0 in
-    let one = all.0 in
-    (
+    let one = all.0 in (
       record { within = one.within; no_inputs = well.no_inputs; ranked = well.ranked; names_differ = one.names_differ; names_own = one.names_own },
       turn.3,
       shaped_in_turn types callees (w.name ∷ earlier) ws turn.4 all.1,

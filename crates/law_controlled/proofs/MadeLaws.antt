@@ -91,8 +91,7 @@ of_types types n (v ∷ vs) (w ∷ ws) [] target e are = absurd are
 of_types types n (v ∷ vs) (w ∷ ws) (c ∷ cs) target e are =
     let here = first_of n.variables target v vs e in
     let one = are.0 in
-    let next : target + 1 ≡ suc target = omega arith in
-    (
+    let next : target + 1 ≡ suc target = omega arith in (
       subst (λ o. IsOfType types (type_of o) c.kind) (sym here.0) (of_type types v.ty c.kind one.kind),
       of_types types n vs ws cs (target + 1) (ap (λ k. drop k n.variables) next ∙ here.1) are.1,
     )
@@ -112,8 +111,7 @@ widths_are types [] (w ∷ ws) cs are = absurd are
 widths_are types (v ∷ vs) (w ∷ ws) [] are = absurd are
 widths_are types (v ∷ vs) (w ∷ ws) (c ∷ cs) are =
     let rest = widths_are types vs ws cs are.1 in
-    let one = are.0 in
-    (
+    let one = are.0 in (
       ap (λ k. suc k) rest.0,
       (λ j. one.width j + rest.1 j) ∙ sum-more w ws,
       (subst (HasBits c.kind) (sym one.width) one.has, rest.2),

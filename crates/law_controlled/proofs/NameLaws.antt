@@ -54,10 +54,10 @@ unfolding IsDistinct
 added_differ k [] few a = tt
 added_differ k (v ∷ vs) few a = (
   apart_from v.name (k + 1) vs
-  (λ j l b other.
+      (λ j l b other.
       let same = once k j v.name (omega (arith, few)) (omega (arith, few, b)) a.0 other in
       absurd (omega (arith, l, same)))
-  a.1,
+      a.1,
   added_differ (k + 1) vs (omega (arith, few)) a.1,
 )
 

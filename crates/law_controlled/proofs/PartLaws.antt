@@ -251,13 +251,13 @@ module _ (n : FlatNode) (name outputs : List ℕ) (m : Marks) (reached : AreReac
         targets = all_of _ e.targets (λ y h. kept_by y (of_all _ e.targets inside.targets y h) (also y (in_left y e.targets (clock ++ (e.restart ++ read_by_right e.right)) h)));
         clock = all_of _ clock (λ y h. kept_by y (of_all _ clock inside.clock y h) (also y (in_right y e.targets (clock ++ (e.restart ++ read_by_right e.right)) (in_left y clock (e.restart ++ read_by_right e.right) h))));
         restart = all_of _ e.restart
-        (λ y h. kept_by y (of_all _ e.restart inside.restart y h)
-        (also y (in_right y e.targets (clock ++ (e.restart ++ read_by_right e.right)) (in_right y clock (e.restart ++ read_by_right e.right) (in_left y e.restart (read_by_right e.right) h)))));
+            (λ y h. kept_by y (of_all _ e.restart inside.restart y h)
+            (also y (in_right y e.targets (clock ++ (e.restart ++ read_by_right e.right)) (in_right y clock (e.restart ++ read_by_right e.right) (in_left y e.restart (read_by_right e.right) h)))));
         operands = all_of _ (operands e.right)
-        (λ y h. kept_by y (of_all _ (operands e.right) inside.operands y h)
-        (also y
-        (in_right y e.targets (clock ++ (e.restart ++ read_by_right e.right))
-        (in_right y clock (e.restart ++ read_by_right e.right) (in_right y e.restart (read_by_right e.right) (subst (IsIn y) (sym (right_read e.right)) h))))));
+            (λ y h. kept_by y (of_all _ (operands e.right) inside.operands y h)
+            (also y
+            (in_right y e.targets (clock ++ (e.restart ++ read_by_right e.right))
+            (in_right y clock (e.restart ++ read_by_right e.right) (in_right y e.restart (read_by_right e.right) (subst (IsIn y) (sym (right_read e.right)) h))))));
       }
 
   each_within : (es : List FlatEqn) → AllByRecursion (EqnWithin (length n.variables)) es → (k : ℕ) (e : FlatEqn) → slice_get es k ≡ Some e → EqnWithin (length n.variables) e
@@ -272,8 +272,7 @@ module _ (n : FlatNode) (name outputs : List ℕ) (m : Marks) (reached : AreReac
   stays k e is =
       let inside = each_within n.eqns within.eqns k e is in
       let below = slice_get_within n.eqns k e is in
-      let marks = reached.eqns k below in
-      (
+      let marks = reached.eqns k below in (
         λ h.
             let u = marks.0 h in
             let same : e ≡ u.0 = some_eqn e u.0 (sym is ∙ u.2) in
@@ -281,14 +280,15 @@ module _ (n : FlatNode) (name outputs : List ℕ) (m : Marks) (reached : AreReac
         λ h.
             all_of _ e.targets
             (λ x there.
-                is_false (r.kept x) (λ kept.
-                    let is_used : IsUsed n outputs k = (e, x, is, there, of_all _ e.targets inside.targets x there, reached_if x kept) in
-                    let both : slice_index_or m.eqns k false ≡ true = marks.1 is_used in
-                    not_both (slice_index_or m.eqns k false) both h)),
+            is_false (r.kept x) (λ kept.
+            let is_used : IsUsed n outputs k = (e, x, is, there, of_all _ e.targets inside.targets x there, reached_if x kept) in
+            let both : slice_index_or m.eqns k false ≡ true = marks.1 is_used in
+            not_both (slice_index_or m.eqns k false) both h)),
       )
     where
       some_eqn : (x y : FlatEqn) → Some x ≡ Some y → x ≡ y
       some_eqn x y h = cc
+
       not_both : (b : Bool) → b ≡ true → b ≡ false → ⊥
       not_both b s t = absurd cc
 
