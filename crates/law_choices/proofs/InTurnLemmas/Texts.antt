@@ -35,10 +35,8 @@ names_replaced nodes (NodeItem n ∷ items) h = (h.0, names_replaced (with_node 
 names_written : (xs ys : List Item) → AreWritten IsClocked xs ys → EachNode Unsigned xs → EachNode Unsigned ys
 names_written [] [] w h = tt
 names_written [] (y ∷ ys) w h = absurd w
-names_written (x ∷ xs) [] w h = absurd (none x w)
-  where
-    none : (x : Item) → AreWritten IsClocked (x ∷ xs) [] → ⊥
-    none x w = w
+names_written (TypeItem t ∷ xs) [] w h = absurd w
+names_written (NodeItem n ∷ xs) [] w h = absurd w
 names_written (TypeItem t ∷ xs) (y ∷ ys) w h = subst (λ z. EachNode Unsigned (z ∷ ys)) (sym w.0) (names_written xs ys w.1 h)
 names_written (NodeItem n ∷ xs) (y ∷ ys) w h = let it = w.0 in subst (λ z. EachNode Unsigned (z ∷ ys)) (sym it.2) (h.0, names_written xs ys w.1 h.1)
 
