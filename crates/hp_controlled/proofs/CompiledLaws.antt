@@ -3,16 +3,16 @@ use Rattle.std.proofs.Common.{◌≡◌, ℕ, zero, suc, ◌+◌, ◌<◌, ◌�
 use Rattle.std.specs.Prelude.{slice_get}
 use Rattle.std.proofs.lemmas.List.{append_assoc, append-nil, drop_all}
 use Rattle.hp_obc.specs.Machines.{Machine, ObcType}
-use Rattle.hp_tree.specs.Programs.{Contract, Node, TypeDecl}
+use Rattle.hp_tree.specs.Programs.{Node, TypeDecl}
 use Rattle.hp_tree.specs.declared.program.Item.{Item}
 use Rattle.hp_tree.specs.declared.program.Item.TheVariants.{NodeItem, TypeItem}
 use Rattle.hp_flat.specs.Nodes.{FlatNode}
 use Rattle.hp_machines.specs.Making.{AreMade}
-use Rattle.hp_watch.specs.Watching.{Observed, Observing, observed, observer_seen, observers_seen, seen_at}
+use Rattle.hp_watch.specs.Watching.{Observed, Observing, observed, observer_seen, seen_at}
 use Rattle.hp_watch.specs.declared.watching.Observer as held
 use Rattle.hp_tables.specs.Declarations.Tables.{numbered}
 use Rattle.hp_controlled.specs.Choosing.{AreNodesOf}
-use Rattle.hp_controlled.specs.Compiled.{AreEquationsOf, AreNodes, AreObserved, HaveMachines, by_names, contract_if, contracts_of, name_if, names_with_contracts, numbered_of, observed_all}
+use Rattle.hp_controlled.specs.Compiled.{AreEquationsOf, AreObserved, HaveMachines, by_names, contracts_of, name_if, names_with_contracts, numbered_of, observed_all}
 use Rattle.hp_controlled.specs.Compiled.AreNodes.{of_none, of_a_type, of_a_node}
 use Rattle.hp_controlled.specs.Lacking.{FitContracts, LacksCompiled, LacksMachines, OneLacksMachines}
 use Rattle.hp_controlled.specs.Lacking.LacksCompiled.{one_lacks}

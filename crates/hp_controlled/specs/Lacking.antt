@@ -1,5 +1,5 @@
 -- Why a program has no machines that choose, though there is memory. Of no program whose contracts are kept any of it has been seen.
-use Rattle.std.specs.Prelude.{◌≡◌, ◌<◌, ⊤, ℕ, List, [], ◌∷◌, ◌++◌, length, All}
+use Rattle.std.specs.Prelude.{◌≡◌, ◌<◌, ⊤, ℕ, List, [], ◌∷◌, length, All}
 use Rattle.std.specs.List.{AllByRecursion}
 use Rattle.hp_boolx.specs.Machine.{Machine as Boolean, game}
 use Rattle.hp_boolx.specs.Search.{Set}

@@ -1,4 +1,4 @@
-use Rattle.std.proofs.Common.{rules, ◌≡◌, List, subst, ◌∙◌}
+use Rattle.std.proofs.Common.{rules, ◌≡◌, List, subst}
 use Rattle.std.specs.Prelude.{IfErr}
 use Rattle.hp_obc.specs.Form.{HasObcForm}
 use Rattle.hp_obc.specs.Machines.{ObcType}

@@ -1,4 +1,4 @@
-use Rattle.std.proofs.Common.{rules, List, [], ◌∷◌, ◌++◌}
+use Rattle.std.proofs.Common.{rules, [], ◌∷◌}
 use Rattle.std.specs.Prelude.{IfErr}
 use Rattle.std.proofs.lemmas.Result.{on_ok_weaker}
 use Rattle.hp_watch.specs.Watching.{observers_seen}

@@ -1,11 +1,11 @@
-use Rattle.std.proofs.Common.{rules, ◌≡◌, ◌⊎◌, ◌+◌, ◌≤◌, List, length, map, drop, sym, ap, subst, ◌∙◌, inl, inr, arith}
+use Rattle.std.proofs.Common.{rules, ◌≡◌, ◌⊎◌, ◌+◌, List, length, drop, ap, subst, inl, inr, arith}
 use Rattle.std.proofs.lemmas.Result.{IfOk-weaker}
 use Rattle.hp_tree.specs.Meaning.{controls_of}
 use Rattle.hp_watch.specs.Watching.{observers_seen, watched_seen}
 use Rattle.hp_controller.specs.declared.decoding.Control.{Control}
-use Rattle.hp_controlled.specs.Choosing.{AreControls, IsChoosing, IsInOrder, Sees, Suits, telling, telling_seen}
+use Rattle.hp_controlled.specs.Choosing.{AreControls, IsInOrder, Suits, telling, telling_seen}
 use Rattle.hp_controlled.specs.Lacking.{ChoosesNot, HasCircularEqns, IsLong}
-use Rattle.hp_controlled.specs.Lacking.ChoosesNot.{long_name, unsuited, circular}
+use Rattle.hp_controlled.specs.Lacking.ChoosesNot.{long_name, circular}
 use Rattle.hp_controlled.proofs.ChoosingLaws.{controls_many, says_more}
 use Rattle.hp_controlled.proofs.node.choosing.Goals as goal
 

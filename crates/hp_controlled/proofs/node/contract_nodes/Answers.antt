@@ -7,7 +7,7 @@ use Rattle.hp_abstract.specs.declared.error.AbsErr.TheVariants as abstract
 use Rattle.hp_abstract.specs.Abstractions.{IsAbstractionOf}
 use Rattle.hp_abstract.specs.Machines.{IsRefused}
 use Rattle.hp_watch.specs.Watching.{observers_seen}
-use Rattle.hp_controlled.specs.Lacking.{ChoosesNot, IsForced, IsLong, LacksNodes, SaysNotBuilt}
+use Rattle.hp_controlled.specs.Lacking.{IsForced, IsLong, LacksNodes, SaysNotBuilt}
 use Rattle.hp_controlled.specs.Lacking.LacksNodes.{refused, forced, long_machine, chooses_not}
 use Rattle.hp_controlled.proofs.ChoosingLaws.{says_more}
 use Rattle.hp_controlled.proofs.node.contract_nodes.Goals as goal
