@@ -33,3 +33,4 @@ pub mod JoinedLaws
 pub mod SegmentWords
 pub mod RunnableLaws
 pub mod SegmentCalls
+pub mod CheckpointExamples

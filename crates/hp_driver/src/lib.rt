@@ -26,8 +26,8 @@ mod trace_limits;
 mod words;
 
 pub use laws::{
-    plain_programs_are_good, stopped_runs_are_joined, written_certificates_are_good,
-    written_machines_agree_with_nodes,
+    checkpoints_are_memories, plain_programs_are_good, stopped_runs_are_joined,
+    written_certificates_are_good, written_machines_agree_with_nodes,
 };
 pub use ordering::run_tool_with_order;
 pub use resources::Extras;
