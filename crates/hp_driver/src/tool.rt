@@ -202,7 +202,7 @@ pub fn run_tool_with<F: Folder, C: Console, E: Sink>(
     // and from a checkpoint of each machine that may be run for the node.
     ensures complete_resume { IsGoodResume (map string_bytes words.now) (F.files files.old) (C.left console.old) → result ≢ 4 → result ≢ 5 → (result ≡ 0) ⊎ (result ≡ 6) }
 
-    // From any other text, which is not too long, it ends so or with 9, and then such a machine refuses it.
+    // From any text that is not too long it ends so, or with 9, and then such a machine refuses it.
     ensures refused_resume { (r : IsResume (map string_bytes words.now) (F.files files.old) (C.left console.old)) → result ≢ 4 → result ≢ 5 →
         ((result ≡ 0) ⊎ (result ≡ 6)) ⊎ ((result ≡ 9) × IsRefused (F.files files.old) r.segment.file r.segment.node r.text) }
 
