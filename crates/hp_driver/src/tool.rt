@@ -59,7 +59,14 @@ fn run_text<N: Answers, F: Folder, C: Console, E: Sink>(
         Command::Source { task, .. } => run_source(resources, task, text, files, console, diag),
         Command::Past { out, .. } => run_past(resources.alloc, text, out, files, diag),
         Command::Exec { node, .. } => run_machine(resources, text, node, console, diag),
-        Command::Prove { node, cert, .. } => run_prove(resources.alloc, text, node, cert, files, diag),
+        Command::Prove { node, cert, .. } => run_prove(
+            resources.alloc,
+            text,
+            node,
+            cert,
+            files,
+            diag,
+        ),
         Command::Verify { node, cert, .. } => {
             run_verify(resources.alloc, text, node, cert, files, console, diag)
         }
