@@ -191,7 +191,14 @@ fn tell_contract<N: Answers, C: Console, E: Sink>(
     if !is_told(machines, told.as_str(), node) {
         return report(diag, NOT_BUILT, Status::Refused);
     }
-    tell_chosen(resources, machines, told.as_str(), Ending::Told, console, diag)
+    tell_chosen(
+        resources,
+        machines,
+        told.as_str(),
+        Ending::Told,
+        console,
+        diag,
+    )
 }
 
 /// Runs the node on the trace, and tells behind its outputs what its contract assumes and enforces: true for both where it has none.

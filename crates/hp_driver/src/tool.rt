@@ -59,7 +59,14 @@ fn run_text<N: Answers, F: Folder, C: Console, E: Sink>(
         Command::Source { task, .. } => run_source(resources, task, text, files, console, diag),
         Command::Past { out, .. } => run_past(resources.alloc, text, out, files, diag),
         Command::Exec { node, .. } => run_machine(resources, text, node, console, diag),
-        Command::Prove { node, cert, .. } => run_prove(resources.alloc, text, node, cert, files, diag),
+        Command::Prove { node, cert, .. } => run_prove(
+            resources.alloc,
+            text,
+            node,
+            cert,
+            files,
+            diag,
+        ),
         Command::Verify { node, cert, .. } => {
             run_verify(resources.alloc, text, node, cert, files, console, diag)
         }
@@ -202,7 +209,7 @@ pub fn run_tool_with<F: Folder, C: Console, E: Sink>(
     // and from a checkpoint of each machine that may be run for the node.
     ensures complete_resume { IsGoodResume (map string_bytes words.now) (F.files files.old) (C.left console.old) → result ≢ 4 → result ≢ 5 → (result ≡ 0) ⊎ (result ≡ 6) }
 
-    // From any other text, which is not too long, it ends so or with 9, and then such a machine refuses it.
+    // From any text that is not too long it ends so, or with 9, and then such a machine refuses it.
     ensures refused_resume { (r : IsResume (map string_bytes words.now) (F.files files.old) (C.left console.old)) → result ≢ 4 → result ≢ 5 →
         ((result ≡ 0) ⊎ (result ≡ 6)) ⊎ ((result ≡ 9) × IsRefused (F.files files.old) r.segment.file r.segment.node r.text) }
 

@@ -55,7 +55,6 @@ pub fn folder(alloc: Global, row: &Value) -> Result<MemFolder, Malformed> {
     Ok(MemFolder::new(files(alloc, row)?, fails))
 }
 
-
 /// Calls the tool as a step of a row says.
 pub fn call(
     alloc: Global,

@@ -255,14 +255,14 @@ module _ (types : List TypeDecl) (nils : Bool) (callee : List ℕ → Instant �
   single : (v : List ℕ) (c : Bool) (w x y : Span) (op : Op2) (n : List ℕ) → IsLogical op → last_among ds v ≡ Some (constant.B c) → defined_as es v ≡ Some (two w op (variable x n) (last_of y v)) → IsOperand n
   single v c w x y op n l last d =
       let r = right_read v c w op (variable x n) (last_of y v) last d in
-      let both = operands_read r.0 r.1.0 w op (variable x n) (last_of y v) l r.1.1 in
+      let both = operands_read r.0 r.1 w op (variable x n) (last_of y v) l r.2 in
       beside_last r.0 ty.Bool x y n v both.0 both.1
 
   double : (v : List ℕ) (c : Bool) (w x y z u : Span) (n1 n2 : List ℕ) → last_among ds v ≡ Some (constant.B c) → defined_as es v ≡ Some (two w Or (variable x n2) (two y And (variable z n1) (last_of u v)))
       → IsOperand n1 × IsOperand n2
   double v c w x y z u n1 n2 last d =
       let r = right_read v c w Or (variable x n2) (two y And (variable z n1) (last_of u v)) last d in
-      let both = operands_read r.0 r.1.0 w Or (variable x n2) (two y And (variable z n1) (last_of u v)) or_logical r.1.1 in
+      let both = operands_read r.0 r.1 w Or (variable x n2) (two y And (variable z n1) (last_of u v)) or_logical r.2 in
       let inner = operands_read r.0 ty.Bool y And (variable z n1) (last_of u v) and_logical both.1 in
       (beside_last r.0 ty.Bool z u n1 v inner.0 inner.1, beside_last r.0 ty.Bool x u n2 v both.0 inner.1)
 
@@ -288,14 +288,14 @@ module _ (types : List TypeDecl) (nils : Bool) (callee : List ℕ → Instant �
     remembered_boolean : (b : Block) → IsJudged b → (m : Remembered) → Keeps b m → AllBoolean b m
     remembered_boolean (block ds es) j (once n v) h i fits =
         let o = single types nils callee among out lasts names k class ds es (judged_block ds es j) v false h.1.0 h.1.0 h.1.0 Or n or_logical h.1.1.begins h.1.1.defined in
-        (operand_value types nils callee among out lasts names k class ds es (judged_block ds es j) n o h.0 (held types (inside_names es around i)) refl i fits.0, tt)
+        (operand_value types nils callee among out lasts names k class ds es (judged_block ds es j) n o h.0 (held types nils callee (inside_names es around i)) refl i fits.0, tt)
     remembered_boolean (block ds es) j (historically n v) h i fits =
         let o = single types nils callee among out lasts names k class ds es (judged_block ds es j) v true h.1.0 h.1.0 h.1.0 And n and_logical h.1.1.begins h.1.1.defined in
-        (operand_value types nils callee among out lasts names k class ds es (judged_block ds es j) n o h.0 (held types (inside_names es around i)) refl i fits.0, tt)
+        (operand_value types nils callee among out lasts names k class ds es (judged_block ds es j) n o h.0 (held types nils callee (inside_names es around i)) refl i fits.0, tt)
     remembered_boolean (block ds es) j (since n1 n2 v) h i fits =
         let o = double types nils callee among out lasts names k class ds es (judged_block ds es j) v false h.2.0 h.2.0 h.2.0 h.2.0 h.2.0 n1 n2 h.2.1.begins h.2.1.defined in (
-          (operand_value types nils callee among out lasts names k class ds es (judged_block ds es j) n1 o.0 h.0 (held types (inside_names es around i)) refl i fits.0, tt),
-          (operand_value types nils callee among out lasts names k class ds es (judged_block ds es j) n2 o.1 h.1 (held types (inside_names es around i)) refl i fits.0, tt),
+          (operand_value types nils callee among out lasts names k class ds es (judged_block ds es j) n1 o.0 h.0 (held types nils callee (inside_names es around i)) refl i fits.0, tt),
+          (operand_value types nils callee among out lasts names k class ds es (judged_block ds es j) n2 o.1 h.1 (held types nils callee (inside_names es around i)) refl i fits.0, tt),
         )
 
 -- ---- the contract of a node
@@ -341,7 +341,7 @@ module _ (types : List TypeDecl) (nils : Bool) (callee : List ℕ → Instant �
   node_boolean : (i : Instant) → NodeFits types nils callee s (seen_in_node class n) n i → AreBoolean m (part Observer i ∷ [])
   node_boolean i fits =
       contract_boolean types nils callee among (inside_node s n) (lasts_in n.outputs no_lasts) (λ x. on_base (declares n.inputs x || declares n.outputs x)) (known_outputs n class) (λ p. class (Observer ∷ p)) c m keeps n.contract has
-      a.sound.1.1.1.1.1 a.clocks.contract a.classes.follow.0 a.classes.definite.0 (seen_in_node class n) (λ p. refl) (contract_names n i) i fits.1
+      a.sound.1.1.1.1.1 a.clocks.contract a.classes.follow.0 a.classes.definite.0 (seen_in_node class n) (λ p. refl) (contract_names types nils callee n i) i fits.1
 
 -- ---- the node of a name, in an accepted program
 
@@ -352,6 +352,13 @@ record IsFound (types : List TypeDecl) (nils : Bool) (class : Classing) (items :
   fits : (i : Instant) → InstantFits types nils class items f i
       → NodeFits types nils (InstantFits types nils (class_behind classing) others) (scope_behind others) (seen_in_node (class_here classing) n) n i
 
+-- an instant fits as one of the first node, or as one of those before
+abbrev Here : List TypeDecl → Bool → Classing → List Item → Node → Instant → Type 0
+Here types nils class items m i = NodeFits types nils (InstantFits types nils (class_behind class) items) (scope_behind items) (seen_in_node (class_here class) m) m i
+
+abbrev There : List TypeDecl → Bool → Classing → List Item → List ℕ → Instant → Type 0
+There types nils class items f i = InstantFits types nils (class_behind class) items f i
+
 found : (types : List TypeDecl) (nils : Bool) (class : Classing) (items : List Item) (f : List ℕ) (n : Node) → AreAccepted types class items → node_among items f ≡ Some n → IsFound types nils class items f n
 found types nils class [] f n a e = absurd cc
 found types nils class (TypeItem t ∷ items) f n a e =
@@ -359,21 +366,15 @@ found types nils class (TypeItem t ∷ items) f n a e =
     record { others = r.others; classing = r.classing; accepted = r.accepted; fits = r.fits }
 found types nils class (NodeItem m ∷ items) f n a e = by (bytes_eq m.name f) refl (found types nils (class_behind class) items f n a.1) e
   where
-    abbrev Here : Instant → Type 0
-    Here i = NodeFits types nils (InstantFits types nils (class_behind class) items) (scope_behind items) (seen_in_node (class_here class) m) m i
-
-    abbrev There : Instant → Type 0
-    There i = InstantFits types nils (class_behind class) items f i
-
     here : bytes_eq m.name f ≡ true → IsFound types nils class (NodeItem m ∷ items) f m
-    here is = record { others = items; classing = class; accepted = a.0; fits = λ i h. subst (λ b. either_of b (Here i) (There i)) is h }
+    here is = record { others = items; classing = class; accepted = a.0; fits = λ i h. subst (λ b. either_of b (Here types nils class items m i) (There types nils class items f i)) is h }
 
     by : (same : Bool) → bytes_eq m.name f ≡ same → (node_among items f ≡ Some n → IsFound types nils (class_behind class) items f n) → (if same then Some m else node_among items f) ≡ Some n
         → IsFound types nils class (NodeItem m ∷ items) f n
     by true is rest k = subst (IsFound types nils class (NodeItem m ∷ items) f) (some-is m n k) (here is)
     by false is rest k =
         let r = rest k in
-        record { others = r.others; classing = r.classing; accepted = r.accepted; fits = λ i h. r.fits i (subst (λ b. either_of b (Here i) (There i)) is h) }
+        record { others = r.others; classing = r.classing; accepted = r.accepted; fits = λ i h. r.fits i (subst (λ b. either_of b (Here types nils class items m i) (There types nils class items f i)) is h) }
 
 -- ---- the laws
 
