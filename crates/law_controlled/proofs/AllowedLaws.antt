@@ -42,7 +42,6 @@ allowed_law made_law machines_law in_turn within means program after ranks o rea
       short = short;
       names = names;
       equations = subst (AreMadeOf (known_of (lowered_program after)) (lowered_program after)) (sym made.are_plants) equations.made;
-      within = subst (AllByRecursion IsWithin) (sym made.are_plants) owed.within;
       suit = owed.suit made.all made.made;
       alone = owed.alone;
       made = made.made;

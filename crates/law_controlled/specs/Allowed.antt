@@ -13,7 +13,6 @@ use Rattle.law_values.specs.Accepted.Laws.{IsReady}
 use Rattle.hp_automata.specs.NewNames.{is_new}
 use Rattle.law_automata.specs.Lowered.Removable.{IsRemovable}
 use Rattle.law_equations.specs.Made.Types.{obc_types, obc_types_of}
-use Rattle.law_equations.specs.Meaning.Scheduling.{IsWithin}
 use Rattle.law_wellmade.specs.Spelled.Integers.{NodeShort}
 use Rattle.law_choices.specs.Adding.Surveyed.{AllSuit}
 use Rattle.law_choices.specs.Answered.Loops as loop
@@ -31,9 +30,8 @@ pub record RunsAllowed (after : List Item) (o : Obc) : Type 0 where
   pub allowed : IsAllowed after all
   pub runs : AnswerAsWhole o.types o.machines allowed.one.answers (said_of after all).takes (all_nodes all)
 
--- What is asked of compiled machines and is not proved yet: the numbers in the clocked equations of nodes are those of their variables; observers suit and call nothing; and the variables of whatever is made have names that differ and are no names of memories or instances.
+-- What is asked of compiled machines and is not proved yet: observers suit and call nothing; and the variables of whatever is made have names that differ and are no names of memories or instances.
 pub record AreOwed (after : List Item) (o : Obc) (c : AreCompiled after o.types o.machines) : Type 0 where
-  pub within : AllByRecursion IsWithin c.plants
   pub suit : (all : List Made) → AreAllMade (obc_types (types_of after)) c.observers after all → AllSuit (obc_types (types_of after)) (said_of after all) c.observers
   pub alone : CallNothing c.observers
   pub names : (all : List Made) → AreAllMade (obc_types (types_of after)) c.observers after all → loop.plants (loops all) ≡ c.plants → AllByRecursion HasFreeNames (all_nodes all)
