@@ -1,5 +1,5 @@
 //! The machines of a program.
-ghost use Rattle.std.specs.Prelude.{◌≡◌, ◌++◌, ◌∷◌, [], List, map, IfErr, IfOk, OnOk};
+ghost use Rattle.std.specs.Prelude.{◌≡◌, ◌++◌, ◌∷◌, [], List, map, IfErr, IfOk, MatchResult, OnOk};
 ghost use Rattle.std.specs.Vec.Iter.{into_iter_items};
 ghost use Rattle.hp_tree.specs.Programs.{Contract as ContractSeen};
 ghost use Rattle.hp_tree.specs.declared.program.Item.{Item as ItemSeen};
@@ -240,9 +240,8 @@ pub fn chosen_machines(
     Ok(machines)
 }
 
-/// The machines of a program with its clocks written and without inlined calls, whose contracts are kept: for each node, in order, its machine, and for one that has a
-/// contract also those of its controller, before it, and of what is assumed and enforced, behind it.
-pub fn controlled_machines(alloc: Global, program: &Program) -> Result<Obc, ControlledErr>
+/// The machines of a program, in form.
+fn compiled_machines(alloc: Global, program: &Program) -> Result<Obc, ControlledErr>
     ensures machines { IfOk result (AreControlledMachines program.now) }
     ensures not_built { IfErr result (SaysNotBuilt (HasNoChosenMachines program.now)) }
 {
@@ -250,4 +249,15 @@ pub fn controlled_machines(alloc: Global, program: &Program) -> Result<Obc, Cont
     let machines = chosen_machines(alloc, program, &types)?;
     let file = formed(alloc, types, machines)?;
     Ok(file)
+}
+
+/// The machines of a program with its clocks written and without inlined calls, whose contracts are kept: for each node, in order, its machine, and for one that has a
+/// contract also those of its controller, before it, and of what is assumed and enforced, behind it.
+pub fn controlled_machines(alloc: Global, program: &Program) -> Result<Obc, ControlledErr>
+    ensures { MatchResult result (AreControlledMachines program.now) (SaysNotBuilt (HasNoChosenMachines program.now)) }
+{
+    match compiled_machines(alloc, program) {
+        Ok(file) => Ok(file),
+        Err(error) => Err(error),
+    }
 }

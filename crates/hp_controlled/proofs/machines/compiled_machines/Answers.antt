@@ -7,7 +7,7 @@ use Rattle.hp_controlled.specs.Compiled.{AreCompiled}
 use Rattle.hp_controlled.specs.Lacking.{HasNoChosenMachines, LacksCompiled, SaysNotBuilt}
 use Rattle.hp_controlled.specs.Lacking.HasNoChosenMachines.{not_compiled, formless}
 use Rattle.hp_controlled.proofs.ChoosingLaws.{says_more, says_of_form}
-use Rattle.hp_controlled.proofs.machines.controlled_machines.Goals as goal
+use Rattle.hp_controlled.proofs.machines.compiled_machines.Goals as goal
 
 pub returns-in_err-machines-clause-not_built : goal.returns-in_err-machines-clause-not_built
 returns-in_err-machines-clause-not_built c =
