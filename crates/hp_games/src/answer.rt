@@ -120,11 +120,7 @@ fn say_lose(
 }
 
 /// Solves a machine, and says what is found.
-fn say_solved(
-    rt: &(impl Print + AllocGlobal),
-    m: &BoolMachine,
-    detail: Detail,
-) -> io::Result<()> {
+fn say_solved(rt: &(impl Print + AllocGlobal), m: &BoolMachine, detail: Detail) -> io::Result<()> {
     let mut solved = solve(rt.alloc(), m)?;
     match &solved.verdict {
         Verdict::Win { inv } => {
