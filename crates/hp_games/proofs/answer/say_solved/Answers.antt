@@ -1,7 +1,7 @@
 use Rattle.std.proofs.Common.{sym, subst}
 use Rattle.hp_boolx.specs.Machine.{game}
 use Rattle.hp_synth.specs.Verdicts.{IsSolved, IsWon}
-use Rattle.hp_games.proofs.answer.say_answer.Goals as goal
+use Rattle.hp_games.proofs.answer.say_solved.Goals as goal
 
 pub say_win-requires-clause-won : goal.say_win-requires-clause-won
 say_win-requires-clause-won g c =
