@@ -1,4 +1,4 @@
-mod Allowed
+pub mod Allowed
 mod Calls
 mod Contracted
 mod Names
@@ -7,6 +7,6 @@ pub mod Programs
 mod Said
 mod Telling
 mod Tells
-mod Texts
+pub mod Texts
 mod Types
 pub mod WorkedContract
