@@ -1,4 +1,3 @@
 pub mod Decided
 pub mod Outcomes
 pub mod Promised
-mod Remembered

@@ -2,4 +2,3 @@ pub mod Laws
 pub mod Outcomes
 pub mod Promised
 pub mod Acceptable
-pub mod Remembered

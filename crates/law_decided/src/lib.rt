@@ -1,4 +1,4 @@
-//! Laws of `hp_verdicts`: what is decided of the contracts of a ready program is so in the games of these contracts, and machines of programs whose contracts are kept keep them; and what contracts remember of the past are formulas. Used by `hp_driver`.
+//! Laws of `hp_verdicts`: what is decided of the contracts of a ready program is so in the games of these contracts, and machines of programs whose contracts are kept keep them. Used by `hp_driver`.
 //!
 //! The functions here do nothing: each is a law, which its contract states.
 #![tactic(auto)]
@@ -6,7 +6,6 @@
 ghost use Rattle.law_decided.specs.Laws.{AllKeptLaw, AllSafeLaw, ForcedLaw, KeptLaw, ProofLaw, TextLaw, VerifiedLaw};
 ghost use Rattle.law_decided.specs.Outcomes.{OutcomesLaw};
 ghost use Rattle.law_decided.specs.Promised.{MachineLaw, RunLaw};
-ghost use Rattle.law_decided.specs.Remembered.{BooleanLaw, FormulaLaw};
 
 use law_drawing::form::drawn_circuits_are_circuits;
 use law_drawing::mirrors::{
@@ -56,9 +55,3 @@ pub fn machines_keep_contracts()
     runs_keep_contracts();
     machines_run_the_nodes_of_texts();
 }
-
-/// In each reaction of an accepted program the variables of a formula that a contract remembers are Boolean, so the variable that remembers it is true exactly where the formula holds.
-pub fn formulas_of_accepted_programs_are_remembered()
-    ensures boolean { BooleanLaw }
-    ensures value { FormulaLaw }
-{}
