@@ -16,7 +16,7 @@ use Rattle.hp_complete.specs.Ordering.{IsCircular}
 use Rattle.hp_flat.specs.Nodes.{FlatNode}
 use Rattle.hp_form.specs.Regular.Regular.{EqnsRegular}
 use Rattle.law_equations.specs.Made.Types.{obc_types_of}
-use Rattle.law_equations.specs.Meaning.Scheduling.{EqnWithin}
+use Rattle.hp_complete.specs.Ranges.{EqnWithin}
 use Rattle.hp_abstract.specs.declared.abstracted.Abstraction.{Abstraction}
 use Rattle.hp_abstract.specs.declared.error.AbsErr.{AbsErr}
 use Rattle.hp_abstract.specs.declared.error.AbsErr.TheVariants as abstract
