@@ -18,5 +18,5 @@ returns-clause-added c =
     let d : Machine = three.0 in
     let first = ap (λ z. z ++ b ∷ []) one.1 ∙ append_assoc old (a ∷ []) (b ∷ []) in
     let both = two.1 ∙ first in
-    (a ∷ b ∷ d ∷ [], three.1 ∙ ap (λ z. z ++ d ∷ []) both ∙ append_assoc old (a ∷ b ∷ []) (d ∷ []), (one.2.0, two.2.0, three.2.0, tt)))
+    (a ∷ b ∷ d ∷ [], three.1 ∙ ap (λ z. z ++ d ∷ []) both ∙ append_assoc old (a ∷ b ∷ []) (d ∷ []), (one.2.0, (two.2.0, (three.2.0, tt)))))
     c.add_machine-3.ensures.added
