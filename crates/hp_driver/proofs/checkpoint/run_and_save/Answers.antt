@@ -1,6 +1,7 @@
-use Rattle.std.proofs.Common.{[], ◌≡◌, ◌≢◌, ◌++◌, ◌∙◌, ◌⊎◌, ⊎_elim, inl, ℕ, List, true, refl, sym, ap, subst, rules, arith}
+use Rattle.std.proofs.Common.{[], ◌≡◌, ◌≢◌, ◌++◌, ◌∙◌, ◌⊎◌, ⊎_elim, inl, inr, ℕ, List, true, refl, sym, ap, subst, rules, arith}
 use Rattle.std.specs.Vec.{vec_len}
 use Rattle.hp_io.specs.Told.{Grows}
+use Rattle.hp_io.proofs.FaultLaws.{AllSame-refl}
 use Rattle.hp_io.proofs.ToldLaws.{Grows-nil}
 use Rattle.hp_obctext.specs.MemoryKinds.{AreOfTypes, kinds_at, memory_bound, memory_text}
 use Rattle.hp_driver.specs.Course.{Takes}
@@ -43,6 +44,12 @@ returns-then-code-ne0-clause-outcome g c =
     let status = code_of c.run_trace-status.result in
     let fails : code_of c.run_trace-status.result ≢ 0 = search rules in
     (ran.0, ran.1, ran.2, ran.3, ran.4, KeepsRun.stopped (subst (λ e. Ran executing e ran.0 ran.1 status) c.in-Ok-new.ensures ran.5.0) fails refl)
+
+pub returns-then-code-ne0-clause-writes : goal.returns-then-code-ne0-clause-writes
+returns-then-code-ne0-clause-writes g c =
+    let puts = c.run_trace-status.ensures.puts in
+    let same = AllSame-refl (g.F.Folder.write_faults c.args.files.now) in
+    ((λ five. inr (same, puts.0 five)), (λ no. (same, (puts.1 no).0, (puts.1 no).1)))
 
 pub write_memory-requires-clause-kinds : goal.write_memory-requires-clause-kinds
 write_memory-requires-clause-kinds g c =
