@@ -192,6 +192,7 @@ module _ (before after : Option Files) (file node : List ℕ) (from : Option (Li
 
 pub segment_of_machines : TextLaw → RunLaw → (before after : Option Files) (node : List ℕ) (from : Option (List ℕ)) (out : List ℕ) (o : Obc) (e : Executor) → HasObcForm o.types o.machines → StandsFor o node e →
     IsBegun before o node from e → (log : List Event) (line : List ℕ) (status : ℕ) → KeepsRun o node e out before after log line status → SegmentOfMachines o node from out before after log line status
+unfolding runnable
 segment_of_machines text_law run_law before after node None out o e form h fresh log line status r file s are =
     segment_ran before after file node None out o e h s (run_mirrors text_law run_law before file node o s are e fresh) (machine_behaviour o node).reset (Begins.from_reset (runnable text_law before file node o s form are (is_machine o node e fresh))) fresh.fresh log line status r
 segment_of_machines text_law run_law before after node (Some mem) out o e form h begun log line status r file s are =

@@ -6,14 +6,14 @@ use Rattle.hp_driver.proofs.ordering.run_tool_with_order.Goals as goal
 pub returns-in_default : goal.returns-in_default
 returns-in_default g c = numbered c.code.ensures (nothing_done (map string_bytes c.args.words.now) _)
 
-pub returns-in_default-2 : goal.returns-in_default-2
-returns-in_default-2 g c = numbered c.code.ensures (nothing_done (map string_bytes c.args.words.now) _)
+pub returns-in_default-new : goal.returns-in_default-new
+returns-in_default-new g c = numbered c.code.ensures (nothing_done (map string_bytes c.args.words.now) _)
 
-pub returns-in_default-3 : goal.returns-in_default-3
-returns-in_default-3 g c = numbered c.code.ensures (nothing_done (map string_bytes c.args.words.now) _)
+pub returns-in_default-new-2 : goal.returns-in_default-new-2
+returns-in_default-new-2 g c = numbered c.code.ensures (nothing_done (map string_bytes c.args.words.now) _)
 
-pub returns-in_default-4 : goal.returns-in_default-4
-returns-in_default-4 g c = numbered c.code.ensures (nothing_done (map string_bytes c.args.words.now) _)
+pub returns-in_default-from_array : goal.returns-in_default-from_array
+returns-in_default-from_array g c = numbered c.code.ensures (nothing_done (map string_bytes c.args.words.now) _)
 
 pub returns : goal.returns
 returns g c =
