@@ -34,10 +34,10 @@ use Rattle.law_values.specs.Valued.Judged.{BlockSound, ContractSound, EqnSound, 
 use Rattle.law_values.specs.Valued.Values.{AreAccepted, Classing, InstantFits, NodeAccepted, class_behind, class_here, either_of, scope_behind}
 use Rattle.law_values.proofs.AcceptedLemmas.Laws.{accepted, ready_text}
 use Rattle.law_values.proofs.ValuedLemmas.Programs.{real_values}
-use Rattle.hp_past.specs.Remembered.{Remembered, once, historically, since, AreBoolean, Keeps, instants_of}
+use Rattle.hp_past.specs.Remembered.{Remembered, once, historically, since, AreBoolean, Keeps}
 use Rattle.hp_past.specs.Remembering.{IsBoolean, defined_as, last_among, right_side}
 use Rattle.hp_past.proofs.ReactionLaws.{remembered, whole-past}
-use Rattle.law_past.specs.Remembered.{BooleanLaw, FormulaLaw, IsChecked, Reacts}
+use Rattle.law_past.specs.Remembered.{BooleanLaw, FormulaLaw, IsChecked}
 
 some-is : {A : Type 0} (a b : A) → Some a ≡ Some b → a ≡ b
 some-is a b e = ap (λ o. elim o [ None ↦ a | Some c ↦ c ]) e

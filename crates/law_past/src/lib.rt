@@ -1,4 +1,4 @@
-//! Law of `hp_past`: in each reaction of an accepted program what contracts remember are formulas.
+//! Law of `hp_past`: in each reaction of an accepted program what contracts remember are formulas. Used by no other crate.
 //!
 //! The functions here do nothing: each is a law, which its contract states.
 #![tactic(auto)]
