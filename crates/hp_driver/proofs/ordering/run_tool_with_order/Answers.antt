@@ -7,13 +7,13 @@ pub returns-in_default : goal.returns-in_default
 returns-in_default g c = numbered c.code.ensures (nothing_done (map string_bytes c.args.words.now) _)
 
 pub returns-in_default-new : goal.returns-in_default-new
-returns-in_default-new g c = numbered c.code.ensures (nothing_done (map string_bytes c.args.words.now) _)
+returns-in_default-new g c = numbered c.code-in_default-new.ensures (nothing_done (map string_bytes c.args.words.now) _)
 
 pub returns-in_default-new-2 : goal.returns-in_default-new-2
-returns-in_default-new-2 g c = numbered c.code.ensures (nothing_done (map string_bytes c.args.words.now) _)
+returns-in_default-new-2 g c = numbered c.code-in_default-new-2.ensures (nothing_done (map string_bytes c.args.words.now) _)
 
 pub returns-in_default-from_array : goal.returns-in_default-from_array
-returns-in_default-from_array g c = numbered c.code.ensures (nothing_done (map string_bytes c.args.words.now) _)
+returns-in_default-from_array g c = numbered c.code-in_default-from_array.ensures (nothing_done (map string_bytes c.args.words.now) _)
 
 pub returns : goal.returns
 returns g c =
