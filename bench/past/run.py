@@ -77,8 +77,8 @@ def main():
         return 70
     wrong = 0
     with tempfile.TemporaryDirectory() as folder:
-        # What is written of the second text would be longer than a text may be.
-        for count, wanted, told in [(7_000, 0, ''), (10_000, 1, 'E3 - size')]:
+        # Each formula takes some 160 bytes of what is written, so that of the second text would be longer than a text may be.
+        for count, wanted, told in [(6_500, 0, ''), (10_000, 1, 'E3 - size')]:
             status, line, spent, remembered = measured(folder, count, times)
             good = status == wanted and line.startswith(told) and remembered == (count if status == 0 else 0)
             wrong += not good

@@ -1,6 +1,6 @@
 -- The node that chooses the values of its controllable variables, and the nodes of a contract that are made of it.
 -- Source: own; in a step the early values come first, then the controller is asked, and then all else is computed (Delaval, Marchand and Rutten, LCTES 2010).
-use Rattle.std.specs.Prelude.{◌≡◌, ⊤, ℕ, ◌+◌, nat_lt, if◌then◌else◌, List, [], ◌∷◌, ◌++◌, length, map, drop, codes, slice_get, Option, None, Some, IsTrue, is_some}
+use Rattle.std.specs.Prelude.{◌≡◌, ⊤, ℕ, ◌+◌, ◌≤◌, ◌^◌, nat_lt, if◌then◌else◌, List, [], ◌∷◌, ◌++◌, length, map, drop, codes, slice_get, Option, None, Some, IsTrue, is_some}
 use Rattle.hp_obc.specs.Machines.{ObcType}
 use Rattle.hp_tree.specs.Meaning.{controls_of}
 use Rattle.hp_tree.specs.Programs.{Node}
@@ -145,10 +145,11 @@ told_outputs c = c.node.outputs ++ c.assume ∷ c.enforce ∷ []
 abbrev pub IsTold : Node → Telling → FlatNode → Type 0
 IsTold node c told = IsPart c.node (contract_name node.name) (told_outputs c) told
 
--- Both are made of the node that chooses.
+-- Both are made of the node that chooses, which has no more variables than a machine's words tell apart.
 pub record AreChosenNodes (types : List ObcType) (observers : Observing) (node : Node) (n : FlatNode) (a : Abstraction) (own told : FlatNode) : Type 0 where
   pub choosing : Telling
   pub is_choosing : IsChoosing types observers node n a choosing
+  pub few : length choosing.node.variables ≤ 2 ^ 64
   pub itself : IsOwn node n choosing own
   pub tells : IsTold node choosing told
 

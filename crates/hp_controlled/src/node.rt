@@ -27,7 +27,7 @@ use hp_abstract::{Abstraction, Given, abstraction};
 use hp_base::Name;
 use hp_boolx::BoolMachine;
 use hp_complete::order_eqns;
-use hp_controller::{Control, ControlKind, Enumeration, controlled, controller};
+use hp_controller::{Control, ControlKind, Enumeration, controlled, controller, has_few_variables};
 use hp_flat::{FlatNode, FlatTy, Variable};
 use hp_machines::regular_machine_of;
 use hp_obc::{Machine, ObcType};
@@ -420,6 +420,7 @@ fn chosen_nodes(
     let chosen = choosing(alloc, context, node, flat, abstraction)?;
     let own = own_node(alloc, node, kept, &chosen)?;
     let told = told_node(alloc, node, &chosen)?;
+    has_few_variables(&chosen.node);
     Ok((own, told))
 }
 

@@ -1,7 +1,8 @@
 -- The node of the lines of a machine's functions is its controller.
-use Rattle.std.proofs.Common.{◌≡◌, ℕ, zero, suc, ◌+◌, ◌<◌, Bool, false, List, [], ◌∷◌, ◌++◌, length, map, slice_index_or, codes, refl, sym, ap, ap₂, subst, ◌∙◌, arith}
+use Rattle.std.proofs.Common.{◌≡◌, ℕ, zero, suc, ◌+◌, ◌<◌, ◌≤◌, ◌^◌, Bool, false, List, [], ◌∷◌, ◌++◌, length, map, slice_index_or, codes, refl, sym, ap, ap₂, subst, ◌∙◌, arith}
 use Rattle.std.specs.List.{AllByRecursion, range_with_len}
 use Rattle.std.proofs.lemmas.List.{length-append, length-map}
+use Rattle.std.proofs.lemmas.List.FromFn.{length-map-range_with_len}
 use Rattle.hp_base.specs.declared.value.Value.TheVariants.{B}
 use Rattle.hp_boolx.specs.Machine.{Machine, game}
 use Rattle.hp_boolx.specs.Search.{Bits}
@@ -69,10 +70,14 @@ all_bits from (suc n) = (refl, all_bits (from + 1) n)
 
 -- it has a line for each node of functions of variables that stand at places, and tests the variable that stands there
 pub controls : (m : Machine) (vars : ℕ) (layout : Layout) → IsLayout vars layout → (t : Diagrams) (funs : List Ref) (name : List ℕ) (lines : List Line) (numbers : List ℕ) → AreFunctionsAt (game m) (place layout) t funs → HaveFunctions t funs lines numbers → RefersBack lines
-    → name ≡ m.name ++ codes "$ctl" → IsController m (node_of_lines name (m.registers + m.early) (map (moved (variable layout)) lines) numbers)
-controls m vars layout placed t funs name at_places numbers are have back named = record {
+    → name ≡ m.name ++ codes "$ctl" → length (node_of_lines name (m.registers + m.early) (map (moved (variable layout)) lines) numbers).variables ≤ 2 ^ 64 → IsController m (node_of_lines name (m.registers + m.early) (map (moved (variable layout)) lines) numbers)
+controls m vars layout placed t funs name at_places numbers are have back named few = record {
   name = named;
   bits = all_bits 0 (m.registers + m.early + length (map (moved (variable layout)) at_places) + length numbers);
+  numbered =
+      let count = m.registers + m.early + length (map (moved (variable layout)) at_places) + length numbers in
+      ap (λ k. map bit_variable (range_with_len 0 k)) (sym (length-map-range_with_len bit_variable 0 count));
+  few = few;
   inputs = refl;
   outputs =
       let moved_lines = map (moved (variable layout)) at_places in

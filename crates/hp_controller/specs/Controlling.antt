@@ -1,6 +1,6 @@
 -- The controller of a Boolean machine.
-use Rattle.std.specs.Prelude.{◌≡◌, ⊤, ◌+◌, List, ◌++◌, length, map, codes}
-use Rattle.std.specs.List.{AllByRecursion}
+use Rattle.std.specs.Prelude.{◌≡◌, ⊤, ◌+◌, ◌≤◌, ◌^◌, List, ◌++◌, length, map, codes}
+use Rattle.std.specs.List.{AllByRecursion, range_with_len}
 use Rattle.hp_base.specs.declared.value.Value.TheVariants.{B}
 use Rattle.hp_boolx.specs.Machine.{Machine, game}
 use Rattle.hp_boolx.specs.Search.{Bits}
@@ -14,6 +14,7 @@ use Rattle.law_equations.specs.Meaning.Instants.{Instant}
 use Rattle.law_equations.specs.Meaning.Reactions.{Answers, Continues, outputs_at}
 use Rattle.law_equations.specs.Meaning.Kinding.{Callees, IsWellMade}
 use Rattle.law_equations.specs.Meaning.Scheduling.{IsWithin}
+use Rattle.hp_controller.specs.Controllers.{bit_variable}
 
 -- an operator, which remembers nothing and asks no node
 abbrev pub IsOperator : Right → Type 0
@@ -21,10 +22,13 @@ IsOperator (operator op args) = ⊤
 IsOperator (register first next) = ⊥
 IsOperator (called f args) = ⊥
 
--- The node is the controller of the machine: it is named after it, has truth values alone, takes the registers and the early bits, gives so many as there are control bits, remembers nothing, and gives its choice at each state and all early values.
+-- The node is the controller of the machine: it is named after it, has truth values alone, which are named by their numbers, takes the registers and the early bits, gives so many as there are control bits, remembers nothing, and gives its choice at each state and all early values.
 pub record IsController (m : Machine) (node : FlatNode) : Type 0 where
   pub name : node.name ≡ m.name ++ codes "$ctl"
   pub bits : AllByRecursion (λ (x : Variable). x.ty ≡ Bool) node.variables
+  pub numbered : node.variables ≡ map bit_variable (range_with_len 0 (length node.variables))
+  -- there are no more than a machine's words tell apart
+  pub few : length node.variables ≤ 2 ^ 64
   pub inputs : node.inputs ≡ m.registers + m.early
   pub outputs : length node.outputs ≡ length m.prefer
   pub within : IsWithin node

@@ -7,7 +7,7 @@ ghost use Rattle.hp_diagram.specs.Diagrams.{Keeps};
 ghost use Rattle.hp_synth.specs.Layouts.{variable};
 ghost use Rattle.hp_synth.specs.Playing.{IsPlayed, Wins};
 
-use crate::node::node_of_lines;
+use crate::node::{has_few_variables, node_of_lines};
 use hp_base::Name;
 use hp_boolx::BoolMachine;
 use hp_cert::certmade::make_page;
@@ -63,5 +63,6 @@ pub fn controller(alloc: Global, p: &mut Played, m: &BoolMachine) -> Result<Flat
         &lines,
         &page.numbers,
     )?;
+    has_few_variables(&node);
     Ok(node)
 }

@@ -17,6 +17,6 @@ pub use laws::{
     controllers_answer_with_the_choice, gates_have_their_values, lines_give_their_functions,
     registers_follow_their_machine,
 };
-pub use node::node_of_lines;
+pub use node::{has_few_variables, node_of_lines};
 pub use steering::controlled;
 pub use steps::{Placing, add_steps};

@@ -1,5 +1,5 @@
 //! The clocked equations of lines.
-ghost use Rattle.std.specs.Prelude.{◌≡◌, ◌+◌, ◌^◌, ◌<◌, ◌++◌, length, map, IfOk, OnOk};
+ghost use Rattle.std.specs.Prelude.{◌≡◌, ◌+◌, ◌^◌, ◌<◌, ◌≤◌, ◌++◌, length, map, IfOk, OnOk};
 ghost use Rattle.std.specs.List.{range_with_len};
 ghost use Rattle.hp_controller.specs.Controllers as made;
 
@@ -168,6 +168,13 @@ fn variables(inputs: usize, lines: usize, outputs: usize) -> Result<usize, Alloc
 {
     let behind = lines.checked_add(outputs).ok_or(AllocError)?;
     inputs.checked_add(behind).ok_or(AllocError)
+}
+
+/// A node in memory has no more variables than numbers tell apart.
+pub fn has_few_variables(node: &FlatNode)
+    ensures { length node.now.variables ≤ 2 ^ 64 }
+{
+    let _count = node.variables.len();
 }
 
 /// The node that gives the functions of these numbers of lines: a line behind the inputs is one equation, and so is an output. Its variables are truth values, named by

@@ -57,7 +57,7 @@ module _ (words : List (List ℕ)) (held : Files) (file out text : List ℕ) (pr
   unfolds x y line status v (PastOutcome.too_long_unfolded {program = p} h long) g =
       let low = short p (subst (λ t. IsProgramOf t p) (same_file x y h.text v h.gives) h.program_of) in
       absurd (omega (arith, low, long))
-  unfolds x y line status v (PastOutcome.written h s b) g = inl refl
+  unfolds x y line status v (PastOutcome.written h s b t) g = inl refl
   unfolds x y line status v (PastOutcome.not_written h s) g = absurd (g refl)
 
   pub succeeds : (log : List Event) (line : List ℕ) (status : ℕ) → Outcome words (Some held) log line status → (status ≡ 4 → ⊥) → (status ≡ 5 → ⊥) → (status ≡ 0) ⊎ (status ≡ 6)

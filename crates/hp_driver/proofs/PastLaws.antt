@@ -9,6 +9,7 @@ use Rattle.hp_compile.specs.declared.refusal.Refusal.TheVariants as refusal
 use Rattle.hp_io.specs.Files.{Files}
 use Rattle.hp_io.specs.Told.{Grows}
 use Rattle.hp_past.specs.Unfolding.{unfolded}
+use Rattle.law_past.specs.Unfolded.{TellsFormulas}
 use Rattle.hp_print.specs.ReadBack.{IsReadBack}
 use Rattle.hp_tree.specs.declared.program.Item.{Item}
 use Rattle.hp_driver.specs.Command.{IsPastOf}
@@ -33,14 +34,14 @@ module _ (out : List ℕ) (program : List Item) where
   holds : (files : Option Files) (file text : List ℕ) → Gives files file text → IsProgramOf text program → HoldsProgram files file program
   holds files file text gives is = record { text = text; gives = gives; program_of = is }
 
-  -- what is written of the program of a text is read back
+  -- what is written of the program of a text is read back, and tells the formulas
   abbrev pub ReadsBack : Type 0
-  ReadsBack = (text : List ℕ) → IsProgramOf text program → length (unfolded_text program) ≤ most Size → IsReadBack (unfolded program) (unfolded_text program)
+  ReadsBack = (text : List ℕ) → IsProgramOf text program → length (unfolded_text program) ≤ most Size → IsReadBack (unfolded program) (unfolded_text program) × TellsFormulas program
 
   -- so is the text of the program without the formulas of its contracts
   pub unfolds : ReadsBack → (line : List ℕ) (status : ℕ) → WritesSource (unfolded_text program) line status → UnfoldsProgram out program line status
   unfolds back line status (WritesSource.too_long long) text is words files file w gives = Outcome.past w (PastOutcome.too_long_unfolded (holds files file text gives is) long)
-  unfolds back line status (WritesSource.written short) text is words files file w gives = Outcome.past w (PastOutcome.written (holds files file text gives is) short (back text is short))
+  unfolds back line status (WritesSource.written short) text is words files file w gives = let b = back text is short in Outcome.past w (PastOutcome.written (holds files file text gives is) short b.0 b.1)
   unfolds back line status (WritesSource.not_written short) text is words files file w gives = Outcome.past w (PastOutcome.not_written (holds files file text gives is) short)
   unfolds back line status WritesSource.no_memory text is words files file w gives = Outcome.no_memory
   unfolds back line status (WritesSource.line_failed {status = s} told b rest r) text is words files file w gives =

@@ -10,6 +10,7 @@ use Rattle.hp_compile.specs.Judged.{IsProgramOf}
 use Rattle.hp_compile.specs.Refusals.{Causes}
 use Rattle.hp_compile.specs.declared.refusal.Refusal.{Refusal}
 use Rattle.hp_past.specs.Unfolding.{unfolded}
+use Rattle.law_past.specs.Unfolded.{TellsFormulas}
 use Rattle.hp_driver.specs.Diagnostics.{refusal_line, too_long_line}
 use Rattle.hp_driver.specs.Given.{Gives, GivesMoreThan}
 
@@ -32,6 +33,6 @@ module _ (files : Option Files) (file : List ℕ) where
     refused : (text : List ℕ) (cause : Refusal) → Gives files file text → Causes text cause → ((program : List Item) → IsProgramOf text program → ⊥) → PastOutcome (refusal_line cause) 1
     -- the text that would be written is longer than a source text may be
     too_long_unfolded : {program : List Item} → HoldsProgram files file program → most Size < length (unfolded_text program) → PastOutcome (too_long_line Size) 1
-    -- it was written, and is read back as that program, but for places; or it could not be written
-    written : {program : List Item} → HoldsProgram files file program → length (unfolded_text program) ≤ most Size → IsReadBack (unfolded program) (unfolded_text program) → PastOutcome [] 0
+    -- it was written, and is read back as that program, but for places, and where it is accepted its new variables have the values of the formulas; or it could not be written
+    written : {program : List Item} → HoldsProgram files file program → length (unfolded_text program) ≤ most Size → IsReadBack (unfolded program) (unfolded_text program) → TellsFormulas program → PastOutcome [] 0
     not_written : {program : List Item} → HoldsProgram files file program → length (unfolded_text program) ≤ most Size → PastOutcome [] 5

@@ -23,6 +23,7 @@ use hp_parser::parse;
 use hp_past::{unfold, unfolded_programs_are_read_back};
 use hp_print::print;
 use hp_tree::Program;
+use law_past::unfolded_formulas_have_their_values;
 use std::alloc::{AllocError, Global};
 
 /// The program of a text by the grammar within its limits, whatever its names and types are.
@@ -82,8 +83,9 @@ fn write_unfolded<F: Folder, E: Sink>(
     ensures reads { NothingRead (F.reads files.old) (F.reads files.new) }
     ensures writes { WriteOrPutFaults out.now (code_of result) (F.write_faults files.old) (F.write_faults files.new) (E.faults diag.old) (E.faults diag.new) }
 {
-    // A law: what is written is read back.
+    // Laws: what is written is read back, and tells the formulas.
     unfolded_programs_are_read_back();
+    unfolded_formulas_have_their_values();
     match unfolded_text(alloc, program) {
         Ok(text) => write_source(alloc, text.as_slice(), out, files, diag),
         Err(_) => Status::NoMemory,

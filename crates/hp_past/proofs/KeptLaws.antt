@@ -86,18 +86,18 @@ remembers-front : (ds more : List Decl) (es others : List Eqn) (v : List ℕ) (b
 remembers-front ds more es others v b e r = record { begins = last-front ds more v (constant.B b) r.begins; defined = right-front es others v e r.defined }
 
 pub keeps-front : (ds more : List Decl) (es others : List Eqn) (f : Remembered) → Keeps (made ds es) f → Keeps (made (ds ++ more) (es ++ others)) f
-keeps-front ds more es others (once n v) k = (some-front es others n k.0, (k.1.0, remembers-front ds more es others v false _ k.1.1))
-keeps-front ds more es others (historically n v) k = (some-front es others n k.0, (k.1.0, remembers-front ds more es others v true _ k.1.1))
-keeps-front ds more es others (since n1 n2 v) k = (some-front es others n1 k.0, some-front es others n2 k.1, (k.2.0, remembers-front ds more es others v false _ k.2.1))
+keeps-front ds more es others (once n v) k = (some-front es others n k.0, (k.1.0, k.1.1, k.1.2, remembers-front ds more es others v false _ k.1.3))
+keeps-front ds more es others (historically n v) k = (some-front es others n k.0, (k.1.0, k.1.1, k.1.2, remembers-front ds more es others v true _ k.1.3))
+keeps-front ds more es others (since n1 n2 v) k = (some-front es others n1 k.0, some-front es others n2 k.1, (k.2.0, k.2.1, k.2.2, k.2.3, k.2.4, remembers-front ds more es others v false _ k.2.5))
 
 module _ (ds more : List Decl) (es others : List Eqn) (v : List ℕ) (undeclared : declares ds v ≡ false) (undefined : some_defines (eqns_of es) v ≡ false) where
   remembers-behind : (b : Bool) (e : Expr) → Remembers (made more others) v b e → Remembers (made (ds ++ more) (es ++ others)) v b e
   remembers-behind b e r = record { begins = last-behind ds more v undeclared ∙ r.begins; defined = right-behind es others v undefined ∙ r.defined }
 
 pub keeps-behind : (ds more : List Decl) (es others : List Eqn) (f : Remembered) → declares ds (variable_of f) ≡ false → some_defines (eqns_of es) (variable_of f) ≡ false → Keeps (made more others) f → Keeps (made (ds ++ more) (es ++ others)) f
-keeps-behind ds more es others (once n v) a b k = (some-behind es others n k.0, (k.1.0, remembers-behind ds more es others v a b false _ k.1.1))
-keeps-behind ds more es others (historically n v) a b k = (some-behind es others n k.0, (k.1.0, remembers-behind ds more es others v a b true _ k.1.1))
-keeps-behind ds more es others (since n1 n2 v) a b k = (some-behind es others n1 k.0, some-behind es others n2 k.1, (k.2.0, remembers-behind ds more es others v a b false _ k.2.1))
+keeps-behind ds more es others (once n v) a b k = (some-behind es others n k.0, (k.1.0, k.1.1, k.1.2, remembers-behind ds more es others v a b false _ k.1.3))
+keeps-behind ds more es others (historically n v) a b k = (some-behind es others n k.0, (k.1.0, k.1.1, k.1.2, remembers-behind ds more es others v a b true _ k.1.3))
+keeps-behind ds more es others (since n1 n2 v) a b k = (some-behind es others n1 k.0, some-behind es others n2 k.1, (k.2.0, k.2.1, k.2.2, k.2.3, k.2.4, remembers-behind ds more es others v a b false _ k.2.5))
 
 -- ---- names in what has been added
 
@@ -274,12 +274,12 @@ module _ (names : Names) (at : Span) (e : Expr) (s : Added) (op : Op2) (b : Bool
 pub once-steps : (names : Names) (at : Span) (e : Expr) (s : Added) → Steps names s (once_of names at e s).1
 unfolding once_of with_argument fresh with_variable
 once-steps names at e s =
-    single-steps names at e s Or false (once (argument names at e s Or false) (memory names at e s Or false)) refl (λ d r. (d, (at, r)))
+    single-steps names at e s Or false (once (argument names at e s Or false) (memory names at e s Or false)) refl (λ d r. (d, (at, at, at, r)))
 
 pub historically-steps : (names : Names) (at : Span) (e : Expr) (s : Added) → Steps names s (historically_of names at e s).1
 unfolding historically_of with_argument fresh with_variable
 historically-steps names at e s =
-    single-steps names at e s And true (historically (argument names at e s And true) (memory names at e s And true)) refl (λ d r. (d, (at, r)))
+    single-steps names at e s And true (historically (argument names at e s And true) (memory names at e s And true)) refl (λ d r. (d, (at, at, at, r)))
 
 module _ (names : Names) (at : Span) (e1 e2 : Expr) (s : Added) where
   abbrev pub first_added : Added
@@ -314,7 +314,7 @@ module _ (names : Names) (at : Span) (e1 e2 : Expr) (s : Added) where
         (
           some-front second_added.eqns _ holding (some-front first_added.eqns _ holding (defines-it names s at None e1)),
           some-front second_added.eqns _ beginning (defines-it names first_added at None e2),
-          (at, remembers-it names second_added at (Some false) right_since false refl h w),
+          (at, at, at, at, at, remembers-it names second_added at (Some false) right_since false refl h w),
         ),
       ))))
 

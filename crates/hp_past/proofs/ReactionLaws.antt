@@ -248,6 +248,6 @@ module _ (program : List Item) (f : List ℕ) (c : Contract) (h : HasContract pr
   whole-past = same program f c h inputs frees now past reaction []
 
   pub remembered : (m : Remembered) → Keeps c.body m → AreBoolean m (instants_of now past) → Tells (now (Observer ∷ Named (variable_of m) ∷ [])) (Says m (instants_of now past))
-  remembered (once n v) k b = let r = k.1 in once-remembered program f c h inputs frees now past reaction v r.0 r.0 r.0 n k.0 r.1 b
-  remembered (historically n v) k b = let r = k.1 in historically-remembered program f c h inputs frees now past reaction v r.0 r.0 r.0 n k.0 r.1 b
-  remembered (since n1 n2 v) k b = let r = k.2 in since-remembered program f c h inputs frees now past reaction v r.0 r.0 r.0 r.0 r.0 n1 n2 k.0 k.1 r.1 b.0 b.1
+  remembered (once n v) k b = let r = k.1 in once-remembered program f c h inputs frees now past reaction v r.0 r.1 r.2 n k.0 r.3 b
+  remembered (historically n v) k b = let r = k.1 in historically-remembered program f c h inputs frees now past reaction v r.0 r.1 r.2 n k.0 r.3 b
+  remembered (since n1 n2 v) k b = let r = k.2 in since-remembered program f c h inputs frees now past reaction v r.0 r.1 r.2 r.3 r.4 n1 n2 k.0 k.1 r.5 b.0 b.1

@@ -25,11 +25,11 @@ variable_of (once n v) = v
 variable_of (historically n v) = v
 variable_of (since n1 n2 v) = v
 
--- the block has the variables and their equations
+-- the block has the variables and their equations, wherever the parts of these stand in a text
 abbrev pub Keeps : Block → Remembered → Type 0
-Keeps b (once n v) = Defines b n × ((at : Span) × Remembers b v false (two at Or (variable at n) (last_of at v)))
-Keeps b (historically n v) = Defines b n × ((at : Span) × Remembers b v true (two at And (variable at n) (last_of at v)))
-Keeps b (since n1 n2 v) = Defines b n1 × Defines b n2 × ((at : Span) × Remembers b v false (two at Or (variable at n2) (two at And (variable at n1) (last_of at v))))
+Keeps b (once n v) = Defines b n × ((at x y : Span) × Remembers b v false (two at Or (variable x n) (last_of y v)))
+Keeps b (historically n v) = Defines b n × ((at x y : Span) × Remembers b v true (two at And (variable x n) (last_of y v)))
+Keeps b (since n1 n2 v) = Defines b n1 × Defines b n2 × ((at x and y z : Span) × Remembers b v false (two at Or (variable x n2) (two and And (variable y n1) (last_of z v))))
 
 -- what the formula says of instants of the block, the newest first
 abbrev pub Says : Remembered → List Instant → Type 0

@@ -18,10 +18,10 @@ declared name ty span = record { name = name; ty = ty; last = None; clock = Some
 
 -- the outputs of an observer: what is assumed and what is enforced; no source name holds the sign
 abbrev pub assumed : List ℕ
-assumed = codes "assume$"
+assumed = codes "assume$0"
 
 abbrev pub enforced : List ℕ
-enforced = codes "enforce$"
+enforced = codes "enforce$0"
 
 abbrev pub outputs_at : Span → List Decl
 outputs_at span = declared assumed Bool span ∷ declared enforced Bool span ∷ []

@@ -9,9 +9,9 @@ use itoa::Buffer;
 use std::alloc::{AllocError, Global};
 
 /// The outputs of an observer: what is assumed and what is enforced. No source name holds the sign `$`, and none is one of these words.
-const ASSUMED: &[u8] = b"assume$";
+const ASSUMED: &[u8] = b"assume$0";
 
-const ENFORCED: &[u8] = b"enforce$";
+const ENFORCED: &[u8] = b"enforce$0";
 
 /// What the name of an input begins with that stands for an output of the node; its number follows.
 const INPUT: &[u8] = b"in$";
@@ -101,7 +101,7 @@ fn equation(alloc: Global, name: Name, span: Span, right: Expr) -> Result<Eqn, A
 
 /// The equation of what is assumed or enforced.
 fn said_eqn(alloc: Global, name: &[u8], said: &Option<Expr>, span: Span) -> Result<Eqn, AllocError>
-    requires { length name.now ≤ 8 }
+    requires { length name.now ≤ 9 }
     ensures { IfOk result (λ eqn. eqn_seen eqn ≡ made.equation name.now span (made.condition_of said.now span)) }
 {
     let right = condition_of(alloc, said, span)?;

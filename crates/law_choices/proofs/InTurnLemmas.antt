@@ -2,11 +2,13 @@ pub mod Allowed
 mod Calls
 mod Contracted
 mod Names
+pub mod Observed
 pub mod Observers
 pub mod Programs
 mod Said
+pub mod Standing
 mod Telling
 mod Tells
 pub mod Texts
-mod Types
+pub mod Types
 pub mod WorkedContract

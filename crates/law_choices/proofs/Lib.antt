@@ -16,4 +16,7 @@ pub mod PlacesLemmas
 mod AnsweredLemmas
 mod PartLemmas
 mod AddingLemmas
+mod CodedLemmas
 mod InTurnLemmas
+mod ObservedLemmas
+mod PlayingLemmas

@@ -10,6 +10,7 @@ pub mod MadeClocks
 pub mod Headed
 pub mod ArmNumbers
 pub mod Programs
+pub mod Compilable
 pub mod CallKinds
 pub mod WellMade
 pub mod Texts

@@ -1,3 +1,4 @@
 pub mod Closed
 pub mod Exclusive
 pub mod Clocking
+pub mod Compilable

@@ -4,4 +4,6 @@ pub mod Laws
 pub mod Allowed
 pub mod Worked
 pub mod Observers
+pub mod Observed
 pub mod Texts
+pub mod Standing

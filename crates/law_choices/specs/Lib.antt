@@ -16,4 +16,7 @@ pub mod Places
 pub mod Answered
 pub mod Part
 pub mod Adding
+pub mod Coded
 pub mod InTurn
+pub mod Observed
+pub mod Playing

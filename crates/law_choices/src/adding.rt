@@ -11,7 +11,7 @@ ghost use Rattle.law_choices.specs.Adding.Embeds.{EmbeddedLaw};
 ghost use Rattle.law_choices.specs.Adding.Keeping.{BasedLaw};
 ghost use Rattle.law_choices.specs.Adding.Laws.{AddingLaw, BuiltLaw, OrderedLaw, SomeAddingLaw};
 ghost use Rattle.law_choices.specs.Adding.Lifts.{BitsLaw, CopyLaw, LiftLaw, SomeLiftLaw};
-ghost use Rattle.law_choices.specs.Adding.Made.{BytesLaw, ReadyMadeLaw};
+ghost use Rattle.law_choices.specs.Adding.Made.{BytesLaw, CompiledMadeLaw, ReadyMadeLaw};
 ghost use Rattle.law_choices.specs.Adding.Placed.{PlacedLaw, PlacedLoopLaw, PlacedReactionLaw};
 ghost use Rattle.law_choices.specs.Adding.Surveyed.{SurveyedLaw};
 ghost use Rattle.law_choices.specs.Adding.Watched.{WatchedLaw};
@@ -48,8 +48,9 @@ pub fn callees_may_differ_elsewhere()
     ensures { CalledLaw }
 {}
 
-/// The clocked equations that are made of a ready program without its automata are well built; the constructors of its types have numbers of one byte.
+/// The clocked equations that are made of a program without automata that can be compiled are well built, and so are those of a ready one; the constructors of its types have numbers of one byte.
 pub fn made_nodes_may_be_added_to()
+    ensures compiled { CompiledMadeLaw }
     ensures made { ReadyMadeLaw }
     ensures bytes { BytesLaw }
 {

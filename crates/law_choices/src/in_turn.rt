@@ -5,8 +5,10 @@
 
 ghost use Rattle.law_choices.specs.InTurn.Allowed.{AllowedRunLaw};
 ghost use Rattle.law_choices.specs.InTurn.Laws.{ChoosingProgramLaw, TellingLaw, TurnLaw, WithinLaw};
+ghost use Rattle.law_choices.specs.InTurn.Observed.{ObservedLaw};
 ghost use Rattle.law_choices.specs.InTurn.Observers.{ObserverLaw};
-ghost use Rattle.law_choices.specs.InTurn.Texts.{TextLaw};
+ghost use Rattle.law_choices.specs.InTurn.Standing.{StandsLaw};
+ghost use Rattle.law_choices.specs.InTurn.Texts.{SignLaw, TextLaw};
 ghost use Rattle.law_choices.specs.InTurn.Worked.{SomeContractedLaw};
 
 use crate::adding::{
@@ -41,6 +43,19 @@ pub fn nodes_that_choose_stand_in_turn()
     closed_programs_answer_as_the_program_allows();
 }
 
+/// One of the nodes that are made stands for each node of the program: it has its name, and takes values of the kinds of its inputs.
+pub fn a_node_stands_for_each()
+    ensures { StandsLaw }
+{
+    callees_may_differ_elsewhere();
+    equations_may_be_added();
+    made_nodes_may_be_added_to();
+    watched_nodes_choose();
+    extended_nodes_close();
+    targets_differ();
+    calls_are_kept();
+}
+
 /// Line by line: the answers of a node are the outputs of a reaction of the program in which all controllable variables have values of their types.
 pub fn nodes_that_choose_answer_as_the_program_allows()
     ensures { AllowedRunLaw }
@@ -50,7 +65,8 @@ pub fn nodes_that_choose_answer_as_the_program_allows()
 
 /// What is asked of a program is so of that of a text that the judgements accept: no name of its nodes holds the sign.
 pub fn programs_of_texts_may_choose()
-    ensures { TextLaw }
+    ensures text { TextLaw }
+    ensures sign { SignLaw }
 {
     names_are_spelled();
 }
@@ -59,6 +75,15 @@ pub fn programs_of_texts_may_choose()
 pub fn well_built_observers_suit()
     ensures { ObserverLaw }
 {}
+
+/// So it is of the observers of the contracts of a ready program, where they can be compiled; and they call nothing.
+pub fn observers_of_contracts_suit()
+    ensures { ObservedLaw }
+{
+    callees_may_differ_elsewhere();
+    made_nodes_may_be_added_to();
+    calls_are_kept();
+}
 
 /// A node whose contract asks for nothing has a controller, is watched, and chooses.
 pub fn a_worked_contract()

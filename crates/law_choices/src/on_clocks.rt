@@ -3,6 +3,7 @@
 //! The functions here do nothing: each is a law, which its contract states.
 #![tactic(auto)]
 
+ghost use Rattle.law_choices.specs.Closed.Compilable.{CompilableLaw};
 ghost use Rattle.law_choices.specs.OnClocks.Clocks.{ClocksLaw, OwnClocksLaw};
 ghost use Rattle.law_choices.specs.OnClocks.Meaning.{MeaningLaw};
 ghost use Rattle.law_choices.specs.OnClocks.Programs.{ReadyLaw, StreamLaw, TextMeaningLaw};
@@ -16,8 +17,9 @@ use law_wellmade::apart::names_are_apart;
 use law_wellmade::suited::nodes_suit;
 
 /// The variables of each node have clocks: what an equation tests and reads is there where it is, and each variable is defined wherever its clock holds.
-/// An equation that is no copy defines variables of its own clock.
+/// An equation that is no copy defines variables of its own clock. A ready program without its automata is one that can be compiled.
 pub fn variables_have_clocks()
+    ensures compilable { CompilableLaw }
     ensures clocks { ClocksLaw }
     ensures own { OwnClocksLaw }
 {}

@@ -11,12 +11,16 @@ use Rattle.hp_flat.specs.Nodes.{FlatNode}
 use Rattle.hp_machines.specs.Making.{AreMade}
 use Rattle.law_equations.specs.Made.Types.{obc_types}
 use Rattle.law_equations.specs.Meaning.Scheduling.{IsWithin}
+use Rattle.law_history.proofs.StreamsLemmas.MadeMachines.{have_few}
 use Rattle.law_choices.specs.InTurn.Laws as turn
 use Rattle.law_choices.specs.InTurn.Nodes.{all_nodes}
+use Rattle.law_choices.specs.InTurn.Standing.{StandsLaw}
+use Rattle.law_choices.specs.Observed.Laws.{CanBeObservedLaw}
 use Rattle.hp_controlled.specs.Compiled.{AreNodes, HaveMachines}
 use Rattle.law_controlled.specs.Machines.{AnswerAsWhole, IsWritable, TurnMachinesLaw}
 use Rattle.law_controlled.specs.Names.{HasFreeNames}
-use Rattle.law_controlled.specs.Program.{HaveMade, MadeNodesLaw}
+use Rattle.law_controlled.specs.Program.{HaveMade, MadeNamesLaw, MadeNodesLaw}
+use Rattle.law_controlled.specs.Observers.{ObserversSuitLaw}
 use Rattle.law_controlled.specs.Allowed.{AllowedLaw}
 
 writable : (ns : List FlatNode) → AllByRecursion IsWithin ns → AllByRecursion HasFreeNames ns → AllByRecursion IsWritable ns
@@ -25,8 +29,8 @@ writable (n ∷ ns) h k =
     let names = k.0 in
     (record { within = h.0; names_differ = names.differ; names_own = names.own }, writable ns h.1 k.1)
 
-pub allowed_law : MadeNodesLaw → TurnMachinesLaw → turn.TurnLaw → turn.WithinLaw → turn.ChoosingProgramLaw → AllowedLaw
-allowed_law made_law machines_law in_turn within means program after ranks o ready removable fall form short names machines owed =
+pub allowed_law : CanBeObservedLaw → ObserversSuitLaw → MadeNodesLaw → MadeNamesLaw → TurnMachinesLaw → turn.TurnLaw → turn.WithinLaw → turn.ChoosingProgramLaw → StandsLaw → AllowedLaw
+allowed_law can_law observers_law made_law names_law machines_law in_turn within means standing program after ranks o ready removable fall form short names machines owed =
     let c = machines.machines in
     let equations = c.equations in
     let have = c.have in
@@ -35,6 +39,8 @@ allowed_law made_law machines_law in_turn within means program after ranks o rea
     let its_form = subst TypesForm machines.types machines.form in
     let its_machines = subst (λ (ts : List ObcType). AreMade ts have.nodes o.machines) machines.types have.made in
     let made = made_law after types c.observers (known_of (lowered_program after)) (enumerations [] after) after c.plants have.nodes equations.made are in
+    let can = can_law program after ready removable form short owed.calls owed.observable owed.tested in
+    let suit = observers_law program after c.observers made.all ready form names can made.made c.observed in
     let chooses : turn.IsChoosing program after c.observers made.all = record {
       ready = ready;
       removable = removable;
@@ -42,15 +48,17 @@ allowed_law made_law machines_law in_turn within means program after ranks o rea
       short = short;
       names = names;
       equations = subst (AreMadeOf (known_of (lowered_program after)) (lowered_program after)) (sym made.are_plants) equations.made;
-      suit = owed.suit made.all made.made;
-      alone = owed.alone;
+      suit = suit.0;
+      alone = suit.1;
       made = made.made;
     } in
+    let free = names_law program after types c.observers c.plants have.nodes ready equations.made made (have_few types have.nodes o.machines its_machines) in
     let allowed = means program after ranks c.observers made.all fall chooses in
     let runs = machines_law types (turn.said_of after made.all) (all_nodes made.all) have.nodes o.machines its_form (in_turn program after c.observers made.all chooses)
-    (writable (all_nodes made.all) (within program after c.observers made.all chooses) (owed.names made.all made.made made.are_plants)) made.from its_machines allowed.one in
+    (writable (all_nodes made.all) (within program after c.observers made.all chooses) free) made.from its_machines allowed.one in
     record {
       all = made.all;
       allowed = allowed;
       runs = subst (λ (ts : List ObcType). AnswerAsWhole ts o.machines allowed.one.answers (turn.said_of after made.all).takes (all_nodes made.all)) (sym machines.types) runs;
+      stands = standing program after c.observers made.all chooses;
     }

@@ -2,5 +2,9 @@ pub mod AddedLaws
 pub mod AllowedLaws
 pub mod MachineLaws
 pub mod MadeLaws
+pub mod MadeNamesLaws
 pub mod NameLaws
+pub mod ObserverLaws
 pub mod PartLaws
+pub mod PlantLaws
+pub mod SaidLaws

@@ -1,5 +1,5 @@
 -- What is made of the nodes of a program, as the compiler's clauses say it.
-use Rattle.std.proofs.Common.{◌≡◌, ℕ, zero, suc, ◌+◌, ◌<◌, ◌≤◌, Bool, true, false, nat_lt, if◌then◌else◌, List, [], ◌∷◌, ◌++◌, length, map, drop, fold, Option, None, Some, refl, sym, ap, ◌∙◌, subst, arith}
+use Rattle.std.proofs.Common.{◌≡◌, ℕ, zero, suc, ◌+◌, ◌<◌, ◌≤◌, ◌^◌, Bool, true, false, nat_lt, if◌then◌else◌, List, [], ◌∷◌, ◌++◌, length, map, drop, fold, Option, None, Some, refl, sym, ap, ◌∙◌, subst, arith}
 use Rattle.std.specs.Prelude.{IsTrue, is_some, slice_get, sum}
 use Rattle.std.specs.List.{AllByRecursion}
 use Rattle.std.proofs.lemmas.List.{length-append}
@@ -33,6 +33,9 @@ use Rattle.hp_controlled.specs.Choosing.AreNodesOf.{without_contract, with_contr
 use Rattle.hp_controlled.specs.Choosing.IsOwn.{that_stays, that_chooses}
 use Rattle.hp_controlled.specs.Compiled.{AreNodes}
 use Rattle.hp_controlled.specs.Compiled.AreNodes.{of_none, of_a_type, of_a_node}
+use Rattle.law_equations.proofs.FollowedLemmas.Passing.{each_first, each_second}
+use Rattle.law_equations.proofs.ShapedLemmas.Elements.{all-append}
+use Rattle.law_wellmade.specs.Suited.Suited.{HasFew}
 use Rattle.law_choices.specs.Adding.Whole.{IsBit, IsWhole}
 use Rattle.law_choices.specs.InTurn.Nodes as turn
 use Rattle.law_choices.specs.InTurn.Nodes.{Made, Contracted, AreOfTypes, IsContracted, IsMade, IsOfType, nodes_of}
@@ -40,7 +43,9 @@ use Rattle.law_choices.specs.InTurn.Nodes.Made.{plain, contracted}
 use Rattle.law_controlled.specs.Parts.{with_outputs}
 use Rattle.law_controlled.specs.Machines.{AreMadeFrom, IsMadeFrom}
 use Rattle.law_controlled.specs.Machines.IsMadeFrom.{itself, a_part}
-use Rattle.law_controlled.specs.Program.{HaveMade, MadeNodesLaw}
+use Rattle.law_controlled.specs.Names.{Adds}
+use Rattle.law_controlled.specs.Program.{HasAdded, HaveMade, MadeNodesLaw}
+use Rattle.law_controlled.proofs.AddedLaws.{choosing_adds}
 
 -- ---- controllable variables
 
@@ -200,6 +205,17 @@ own_made node n c own (k ∷ ks) controller count named (that_chooses some part)
     let same : c.node ≡ with_outputs node.name c.node.outputs c.node = λ j. record { name = named j; variables = c.node.variables; inputs = c.node.inputs; outputs = c.node.outputs; eqns = c.node.eqns } in
     (c.node, refl, a_part c.node own node.name c.node.outputs same part)
 
+-- it has few variables where both have that it may be made of
+own_few : (controls : List Control) (c : Contracted) → turn.IsOwn controls c → HasFew c.plant → HasFew c.chosen.node → HasFew c.own
+own_few [] c is plant chosen = subst HasFew (sym is) plant
+own_few (k ∷ ks) c is plant chosen = subst HasFew (sym is) chosen
+
+-- where variables are added to a node and there are few, it has few
+pub few_before : (n other : FlatNode) → Adds n other → HasFew other → HasFew n
+few_before n other adds few =
+    let long : length other.variables ≡ length n.variables + length adds.more = ap length adds.variables ∙ length-append n.variables adds.more in
+    omega (arith, long, few)
+
 contract_made : (types : List ObcType) (observers : Observing) (node : Node) (contract : Option Contract) (c : Contracted) → IsTrue (is_some contract) → IsContracted types observers node c → IsMade types observers node contract (contracted c)
 contract_made types observers node None c some is = absurd cc
 contract_made types observers node (Some k) c some is = is
@@ -210,9 +226,11 @@ pub record OneMade (types : List ObcType) (observers : Observing) (node : Node) 
   pub is : IsMade types observers node node.contract made
   pub plant : (turn.loop_of made).plant ≡ n
   pub from : AreMadeFrom (nodes_of made) these
+  pub added : HasAdded made
+  pub few : AllByRecursion HasFew these → AllByRecursion HasFew (nodes_of made)
 
 one_made : (program : List Item) (types : List ObcType) (observers : Observing) (node : Node) (n : FlatNode) (these : List FlatNode) → n.name ≡ node.name → AreNodesOf program types observers node n these → OneMade types observers node n these
-one_made program types observers node n these named (without_contract none) = record { made = plain n; is = subst (λ k. IsMade types observers node k (plain n)) (sym none) tt; plant = refl; from = (itself, tt) }
+one_made program types observers node n these named (without_contract none) = record { made = plain n; is = subst (λ k. IsMade types observers node k (plain n)) (sym none) tt; plant = refl; from = (itself, tt); added = tt; few = λ h. h }
 one_made program types observers node n these named (with_contract controller own told some are) =
     let a = are.abstraction in
     let chosen = are.chosen in
@@ -251,6 +269,7 @@ one_made program types observers node n these named (with_contract controller ow
       enforce = after.1;
       own = own_is.1;
     } in
+    let adds : Adds n c.node = choosing_adds types observers node n a c chooses in
     let told_name : turn.telling it.chosen ≡ with_outputs (contract_name node.name) (told_outputs c) c.node =
     λ j. record { name = contract_name (name j); variables = c.node.variables; inputs = c.node.inputs; outputs = told_outputs c; eqns = c.node.eqns } in
     record {
@@ -258,6 +277,8 @@ one_made program types observers node n these named (with_contract controller ow
       is = contract_made types observers node node.contract it some is;
       plant = refl;
       from = (itself, (own_is.2, (a_part c.node told (contract_name node.name) (told_outputs c) told_name chosen.tells, tt)));
+      added = adds;
+      few = λ h. (h.0, (own_few s.controls it own_is.1 (few_before n c.node adds chosen.few) chosen.few, (chosen.few, tt)));
     }
 
 -- ---- programs
@@ -269,11 +290,11 @@ from_both (w ∷ ws) [] vs ms h k = absurd h
 from_both (w ∷ ws) (n ∷ ns) vs ms h k = (h.0, from_both ws ns vs ms h.1 k)
 
 pub made_nodes : MadeNodesLaw
-made_nodes program types observers k enums items [] nodes made of_none = record { all = []; made = tt; are_plants = refl; from = tt }
+made_nodes program types observers k enums items [] nodes made of_none = record { all = []; made = tt; are_plants = refl; from = tt; added = tt; few = λ h. tt }
 made_nodes program types observers k enums items (p ∷ plants) nodes made of_none = absurd made
 made_nodes program types observers k enums items plants nodes made (of_a_type {items = rest} t are) =
     let more = made_nodes program types observers k enums rest plants nodes made are in
-    record { all = more.all; made = more.made; are_plants = more.are_plants; from = more.from }
+    record { all = more.all; made = more.made; are_plants = more.are_plants; from = more.from; added = more.added; few = more.few }
 made_nodes program types observers k enums items plants nodes made (of_a_node {items = rest} {ns = others} {all = behind} node n these are_these are) =
     let first = made.0 in
     let one = one_made program types observers node n these first.name are_these in
@@ -283,4 +304,6 @@ made_nodes program types observers k enums items plants nodes made (of_a_node {i
       made = (one.is, more.made);
       are_plants = λ j. one.plant j ∷ more.are_plants j;
       from = from_both (nodes_of one.made) these (turn.all_nodes more.all) behind one.from more.from;
+      added = (one.added, more.added);
+      few = λ h. all-append HasFew (nodes_of one.made) (turn.all_nodes more.all) (one.few (each_first HasFew these behind h)) (more.few (each_second HasFew these behind h));
     }

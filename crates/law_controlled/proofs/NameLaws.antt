@@ -11,7 +11,7 @@ use Rattle.hp_flat.specs.Nodes.{FlatNode}
 use Rattle.law_equations.specs.Followed.Premises.{IsOwn, names}
 use Rattle.law_controlled.specs.Names.{Adds, AreAdded, HasNames, IsAdded, NamesLaw}
 
-apart : (x y : List ℕ) → (x ≡ y → ⊥) → bytes_eq x y ≡ false
+pub apart : (x y : List ℕ) → (x ≡ y → ⊥) → bytes_eq x y ≡ false
 apart x y h = by (bytes_eq x y) refl
   where
     by : (b : Bool) → bytes_eq x y ≡ b → b ≡ false
@@ -69,14 +69,21 @@ names_both : (vs ws : List Variable) → names (vs ++ ws) ≡ names vs ++ names 
 names_both [] ws = refl
 names_both (v ∷ vs) ws = ap (λ xs. v.name ∷ xs) (names_both vs ws)
 
+-- what is so of the first of some names, and of the others
+first_free : (xs : List (List ℕ)) (x : List ℕ) (k : ℕ) → ((j : ℕ) → k ≤ j → j < 2 ^ 64 → AllByRecursion (λ (y : List ℕ). IsAdded j y → ⊥) (x ∷ xs)) → (j : ℕ) → k ≤ j → j < 2 ^ 64 → IsAdded j x → ⊥
+first_free xs x k free j l b = let all = free j l b in all.0
+
+others_free : (xs : List (List ℕ)) (x : List ℕ) (k : ℕ) → ((j : ℕ) → k ≤ j → j < 2 ^ 64 → AllByRecursion (λ (y : List ℕ). IsAdded j y → ⊥) (x ∷ xs)) → (j : ℕ) → k ≤ j → j < 2 ^ 64 → AllByRecursion (λ (y : List ℕ). IsAdded j y → ⊥) xs
+others_free xs x k free j l b = let all = free j l b in all.1
+
 -- some names that differ, and added ones behind them
-both_differ : (xs : List (List ℕ)) (k : ℕ) (more : List Variable) → AllByRecursion (λ (x : List ℕ). (j : ℕ) → k ≤ j → IsAdded j x → ⊥) xs → IsDistinct bytes_eq xs → k + length more ≤ 2 ^ 64 → AreAdded k more
+both_differ : (xs : List (List ℕ)) (k : ℕ) (more : List Variable) → ((j : ℕ) → k ≤ j → j < 2 ^ 64 → AllByRecursion (λ (x : List ℕ). IsAdded j x → ⊥) xs) → IsDistinct bytes_eq xs → k + length more ≤ 2 ^ 64 → AreAdded k more
     → IsDistinct bytes_eq (xs ++ names more)
 unfolding IsDistinct
 both_differ [] k more free differ few a = added_differ k more few a
 both_differ (x ∷ xs) k more free differ few a = (
-  all_both (λ y. bytes_eq x y ≡ false) xs (names more) differ.0 (apart_from x k more (λ j l b. free.0 j l) a),
-  both_differ xs k more free.1 differ.1 few a,
+  all_both (λ y. bytes_eq x y ≡ false) xs (names more) differ.0 (apart_from x k more (λ j l b. first_free xs x k free j l (omega (arith, b, few))) a),
+  both_differ xs k more (others_free xs x k free) differ.1 few a,
 )
 
 pub names_law : NamesLaw

@@ -1,40 +1,43 @@
 -- Each line that the machines of a program say whose nodes choose the values of their controllable variables is one that the program allows.
 -- Source: own; a controlled program does nothing that the program without its controller could not do, after Ramadge and Wonham (The control of discrete event systems, Proceedings of the IEEE, 1989).
-use Rattle.std.specs.Prelude.{◌≡◌, ℕ, false, List}
+use Rattle.std.specs.Prelude.{◌≡◌, ℕ, false, List, reverse, Some}
 use Rattle.std.specs.List.{AllByRecursion}
 use Rattle.hp_obc.specs.Form.{TypesForm}
 use Rattle.hp_obc.specs.Machines.{Obc}
 use Rattle.hp_tree.specs.declared.program.Item.{Item}
-use Rattle.hp_tree.specs.Meaning.{types_of}
+use Rattle.hp_tree.specs.Meaning.{types_of, node_among}
 use Rattle.hp_tree.specs.Programs.{Node}
 use Rattle.hp_meaning.specs.Causal.RanksOfPoints.{AllFall}
+use Rattle.hp_meaning.specs.Contract.Forgetting.{ContractsCallNothing}
 use Rattle.law_judged.specs.Named.Scoped.{EachNode}
 use Rattle.law_values.specs.Accepted.Laws.{IsReady}
 use Rattle.hp_automata.specs.NewNames.{is_new}
 use Rattle.law_automata.specs.Lowered.Removable.{IsRemovable}
 use Rattle.law_equations.specs.Made.Types.{obc_types, obc_types_of}
 use Rattle.law_wellmade.specs.Spelled.Integers.{NodeShort}
-use Rattle.law_choices.specs.Adding.Surveyed.{AllSuit}
 use Rattle.law_choices.specs.Answered.Loops as loop
-use Rattle.law_choices.specs.InTurn.Calling.{CallNothing}
 use Rattle.law_choices.specs.InTurn.Laws.{IsAllowed, said_of}
 use Rattle.law_choices.specs.InTurn.Nodes.{Made, AreAllMade, all_nodes, loops}
+use Rattle.law_choices.specs.InTurn.Standing.{StandsFor}
+use Rattle.law_choices.specs.Observed.Contracts.{IsObservable}
+use Rattle.law_choices.specs.Observed.Laws.{AreTestedObservers}
 use Rattle.hp_controlled.specs.Chosen.{AreControlledMachines}
 use Rattle.hp_controlled.specs.Compiled.{AreCompiled}
 use Rattle.law_controlled.specs.Machines.{AnswerAsWhole}
 use Rattle.law_controlled.specs.Names.{HasFreeNames}
 
--- Some nodes are made of the program that have one meaning, which the program allows, and the machine of each name gives on inputs of the kinds, oldest first, what its node answers.
+-- Some nodes are made of the program that have one meaning, which the program allows, and the machine of each name gives on inputs of the kinds, oldest first, what its node answers. One of them stands for each node of the program.
 pub record RunsAllowed (after : List Item) (o : Obc) : Type 0 where
   pub all : List Made
   pub allowed : IsAllowed after all
   pub runs : AnswerAsWhole o.types o.machines allowed.one.answers (said_of after all).takes (all_nodes all)
+  pub stands : (f : List ℕ) (n : Node) → node_among (reverse after) f ≡ Some n → StandsFor after all f n
 
--- What is asked of compiled machines and is not proved yet: observers suit and call nothing; and the variables of whatever is made have names that differ and are no names of memories or instances.
+-- What is asked of compiled machines and is not proved yet: contracts hold no call; their names and integers are such as those of a text; and the tests of their observers are typed.
 pub record AreOwed (after : List Item) (o : Obc) (c : AreCompiled after o.types o.machines) : Type 0 where
-  pub suit : (all : List Made) → AreAllMade (obc_types (types_of after)) c.observers after all → AllSuit (obc_types (types_of after)) (said_of after all) c.observers
-  pub alone : CallNothing c.observers
-  pub names : (all : List Made) → AreAllMade (obc_types (types_of after)) c.observers after all → loop.plants (loops all) ≡ c.plants → AllByRecursion HasFreeNames (all_nodes all)
+  pub calls : ContractsCallNothing after
+  pub observable : EachNode IsObservable after
+  pub tested : AreTestedObservers after
 
 -- So it is of the machines that are compiled of a ready program whose points have ranks.
 abbrev pub AllowedLaw : Type 0

@@ -1,5 +1,7 @@
 pub mod Allowed
 pub mod Machines
 pub mod Names
+pub mod Observers
 pub mod Parts
 pub mod Program
+pub mod Said

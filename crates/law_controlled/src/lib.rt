@@ -5,14 +5,25 @@
 
 ghost use Rattle.law_controlled.specs.Allowed.{AllowedLaw};
 ghost use Rattle.law_controlled.specs.Machines.{MadeMachinesLaw, TurnMachinesLaw};
-ghost use Rattle.law_controlled.specs.Names.{NamesLaw};
+ghost use Rattle.law_controlled.specs.Names.{NamesLaw, PlantNamesLaw};
+ghost use Rattle.law_controlled.specs.Observers.{ObserversSuitLaw};
 ghost use Rattle.law_controlled.specs.Parts.{MadePartLaw};
-ghost use Rattle.law_controlled.specs.Program.{ChoosingNamesLaw, MadeNodesLaw};
+ghost use Rattle.law_controlled.specs.Said.{SaidLaw};
+ghost use Rattle.law_controlled.specs.Program.{ChoosingNamesLaw, MadeNamesLaw, MadeNodesLaw};
 
 use hp_form::regular::regular_equations_have_form;
-use law_choices::in_turn::nodes_that_choose_stand_in_turn;
+use law_choices::in_turn::{
+    a_node_stands_for_each, nodes_that_choose_answer_as_the_program_allows,
+    nodes_that_choose_stand_in_turn, observers_of_contracts_suit, programs_of_texts_may_choose,
+    well_built_observers_suit,
+};
+use law_choices::observed::observers_can_be_compiled;
 use law_choices::part::{parts_keep_form, parts_keep_reactions};
+use law_choices::undisturbed::controls_are_apart;
 use law_equations::fewer::nodes_are_compiled;
+use law_equations::fitting::{larger_names_are_free, names_fit};
+use law_equations::followed::names_are_own;
+use law_wellmade::apart::names_are_apart;
 
 /// The part that the compiler makes of a node is a part of it, so it answers as the node does.
 pub fn made_parts_are_parts()
@@ -42,11 +53,45 @@ pub fn nodes_are_made()
     ensures { MadeNodesLaw }
 {}
 
+/// Names of variables differ in whatever is made of a ready program, also where variables are controllable, and are no names of memories or instances.
+pub fn names_of_what_is_made_differ()
+    ensures plants { PlantNamesLaw }
+    ensures made { MadeNamesLaw }
+{
+    names_are_apart();
+    controls_are_apart();
+    names_fit();
+    larger_names_are_free();
+    names_are_own();
+    added_names_differ();
+}
+
+/// The observers that the compiler makes of the contracts of a program suit its nodes, and call nothing.
+pub fn observers_suit()
+    ensures { ObserversSuitLaw }
+{
+    observers_of_contracts_suit();
+    well_built_observers_suit();
+}
+
 /// Each line that the machines say is one that the program allows.
 pub fn machines_say_what_is_allowed()
     ensures { AllowedLaw }
 {
+    observers_can_be_compiled();
+    observers_suit();
     nodes_are_made();
+    names_of_what_is_made_differ();
     machines_answer_as_whole_nodes();
     nodes_that_choose_stand_in_turn();
+    a_node_stands_for_each();
+}
+
+/// Line by line: what the machine of each node of a text's program says are the outputs of a reaction of the program in which all controllable variables have values of their types.
+pub fn machines_of_texts_say_what_is_allowed()
+    ensures { SaidLaw }
+{
+    machines_say_what_is_allowed();
+    nodes_that_choose_answer_as_the_program_allows();
+    programs_of_texts_may_choose();
 }

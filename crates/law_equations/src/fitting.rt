@@ -3,11 +3,16 @@
 //! The functions here do nothing: each is a law, which its contract states.
 #![tactic(auto)]
 
-ghost use Rattle.law_equations.specs.Fitting.Fitting.{CallsLaw, NamesLaw, TargetsLaw};
+ghost use Rattle.law_equations.specs.Fitting.Fitting.{CallsLaw, FreeNamesLaw, NamesLaw, TargetsLaw};
 
 /// The names of the variables differ, and none is that of a memory or an instance.
 pub fn names_fit()
     ensures { NamesLaw }
+{}
+
+/// None of the names is one that is made for a variable of a larger number.
+pub fn larger_names_are_free()
+    ensures { FreeNamesLaw }
 {}
 
 /// No equation has a target twice.

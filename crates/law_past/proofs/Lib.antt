@@ -1,1 +1,8 @@
+mod Holding
+mod Replacing
+mod Alike
+mod Bare
+mod Programs
 mod Remembered
+mod Unfolded
+mod Worked

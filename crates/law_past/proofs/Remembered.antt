@@ -37,10 +37,8 @@ use Rattle.law_values.proofs.ValuedLemmas.Programs.{real_values}
 use Rattle.hp_past.specs.Remembered.{Remembered, once, historically, since, AreBoolean, Keeps}
 use Rattle.hp_past.specs.Remembering.{IsBoolean, defined_as, last_among, right_side}
 use Rattle.hp_past.proofs.ReactionLaws.{remembered, whole-past}
+use Rattle.law_past.proofs.Holding.{some_is}
 use Rattle.law_past.specs.Remembered.{BooleanLaw, FormulaLaw, IsChecked}
-
-some-is : {A : Type 0} (a b : A) → Some a ≡ Some b → a ≡ b
-some-is a b e = ap (λ o. elim o [ None ↦ a | Some c ↦ c ]) e
 
 -- ---- the equation of a variable
 
@@ -62,7 +60,7 @@ module _ (v : List ℕ) (e : Expr) where
     where
       one : (q : Eqn) → OneRight names ds q → right_side q v ≡ Some e → IsSomewhere names
       one (define s [] f) r p = absurd cc
-      one (define s (y ∷ []) f) r p = (clock_of ds (y ∷ []) f, subst (λ g. IsOn names g (clock_of ds (y ∷ []) f)) (some-is f e p) r.2)
+      one (define s (y ∷ []) f) r p = (clock_of ds (y ∷ []) f, subst (λ g. IsOn names g (clock_of ds (y ∷ []) f)) (some_is f e p) r.2)
       one (define s (y ∷ z ∷ ys) f) r p = absurd cc
       one (switch s f arms) r p = absurd cc
       one (reset s b f) r p = absurd cc
@@ -80,7 +78,7 @@ module _ (v : List ℕ) (e : Expr) where
       one : (q : Eqn) → defines q v ≡ true → EqnFollows k (λ p. class (Head ∷ p)) q → right_side q v ≡ Some e → VariableFollows (k.variables v) (is_second k.values e)
       one (define s [] f) is r p = absurd cc
       one (define s (y ∷ []) f) is r p =
-          subst (λ x. VariableFollows (k.variables x) (is_second k.values e)) (same-name y.0 v is) (subst (λ g. VariableFollows (k.variables y.0) (is_second k.values g)) (some-is f e p) r.0)
+          subst (λ x. VariableFollows (k.variables x) (is_second k.values e)) (same-name y.0 v is) (subst (λ g. VariableFollows (k.variables y.0) (is_second k.values g)) (some_is f e p) r.0)
       one (define s (y ∷ z ∷ ys) f) is r p = absurd cc
       one (switch s f arms) is r p = absurd cc
       one (reset s b f) is r p = absurd cc
@@ -103,7 +101,7 @@ module _ (types : List TypeDecl) (among : List ℕ → Option Node) (s : Scope) 
       one : (q : Eqn) → EqnSound types among s lasts q → right_side q v ≡ Some (two w op a b) → HasType
       one (define z [] f) r p = absurd cc
       one (define z (y ∷ []) f) r p =
-          let right : RightSound types among s lasts (y ∷ []) (two w op a b) = subst (λ g. RightSound types among s lasts (y ∷ []) g) (some-is f (two w op a b) p) r in
+          let right : RightSound types among s lasts (y ∷ []) (two w op a b) = subst (λ g. RightSound types among s lasts (y ∷ []) g) (some_is f (two w op a b) p) r in
           (right.1.0, right.1.1.0)
       one (define z (y ∷ x ∷ ys) f) r p = absurd cc
       one (switch z f arms) r p = absurd cc
@@ -213,7 +211,7 @@ module _ (types : List TypeDecl) (nils : Bool) (callee : List ℕ → Instant �
   operand_value n o d there base i fits = value_is (i (Named n ∷ [])) fitted
     where
       on_base : clock_in ds n ≡ []
-      on_base = some-is (clock_in ds n) [] (sym (ap (λ z. if z then Some (clock_in ds n) else base_alone (names n)) d) ∙ o.on)
+      on_base = some_is (clock_in ds n) [] (sym (ap (λ z. if z then Some (clock_in ds n) else base_alone (names n)) d) ∙ o.on)
 
       class_is : seen (Named n ∷ []) ≡ false
       class_is = sym (ap (λ z. if z then or_first (with_declared ds class k.variables n) else k.values n) d) ∙ o.first
@@ -288,13 +286,13 @@ module _ (types : List TypeDecl) (nils : Bool) (callee : List ℕ → Instant �
 
     remembered_boolean : (b : Block) → IsJudged b → (m : Remembered) → Keeps b m → AllBoolean b m
     remembered_boolean (block ds es) j (once n v) h i fits =
-        let o = single types nils callee among out lasts names k class ds es (judged_block ds es j) v false h.1.0 h.1.0 h.1.0 Or n or_logical h.1.1.begins h.1.1.defined in
+        let o = single types nils callee among out lasts names k class ds es (judged_block ds es j) v false h.1.0 h.1.1 h.1.2 Or n or_logical h.1.3.begins h.1.3.defined in
         (operand_value types nils callee among out lasts names k class ds es (judged_block ds es j) n o h.0 (held types nils callee (inside_names es around i)) refl i fits.0, tt)
     remembered_boolean (block ds es) j (historically n v) h i fits =
-        let o = single types nils callee among out lasts names k class ds es (judged_block ds es j) v true h.1.0 h.1.0 h.1.0 And n and_logical h.1.1.begins h.1.1.defined in
+        let o = single types nils callee among out lasts names k class ds es (judged_block ds es j) v true h.1.0 h.1.1 h.1.2 And n and_logical h.1.3.begins h.1.3.defined in
         (operand_value types nils callee among out lasts names k class ds es (judged_block ds es j) n o h.0 (held types nils callee (inside_names es around i)) refl i fits.0, tt)
     remembered_boolean (block ds es) j (since n1 n2 v) h i fits =
-        let o = double types nils callee among out lasts names k class ds es (judged_block ds es j) v false h.2.0 h.2.0 h.2.0 h.2.0 h.2.0 n1 n2 h.2.1.begins h.2.1.defined in (
+        let o = double types nils callee among out lasts names k class ds es (judged_block ds es j) v false h.2.0 h.2.1 h.2.2 h.2.3 h.2.4 n1 n2 h.2.5.begins h.2.5.defined in (
           (operand_value types nils callee among out lasts names k class ds es (judged_block ds es j) n1 o.0 h.0 (held types nils callee (inside_names es around i)) refl i fits.0, tt),
           (operand_value types nils callee among out lasts names k class ds es (judged_block ds es j) n2 o.1 h.1 (held types nils callee (inside_names es around i)) refl i fits.0, tt),
         )
@@ -332,7 +330,7 @@ module _ (types : List TypeDecl) (nils : Bool) (callee : List ℕ → Instant �
       → (seen : Assignment) → ((p : Place) → seen (Observer ∷ p) ≡ seen_in_contract k class o p) → (around : Names) (i : Instant) → ContractFits types nils callee out seen around o i → AreBoolean m (part Observer i ∷ [])
   contract_boolean None e sound right follow definite seen same around i fits = absurd cc
   contract_boolean (Some d) e sound right follow definite seen same around i fits =
-      let is : d ≡ c = some-is d c e in
+      let is : d ≡ c = some_is d c e in
       let kept : Keeps d.body m = subst (λ (z : Contract). Keeps z.body m) (sym is) keeps in
       remembered_boolean types nils callee among out lasts names k class around d.body (record { sound = sound.0; right = right.0; follow = follow; definite = definite }) m kept (part Observer i)
       (subst (λ (a : Assignment). BlockFits types nils callee out none_second a around d.body (part Observer i)) (λ j p. same p j) fits.0)
@@ -372,14 +370,14 @@ found types nils class (NodeItem m ∷ items) f n a e = by (bytes_eq m.name f) r
 
     by : (same : Bool) → bytes_eq m.name f ≡ same → (node_among items f ≡ Some n → IsFound types nils (class_behind class) items f n) → (if same then Some m else node_among items f) ≡ Some n
         → IsFound types nils class (NodeItem m ∷ items) f n
-    by true is rest k = subst (IsFound types nils class (NodeItem m ∷ items) f) (some-is m n k) (here is)
+    by true is rest k = subst (IsFound types nils class (NodeItem m ∷ items) f) (some_is m n k) (here is)
     by false is rest k =
         let r = rest k in
         record { others = r.others; classing = r.classing; accepted = r.accepted; fits = λ i h. r.fits i (subst (λ b. either_of b (Here types nils class items m i) (There types nils class items f i)) is h) }
 
 -- ---- the laws
 
-ready : (text : List ℕ) (tokens : List Token) (program after : List Item) (ranks : List (List ℕ)) → IsChecked text tokens program after ranks → IsReady program after
+pub ready : (text : List ℕ) (tokens : List Token) (program after : List Item) (ranks : List (List ℕ)) → IsChecked text tokens program after ranks → IsReady program after
 ready text tokens program after ranks a = ready_text text tokens program after a.spelled a.read a.named a.typed a.defined a.formed a.initialised a.clocks
 
 pub boolean_law : BooleanLaw

@@ -50,7 +50,7 @@ counts_arm types (Enum t) c h a = let e = bytes_at types t h in omega (arith, a,
 zero_fits : IsOfKind Ints (some_value Int)
 zero_fits = search rules
 
-first_of : (types : List ObcType) (ty : FlatTy) → HasValue types ty → IsOfKind (kind_of_type types ty) (some_value ty) × IsTyped types (kind_of_type types ty)
+pub first_of : (types : List ObcType) (ty : FlatTy) → HasValue types ty → IsOfKind (kind_of_type types ty) (some_value ty) × IsTyped types (kind_of_type types ty)
 first_of types Truth h = (tt, tt)
 first_of types Int h = (zero_fits, tt)
 first_of types (Enum t) h = ((refl, h), refl)

@@ -1,10 +1,11 @@
 -- The clocked equations of a program are well built.
-use Rattle.std.proofs.Common.{◌≡◌, ◌⊎◌, inl, inr, ℕ, ◌<◌, ◌≤◌, List, [], ◌∷◌, length, ◌∙◌, arith}
+use Rattle.std.proofs.Common.{◌≡◌, ◌⊎◌, inl, inr, ℕ, ◌<◌, ◌≤◌, List, [], ◌∷◌, length, subst, ◌∙◌, arith}
 use Rattle.std.specs.Prelude.{All}
 use Rattle.std.specs.List.{AllByRecursion}
 use Rattle.std.proofs.lemmas.List.Elements.{All-head, All-tail}
 use Rattle.hp_obc.specs.Form.{HasConstructors}
 use Rattle.hp_obc.specs.Machines.{ObcType}
+use Rattle.hp_automata.specs.Lowering.{enumerations, lowered_program}
 use Rattle.hp_flat.specs.Equations.{FlatEqn}
 use Rattle.hp_flat.specs.Nodes.{FlatNode}
 use Rattle.law_equations.specs.Fitting.Fitting.{TargetsLaw}
@@ -12,15 +13,17 @@ use Rattle.law_equations.specs.Made.Types.{obc_types}
 use Rattle.law_equations.specs.Meaning.Kinding.{Callees}
 use Rattle.law_equations.specs.Meaning.Scheduling.{EqnWithin, IsWithin}
 use Rattle.hp_tree.specs.Meaning.{types_of}
+use Rattle.hp_complete.specs.Declaring.{known_of}
+use Rattle.law_wellmade.proofs.RegularLemmas.RegularLaws.{lowered}
 use Rattle.law_choices.specs.Closed.Clocking.{IsCopy, DefinesOwn, HasOwnClocks}
-use Rattle.law_choices.specs.OnClocks.WellMade.{callees_of}
+use Rattle.law_choices.specs.OnClocks.WellMade.{calls_of}
 use Rattle.law_choices.specs.Adding.Adding.{IsWellBuilt}
 use Rattle.law_choices.specs.Adding.Base.{based}
 use Rattle.law_choices.specs.Adding.Lifts.{HaveBytes}
-use Rattle.law_choices.specs.Adding.Made.{IsReadyMade, ReadyMadeLaw, BytesLaw}
-use Rattle.law_choices.proofs.ClosedLemmas.ClosedLaws.{each_both, within_law}
-use Rattle.law_choices.proofs.OnClocksLemmas.Programs.{some_of, number_of, own_clocks_law}
-use Rattle.law_choices.proofs.OnClocksLemmas.WellMade.{IsKnown, known_law}
+use Rattle.law_choices.specs.Adding.Made.{IsReadyMade, CompiledMadeLaw, ReadyMadeLaw, BytesLaw}
+use Rattle.law_choices.proofs.ClosedLemmas.ClosedLaws.{each_both}
+use Rattle.law_choices.proofs.OnClocksLemmas.Programs.{types_low, all_clocked, compiled_clocked, compilable_law}
+use Rattle.law_choices.proofs.OnClocksLemmas.WellMade.{IsKnown, compiled_within, compiled_known}
 use Rattle.law_choices.proofs.AddingLemmas.Steps.{based_law, own_same}
 
 -- ---- one node
@@ -57,13 +60,19 @@ module _ (types : List ObcType) (callees : Callees) (n : FlatNode) (k : IsKnown 
 
 -- ---- the nodes
 
+pub compiled_made_law : TargetsLaw → CompiledMadeLaw
+compiled_made_law law program low t c short fs made =
+    let types = obc_types (types_of low) in
+    let callees = calls_of types (known_of low) in
+    let clocked = all_clocked types (known_of low) low fs made (compiled_clocked program low t c) in
+    each_both (λ f. IsKnown types callees f × HasOwnClocks types f) IsWithin (IsReadyMade types callees) (λ f k w. ready_made types callees f k.0 k.1 w) fs
+    (each_both (IsKnown types callees) (HasOwnClocks types) (λ f. IsKnown types callees f × HasOwnClocks types f) (λ f k h. (k, h)) fs (compiled_known law program low t c short fs made) clocked) (compiled_within law program low t c short fs made)
+
 pub ready_made_law : TargetsLaw → ReadyMadeLaw
 ready_made_law law program after r ok form short fs made =
-    let within = within_law program after r ok (some_of (types_of program) form.counts) (number_of (types_of program) form.number) fs made in
-    let types = obc_types (types_of after) in
-    let callees = callees_of after in
-    each_both (λ f. IsKnown types callees f × HasOwnClocks types f) IsWithin (IsReadyMade types callees) (λ f k w. ready_made types callees f k.0 k.1 w) fs
-    (each_both (IsKnown types callees) (HasOwnClocks types) (λ f. IsKnown types callees f × HasOwnClocks types f) (λ f k h. (k, h)) fs (known_law law program after r ok form short fs made) (own_clocks_law program after r ok form fs made)) within
+    let low = lowered_program after in
+    let c = compilable_law program after r ok form in
+    subst (λ ts. AllByRecursion (IsReadyMade (obc_types ts) (calls_of (obc_types ts) (known_of low))) fs) (types_low (enumerations [] after) after) (compiled_made_law law program low c.0 c.1 (lowered after ok short) fs made)
 
 -- ---- bytes
 

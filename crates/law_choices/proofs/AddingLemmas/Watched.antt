@@ -64,7 +64,7 @@ module _ (types : List ObcType) (callees : Callees) (bytes : HaveBytes types) wh
   bits_kept : (n other : FlatNode) (clock : ℕ → Clock) (k : Keeps types callees clock n other) (xs : List ℕ) → AreBitsOf n clock xs → AreBitsOf other k.clocks xs
   bits_kept n other clock k xs h = each_other (IsOn n clock [] Truth) (IsOn other k.clocks [] Truth) (λ x i. on-kept types callees n other clock k [] Truth x i) xs h
 
-  next : (n : FlatNode) (clock : ℕ → Clock) (f : Free) (w : Watched) (h : HasBits types callees clock n w) → IsFree types w.node h.keeps.clocks f → (early : Bool) → HasBits types callees clock n (with_place types f early w)
+  pub next : (n : FlatNode) (clock : ℕ → Clock) (f : Free) (w : Watched) (h : HasBits types callees clock n w) → IsFree types w.node h.keeps.clocks f → (early : Bool) → HasBits types callees clock n (with_place types f early w)
   next n clock f w h free early =
       let k = h.keeps in
       let s = spelled_place types f w.node in

@@ -46,19 +46,19 @@ module _ (types : List ObcType) (callees : Callees) (clock : ℕ → Clock) (pla
   abbrev count : ℕ
   count = length controls
 
-  abbrev asking : FlatNode
+  abbrev pub asking : FlatNode
   asking = controlled n m name early late controls
 
   abbrev assumed : FlatNode
   assumed = with_copy whole.assume asking
 
-  abbrev closed : FlatNode
+  abbrev pub closed : FlatNode
   closed = with_copy whole.enforce assumed
 
-  asking_clocks : ℕ → Clock
+  pub asking_clocks : ℕ → Clock
   asking_clocks = (stays types callees n k.clocks m name early late controls k.built can may.asked may.early_there may.late_there may.kinds).clocks
 
-  asking_based : IsBased types callees asking_clocks asking
+  pub asking_based : IsBased types callees asking_clocks asking
   unfolding asking_clocks
   asking_based = (stays types callees n k.clocks m name early late controls k.built can may.asked may.early_there may.late_there may.kinds).built
 
@@ -76,7 +76,7 @@ module _ (types : List ObcType) (callees : Callees) (clock : ℕ → Clock) (pla
       let c = first_copy.0 in
       copy_law types callees assumed c.clocks whole.enforce c.built (on-kept types callees asking assumed asking_clocks c [] Truth whole.enforce (bit_on whole.enforce whole.enforce_bit))
 
-  copies : Keeps types callees asking_clocks asking closed
+  pub copies : Keeps types callees asking_clocks asking closed
   copies = keeps-both types callees asking assumed closed asking_clocks first_copy.0 second_copy.0
 
   -- ---- the node is well made

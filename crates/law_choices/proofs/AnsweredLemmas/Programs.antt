@@ -9,7 +9,7 @@ use Rattle.hp_tree.specs.declared.program.Item.{Item}
 use Rattle.hp_tree.specs.declared.program.Item.TheVariants.{TypeItem, NodeItem}
 use Rattle.hp_tree.specs.Blocks.{Decl}
 use Rattle.hp_tree.specs.Programs.{Node}
-use Rattle.hp_tree.specs.Meaning.{types_of, controls_of}
+use Rattle.hp_tree.specs.Meaning.{types_of, controls_of, node_among}
 use Rattle.law_judged.specs.Named.Scoped.{EachNode}
 use Rattle.law_values.specs.Accepted.Laws.{IsReady}
 use Rattle.law_values.proofs.AcceptedLemmas.Assembled.{types_replaced, types_clocked}
@@ -123,10 +123,18 @@ module _ (program after : List Item) (r : IsReady program after) (form : TypesFo
       let firsts = h.0 in
       (one_chooses n firsts.controls (sym (ap k.nodes its.name) ∙ one.own), all_choose (f.name ∷ names) items fs t.1 made.1 h.1)
 
+-- what calls give a node are values of the kinds of its inputs
+pub takes_kinds : (program after : List Item) → IsReady program after → TypesForm (obc_types_of program) → (f : List ℕ) (n : Node) → node_among (reverse after) f ≡ Some n → (callees_of after).takes f ≡ timely.kinds_of_decls (types_of after) n.inputs
+takes_kinds program after r form f n e =
+    let low = lowered_program after in
+    let full = some_of (types_of program) form.counts in
+    let firsts = each_found (NodeHasFirsts (types_of after)) (reverse after) f n (each_reverse (NodeHasFirsts (types_of after)) after (ready_firsts program after r full)) e in
+    ap (λ o. kinds_of_decls (obc_types (types_of after)) (known_of low) (given_to o)) (nodes-known low f ∙ lowered_there after f n e) ∙ decls_kinds program after r form n.inputs firsts.inputs
+
 -- ---- what is answered
 
 -- what is so of the names of made nodes is so of those of the nodes before their automata were removed
-named_before : (P : List ℕ → Type 0) (enums : Enumerations) (k : Known) (items : List Item) (fs : List FlatNode) → AreMadeOf k (map (lowered_item enums) items) fs → AllByRecursion (λ (f : FlatNode). P f.name) fs → EachNode (λ (n : Node). P n.name) items
+pub named_before : (P : List ℕ → Type 0) (enums : Enumerations) (k : Known) (items : List Item) (fs : List FlatNode) → AreMadeOf k (map (lowered_item enums) items) fs → AllByRecursion (λ (f : FlatNode). P f.name) fs → EachNode (λ (n : Node). P n.name) items
 named_before P enums k [] fs made h = tt
 named_before P enums k (TypeItem t ∷ items) fs made h = named_before P enums k items fs made h
 named_before P enums k (NodeItem n ∷ items) [] made h = absurd made
@@ -136,13 +144,10 @@ module _ (program after : List Item) (r : IsReady program after) (form : TypesFo
   reactions_alike : (base answers : Answers) → AllByRecursion (λ (f : FlatNode). AnswersAlike base answers (callees_of after).takes f.name) fs → AnswersReactions choices after base → AnswersReactions choices after answers
   reactions_alike base answers alike given f n inputs e kinds_fit =
       let low = lowered_program after in
-      let full = some_of (types_of program) form.counts in
       let Same : List ℕ → Type 0 = λ g. AnswersAlike base answers (callees_of after).takes g in
       let own : Same f = subst Same (name_found (reverse after) f n e)
       (each_found (λ (m : Node). Same m.name) (reverse after) f n (each_reverse (λ (m : Node). Same m.name) after (named_before Same (enumerations [] after) (known_of low) after fs made alike)) e) in
-      let firsts = each_found (NodeHasFirsts (types_of after)) (reverse after) f n (each_reverse (NodeHasFirsts (types_of after)) after (ready_firsts program after r full)) e in
-      let takes : (callees_of after).takes f ≡ timely.kinds_of_decls (types_of after) n.inputs =
-      ap (λ o. kinds_of_decls (obc_types (types_of after)) (known_of low) (given_to o)) (nodes-known low f ∙ lowered_there after f n e) ∙ decls_kinds program after r form n.inputs firsts.inputs in
+      let takes = takes_kinds program after r form f n e in
       let it = given f n inputs e kinds_fit in
       record { one = it.one; outputs = it.outputs ∙ sym (alike_answers base answers (callees_of after).takes f own inputs (subst (λ ks. AllByRecursion (AreOfKinds ks) inputs) (sym takes) kinds_fit)) }
 

@@ -127,7 +127,7 @@ module _ (types : List ObcType) (n : FlatNode) (ranked : IsRanked n.eqns) (close
   there_of : (x : ℕ) → is_present n now x ≡ true → IsThere now x
   there_of x e = kind_there (kind x) (now x) (subst (λ b. OptionallyOf b (kind x) (now x)) e (p x))
 
-  kind_of : (x : ℕ) → IsThere now x → IsOfKind (kind x) (now x)
+  pub kind_of : (x : ℕ) → IsThere now x → IsOfKind (kind x) (now x)
   kind_of x t = by (is_present n now x) (p x)
     where
       by : (b : Bool) → OptionallyOf b (kind x) (now x) → IsOfKind (kind x) (now x)
@@ -185,7 +185,7 @@ module _ (types : List ObcType) (n : FlatNode) (ranked : IsRanked n.eqns) (close
       by (inr s) again = split_there m x again low s h
 
   -- A variable is there where its clock holds.
-  is_there_on : (x : ℕ) → IsGiven n x → holds (clock x) now ≡ true → IsThere now x
+  pub is_there_on : (x : ℕ) → IsGiven n x → holds (clock x) now ≡ true → IsThere now x
   is_there_on x g h = stands (total n.eqns) x (all_low n.eqns (total n.eqns) x (omega arith)) g h
 
   front_there : (x : ℕ) (d : Clock) → IsGiven n x → IsFrontOf (clock x) d → holds d now ≡ true → IsThere now x

@@ -143,10 +143,10 @@ module _ (types : List ObcType) (k : Known) (d : Sketch) where
 -- ---- nodes that are made
 
 -- inputs and outputs are variables, and each variable behind the inputs is defined
-record NodeFilled (f : FlatNode) : Type 0 where
-  inputs : f.inputs ≤ length f.variables
-  filled : (x : ℕ) → f.inputs ≤ x → x < length f.variables → is_target f.eqns x ≡ true
-  outputs : AllByRecursion (λ x. x < length f.variables) f.outputs
+pub record NodeFilled (f : FlatNode) : Type 0 where
+  pub inputs : f.inputs ≤ length f.variables
+  pub filled : (x : ℕ) → f.inputs ≤ x → x < length f.variables → is_target f.eqns x ≡ true
+  pub outputs : AllByRecursion (λ x. x < length f.variables) f.outputs
 
 numbers_below : (n m : ℕ) (os : List Decl) → n + length os ≤ m → AllByRecursion (λ x. x < m) (numbers_from n os)
 numbers_below n m [] l = tt
@@ -165,14 +165,14 @@ made_filled k n f made h =
           (numbers_below (length n.inputs + length (controls_of n.contract)) (length f.variables) n.outputs (omega (arith, same, long)));
     }
 
-all_made_filled : (k : Known) (items : List Item) (fs : List FlatNode) → AreMadeOf k items fs → EachNode (NodeFills k) items → AllByRecursion NodeFilled fs
+pub all_made_filled : (k : Known) (items : List Item) (fs : List FlatNode) → AreMadeOf k items fs → EachNode (NodeFills k) items → AllByRecursion NodeFilled fs
 all_made_filled k [] [] made h = tt
 all_made_filled k [] (f ∷ fs) made h = absurd made
 all_made_filled k (TypeItem t ∷ items) fs made h = all_made_filled k items fs made h
 all_made_filled k (NodeItem n ∷ items) [] made h = absurd made
 all_made_filled k (NodeItem n ∷ items) (f ∷ fs) made h = (made_filled k n f made.0 h.0, all_made_filled k items fs made.1 h.1)
 
-closed : (types : List ObcType) (k : Known) (f : FlatNode) → NodeGood types k f → NodeFilled f → IsClosed f
+pub closed : (types : List ObcType) (k : Known) (f : FlatNode) → NodeGood types k f → NodeFilled f → IsClosed f
 closed types k f good h =
     record {
       variables = given;
@@ -189,7 +189,7 @@ closed types k f good h =
         by (inl l) = inl l
         by (inr l) = inr (target_it f.eqns x (h.filled x l u))
 
-in_range : (types : List ObcType) (k : Known) (f : FlatNode) → NodeGood types k f → NodeFilled f → IsWithin f
+pub in_range : (types : List ObcType) (k : Known) (f : FlatNode) → NodeGood types k f → NodeFilled f → IsWithin f
 in_range types k f good h =
     record {
       inputs = h.inputs;
@@ -222,7 +222,7 @@ module _ (program : List Item) (types : List TypeDecl) (apart : AreApart (revers
     filled_behind (later ++ NodeItem n ∷ []) earlier (e ∙ sym (append_assoc later (NodeItem n ∷ []) earlier)) sound.1 whole.1 tested.1,
   )
 
-  nodes_filled : SoundBehind types (reverse program) → EachNode IsWhole program → AreTested types (reverse program) → EachNode (NodeFills (known_of program)) program
+  pub nodes_filled : SoundBehind types (reverse program) → EachNode IsWhole program → AreTested types (reverse program) → EachNode (NodeFills (known_of program)) program
   nodes_filled sound whole tested =
       subst (λ xs. EachNode (NodeFills (known_of program)) xs) (twice program)
       (each_reverse (NodeFills (known_of program)) (reverse program) (filled_behind [] (reverse program) refl sound (each_reverse IsWhole program whole) tested))

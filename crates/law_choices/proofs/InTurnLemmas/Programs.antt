@@ -382,7 +382,7 @@ module _ (laws : TurnLaws) (types : List ObcType) (k : Known) (enums : Enumerati
 
 -- ---- what stands for no node of the program has a sign in its name
 
-besides_new : (types : List ObcType) (observers : Observing) (items : List Item) (ms : List Made) → AreAllMade types observers items ms → AllByRecursion (λ (n : FlatNode). is_new n.name ≡ true) (flat_map besides ms)
+pub besides_new : (types : List ObcType) (observers : Observing) (items : List Item) (ms : List Made) → AreAllMade types observers items ms → AllByRecursion (λ (n : FlatNode). is_new n.name ≡ true) (flat_map besides ms)
 besides_new types observers [] [] h = tt
 besides_new types observers [] (m ∷ ms) h = absurd h
 besides_new types observers (TypeItem d ∷ items) ms h = besides_new types observers items ms h
@@ -429,7 +429,7 @@ module _ (laws : TurnLaws) (program after : List Item) (observers : Observing) (
   have_bytes : HaveBytes types
   have_bytes = laws.bytes types (subst (λ (ts : List TypeDecl). TypesForm (obc_types ts)) (sym (types_same program after h.ready)) h.form)
 
-  all_old : (f : List ℕ) → is_new f ≡ false → SaySame (callees_of after) all f
+  pub all_old : (f : List ℕ) → is_new f ≡ false → SaySame (callees_of after) all f
   all_old f e = said_old types (callees_of after) (flat_map besides ms) f (besides_new types observers after ms h.made) e
 
   all_stand : AreInTurn types all [] (all_nodes ms) × AllByRecursion IsWithin (all_nodes ms) × AllByRecursion (Grounded laws types (known_of low) (enumerations [] after) observers all have_bytes h.suit h.alone all_old) ms × ((answers : Answers) → AreClosed answers (controls_in after) (loops ms))
@@ -437,6 +437,10 @@ module _ (laws : TurnLaws) (program after : List Item) (observers : Observing) (
       let nodes = ready_nodes laws.targets laws.calls program after h.ready h.removable h.form h.short (plants (loops ms)) h.equations in
       let made = laws.ready program after h.ready h.removable h.form h.short (plants (loops ms)) h.equations in
       stands laws types (known_of low) (enumerations [] after) observers all have_bytes h.suit h.alone all_old after ms [] [] nodes.turned h.equations h.made h.names made no_names (λ f e. (refl, refl))
+
+  -- the closed node of each closes its plant, whatever nodes answer
+  pub loops_closed : (answers : Answers) → AreClosed answers (controls_in after) (loops ms)
+  loops_closed answers = all_stand.3 answers
 
   all_some : (f : List ℕ) → AllByRecursion HasSome (all.gives f)
   all_some =

@@ -12,7 +12,7 @@ use Rattle.hp_automata.specs.NewNames.{is_new}
 use Rattle.law_wellmade.specs.Lettered.Laws.{TextNamesLaw}
 use Rattle.law_wellmade.specs.Lettered.Names.{NodeSpelled, IsSourceName}
 use Rattle.law_choices.proofs.OnClocksLemmas.Texts.{when_accepted}
-use Rattle.law_choices.specs.InTurn.Texts.{TextLaw}
+use Rattle.law_choices.specs.InTurn.Texts.{SignLaw, TextLaw}
 
 -- the sign is one and the same
 one_sign : (x : List ℕ) → is_new x ≡ expanded.is_new x
@@ -40,6 +40,9 @@ names_written (NodeItem n ∷ xs) [] w h = absurd w
 names_written (TypeItem t ∷ xs) (y ∷ ys) w h = subst (λ z. EachNode Unsigned (z ∷ ys)) (sym w.0) (names_written xs ys w.1 h)
 names_written (NodeItem n ∷ xs) (y ∷ ys) w h = let it = w.0 in subst (λ z. EachNode Unsigned (z ∷ ys)) (sym it.2) (h.0, names_written xs ys w.1 h.1)
 
+pub sign_law : TextNamesLaw → SignLaw
+sign_law names text tokens program after a p c = names_written (replaced program) after c (names_replaced no_node program (source_names program (names text tokens program a p)))
+
 pub text_law : TextNamesLaw → TextLaw
 text_law names text tokens program after observers ms a p n t d f i c equations suit alone made =
     let q = when_accepted text tokens program after a p n t d f i c in
@@ -48,7 +51,7 @@ text_law names text tokens program after observers ms a p n t d f i c equations 
       removable = q.removable;
       form = q.form;
       short = q.short;
-      names = names_written (replaced program) after c (names_replaced no_node program (source_names program (names text tokens program a p)));
+      names = sign_law names text tokens program after a p c;
       equations = equations;
       suit = suit;
       alone = alone;

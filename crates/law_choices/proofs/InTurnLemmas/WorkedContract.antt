@@ -43,6 +43,8 @@ is_controller : WellMadeLaw → IsController free_machine free_controller
 is_controller well_made = record {
   name = refl;
   bits = (refl, tt);
+  numbered = refl;
+  few = omega arith;
   inputs = refl;
   outputs = refl;
   within = record { inputs = omega arith; outputs = (omega arith, tt); eqns = (record { targets = (omega arith, tt); clock = tt; operands = tt; restart = tt }, tt) };

@@ -8,14 +8,10 @@ use Rattle.hp_tree.specs.declared.program.Item.{Item}
 use Rattle.hp_tree.specs.Programs.{Node}
 use Rattle.hp_tree.specs.Meaning.{types_of, controls_of}
 use Rattle.law_judged.specs.Named.Scoped.{EachNode}
-use Rattle.law_values.specs.Accepted.Laws.{IsReady}
-use Rattle.hp_automata.specs.Lowering.{lowered_program}
-use Rattle.law_automata.specs.Lowered.Removable.{IsRemovable}
 use Rattle.hp_flat.specs.declared.node.FlatTy.{FlatTy}
 use Rattle.hp_flat.specs.Equations.{Right, operator, register, called, FlatEqn}
 use Rattle.hp_flat.specs.Nodes.{FlatNode}
 use Rattle.law_equations.specs.Meaning.Kinding.{Callees, EqnKinds}
-use Rattle.law_values.specs.Filled.Firsts.{TypesHaveConstructors}
 use Rattle.law_equations.specs.Made.Making.{Known, Sketch, flat_type, outputs_of}
 use Rattle.law_equations.specs.Made.Types.{obc_types}
 use Rattle.hp_complete.specs.Declaring.{known_of}
@@ -23,16 +19,15 @@ use Rattle.hp_complete.specs.Made.{AreMadeOf}
 use Rattle.law_equations.specs.Followed.Premises.{constants_of}
 use Rattle.law_equations.specs.Answered.Short.{AreShort, ConstantsShort}
 use Rattle.law_wellmade.specs.Spelled.Integers.{NodeShort}
-use Rattle.law_wellmade.specs.Begun.Laws.{HasFewTypes}
-use Rattle.law_wellmade.proofs.TestedLemmas.TestedPrograms.{tested_law}
 use Rattle.law_wellmade.specs.Regular.Kinds.{kinds_of_decls, taken_by, program_callees}
 use Rattle.law_wellmade.proofs.RegularLemmas.Good.{types_of_decls, inputs_of, ArgsTyped, RightTyped, EqnGood}
-use Rattle.law_wellmade.proofs.RegularLemmas.GoodPrograms.{NodeGood, ready_good}
+use Rattle.law_wellmade.proofs.RegularLemmas.GoodPrograms.{NodeGood}
 use Rattle.law_wellmade.proofs.RegularLemmas.KindFacts.{eqn_kinds}
-use Rattle.law_wellmade.proofs.RegularLemmas.RegularLaws.{constants, lowered}
+use Rattle.law_wellmade.proofs.RegularLemmas.RegularLaws.{constants}
 use Rattle.law_choices.proofs.ClosedLemmas.ClosedLaws.{each_both}
-use Rattle.law_choices.specs.OnClocks.WellMade.{given_to, calls_of, callees_of}
-use Rattle.law_choices.proofs.OnClocksLemmas.Programs.{some_constructors}
+use Rattle.law_choices.specs.OnClocks.WellMade.{given_to, calls_of}
+use Rattle.law_choices.specs.Closed.Compilable.{HasTypesOf, IsCompilable}
+use Rattle.law_choices.proofs.OnClocksLemmas.Compilable.{compiled_good}
 
 -- ---- the same nodes without their controllable variables
 
@@ -97,13 +92,11 @@ module _ (types : List ObcType) (k : Known) where
       (each_both (EqnGood types k good.sketch) (λ (e : FlatEqn). AreShort (constants_of e.right)) (EqnKinds types (calls_of types k) good.sketch.variables)
       (λ e g s. subst (λ (c : Callees). EqnKinds types c good.sketch.variables e) same_callees (eqn_kinds types good.sketch (without_controls k) e (good_bare good.sketch e g) s (none_left k))) f.eqns good.eqns short)
 
--- ---- ready programs
+-- ---- programs
 
-pub kinds_agree : (program after : List Item) → IsReady program after → IsRemovable after → TypesHaveConstructors (types_of program) → HasFewTypes program → EachNode NodeShort after → (fs : List FlatNode)
-    → AreMadeOf (known_of (lowered_program after)) (lowered_program after) fs → AllByRecursion (λ (f : FlatNode). AllByRecursion (EqnKinds (obc_types (types_of after)) (callees_of after) f.variables) f.eqns) fs
-kinds_agree program after r ok full few short fs made =
-    let k = known_of (lowered_program after) in
-    let types = obc_types (types_of after) in
-    let tested = tested_law program after r ok (some_constructors program full) in
-    each_both (NodeGood types k) (λ (f : FlatNode). ConstantsShort f.eqns) (KindsGood types k) (λ f g s. one_agrees types k f g s) fs (ready_good program after r ok full few tested fs made)
-    (constants k (lowered_program after) fs made (lowered after ok short))
+pub compiled_kinds : (program low : List Item) → HasTypesOf program low → IsCompilable low → EachNode NodeShort low → (fs : List FlatNode) → AreMadeOf (known_of low) low fs
+    → AllByRecursion (λ (f : FlatNode). AllByRecursion (EqnKinds (obc_types (types_of low)) (calls_of (obc_types (types_of low)) (known_of low)) f.variables) f.eqns) fs
+compiled_kinds program low t c short fs made =
+    let k = known_of low in
+    let types = obc_types (types_of low) in
+    each_both (NodeGood types k) (λ (f : FlatNode). ConstantsShort f.eqns) (KindsGood types k) (λ f g s. one_agrees types k f g s) fs (compiled_good program low t c fs made) (constants k low fs made short)

@@ -50,6 +50,7 @@ use Rattle.law_wellmade.proofs.BegunLemmas.Grounds.{grounded}
 use Rattle.law_wellmade.proofs.RegularLemmas.Expressions.{TypeFacts}
 use Rattle.law_wellmade.proofs.RegularLemmas.TypeLaws.{AreNumbered, OwnNumbers, own_numbers, are_numbered, type_facts}
 use Rattle.law_choices.specs.Closed.Clocking.{HasClocks, HasOwnClocks}
+use Rattle.law_choices.specs.Closed.Compilable.{HasTypesOf, IsCompilable, CompilableLaw}
 use Rattle.law_choices.proofs.ClosedLemmas.ClosedLaws.{each_other, twice}
 use Rattle.law_choices.specs.OnClocks.Clocks.{ClocksLaw, OwnClocksLaw}
 use Rattle.law_choices.proofs.OnClocksLemmas.Arms.{ArmFacts}
@@ -64,19 +65,19 @@ use Rattle.law_choices.proofs.OnClocksLemmas.ArmNumbers.{AreFew, arm_facts}
 abbrev pub Clocked : List ObcType → Known → Node → Type 0
 Clocked obc k n = (f : FlatNode) → IsMadeOf k n f → HasOwnClocks obc f × KindsSigned obc k n f
 
-all_clocked : (obc : List ObcType) (k : Known) (items : List Item) (fs : List FlatNode) → AreMadeOf k items fs → EachNode (Clocked obc k) items → AllByRecursion (HasOwnClocks obc) fs
+pub all_clocked : (obc : List ObcType) (k : Known) (items : List Item) (fs : List FlatNode) → AreMadeOf k items fs → EachNode (Clocked obc k) items → AllByRecursion (HasOwnClocks obc) fs
 all_clocked obc k [] [] made h = tt
 all_clocked obc k [] (f ∷ fs) made h = absurd made
 all_clocked obc k (TypeItem t ∷ items) fs made h = all_clocked obc k items fs made h
 all_clocked obc k (NodeItem n ∷ items) [] made h = absurd made
 all_clocked obc k (NodeItem n ∷ items) (f ∷ fs) made h = ((h.0 f made.0).0, all_clocked obc k items fs made.1 h.1)
 
-no_variables : (items : List Item) → (scope_behind items).variables ≡ []
+pub no_variables : (items : List Item) → (scope_behind items).variables ≡ []
 no_variables [] = refl
 no_variables (TypeItem t ∷ items) = no_variables items
 no_variables (NodeItem n ∷ items) = no_variables items
 
-outputs_first : (types : List TypeDecl) (items : List Item) → EachNode (NodeHasFirsts types) items → (f : List ℕ) (n : Node) → node_among items f ≡ Some n → DeclsHaveFirsts types n.outputs
+pub outputs_first : (types : List TypeDecl) (items : List Item) → EachNode (NodeHasFirsts types) items → (f : List ℕ) (n : Node) → node_among items f ≡ Some n → DeclsHaveFirsts types n.outputs
 outputs_first types [] h f n e = absurd (cc)
 outputs_first types (TypeItem t ∷ items) h f n e = outputs_first types items h f n e
 outputs_first types (NodeItem m ∷ items) h f n e = by (bytes_eq m.name f) e (outputs_first types items h.1 f n)
@@ -115,12 +116,12 @@ accepted_right types class [] a = tt
 accepted_right types class (TypeItem t ∷ items) a = accepted_right types class items a
 accepted_right types class (NodeItem n ∷ items) a = (a.0.clocks, accepted_right types (class_behind class) items a.1)
 
-to_all : (items : List Item) → EachNode ClocksRight items → AllClocksRight items
+pub to_all : (items : List Item) → EachNode ClocksRight items → AllClocksRight items
 to_all [] h = tt
 to_all (TypeItem t ∷ items) h = to_all items h
 to_all (NodeItem n ∷ items) h = (h.0, to_all items h.1)
 
-from_all : (items : List Item) → AllClocksRight items → EachNode ClocksRight items
+pub from_all : (items : List Item) → AllClocksRight items → EachNode ClocksRight items
 from_all [] h = tt
 from_all (TypeItem t ∷ items) h = from_all items h
 from_all (NodeItem n ∷ items) h = (h.0, from_all items h.1)
@@ -173,36 +174,70 @@ some_constructors (NodeItem n ∷ items) h = some_constructors items h
 abbrev AreGood : List TypeDecl → List (List ℕ) → Type 0
 AreGood types names = (t : Ty) → HasFirst types t → IsOf types t (first_value (flat_type (numbered 0 names) t))
 
-pub ready_clocked : (program after : List Item) → IsReady program after → IsRemovable after → TypesForm (obc_types_of program) → EachNode (Clocked (obc_types (types_of after)) (known_of (lowered_program after))) (lowered_program after)
-ready_clocked program after r ok form =
+-- ---- what the types of a program give
+
+module _ (program low : List Item) (t : HasTypesOf program low) where
+  few_types : HasFewTypes program
+  few_types = let form = t.form in number_of (types_of program) form.number
+
+  pub full_types : TypesHaveConstructors (types_of program)
+  full_types = let form = t.form in some_of (types_of program) form.counts
+
+  names_same : type_names low ≡ type_names program
+  names_same = names_of_types low ∙ ap (λ ts. map (λ (d : TypeDecl). d.name) ts) t.same ∙ sym (names_of_types program)
+
+  pub many_types : length (types_of low) ≤ 65535
+  many_types = subst (λ ts. length ts ≤ 65535) (sym t.same) few_types
+
+  pub first_values : AreGood (types_of low) (type_names low)
+  first_values = subst (λ ns. AreGood (types_of low) ns) (sym names_same) (subst (λ ts. AreGood ts (type_names program)) (sym t.same) (first_good program nothing t.named few_types))
+
+  own_types : OwnNumbers (types_of low) (type_names low)
+  own_types = subst (λ ns. OwnNumbers (types_of low) ns) (sym names_same) (subst (λ ts. OwnNumbers ts (type_names program)) (sym t.same) (own_numbers program nothing t.named few_types))
+
+  pub numbered_types : AreNumbered (places_of low) 0 (type_names low)
+  numbered_types = subst (λ ns. AreNumbered (numbered 0 ns) 0 ns) (sym names_same) (are_numbered program nothing 0 t.named)
+
+  pub facts_of_types : TypeFacts (obc_types (types_of low)) (known_of low) (types_of low)
+  facts_of_types = type_facts low numbered_types many_types own_types first_values
+
+  pub constructors_differ : ConstructorsDiffer (types_of low)
+  constructors_differ = subst ConstructorsDiffer (sym t.same) (differ program t.named)
+
+  pub compiled_clocked : IsCompilable low → EachNode (Clocked (obc_types (types_of low)) (known_of low)) low
+  compiled_clocked c =
+      let form = t.form in
+      let small : AreFew (types_of low) = subst AreFew (sym t.same) (few_of (types_of program) form.counts) in
+      let arms = arm_facts low numbered_types many_types small constructors_differ facts_of_types in
+      nodes_clocked (obc_types (types_of low)) low (types_of low) arms facts_of_types c.apart c.sound (each_reverse (NodeHasFirsts (types_of low)) low c.firsts)
+      (each_reverse (λ n. IsPlain n.body) low (each_plain low c.whole)) c.tested (each_reverse ClocksRight low c.clocks)
+
+-- ---- a ready program without its automata is one of these
+
+pub compilable_law : CompilableLaw
+compilable_law program after r ok form =
     let full : TypesHaveConstructors (types_of program) = some_of (types_of program) form.counts in
-    let few : HasFewTypes program = number_of (types_of program) form.number in
     let enums = enumerations [] after in
     let low = lowered_program after in
     let clocked = clocked_of (replaced program) after r.clocks in
     let same : types_of low ≡ types_of after = types_low enums after in
-    let same_all : types_of low ≡ types_of program = same ∙ types_clocked (replaced program) after clocked ∙ types_replaced no_node program in
-    let names : type_names low ≡ type_names program = names_of_types low ∙ ap (λ ts. map (λ (t : TypeDecl). t.name) ts) same_all ∙ sym (names_of_types program) in
-    let firsts : AreGood (types_of low) (type_names low) =
-    subst (λ ns. AreGood (types_of low) ns) (sym names) (subst (λ ts. AreGood ts (type_names program)) (sym same_all) (first_good program nothing r.named few)) in
-    let own : OwnNumbers (types_of low) (type_names low) =
-    subst (λ ns. OwnNumbers (types_of low) ns) (sym names) (subst (λ ts. OwnNumbers ts (type_names program)) (sym same_all) (own_numbers program nothing r.named few)) in
-    let numbers : AreNumbered (places_of low) 0 (type_names low) = subst (λ ns. AreNumbered (numbered 0 ns) 0 ns) (sym names) (are_numbered program nothing 0 r.named) in
-    let many : length (types_of low) ≤ 65535 = subst (λ ts. length ts ≤ 65535) (sym same_all) few in
-    let facts = type_facts low numbers many own firsts in
-    let small : AreFew (types_of low) = subst AreFew (sym same_all) (few_of (types_of program) form.counts) in
-    let apart_types : ConstructorsDiffer (types_of low) = subst ConstructorsDiffer (sym same_all) (differ program r.named) in
-    let arms = arm_facts low numbers many small apart_types facts in
-    let some = some_constructors program full in
-    let sound : SoundBehind (types_of low) (reverse low) = subst (λ ts. SoundBehind ts (reverse low)) (sym same) (ready_sound_law program after r ok some) in
-    let tested : AreTested (types_of low) (reverse low) = subst (λ ts. AreTested ts (reverse low)) (sym same) (tested_law program after r ok some) in
-    let have : EachNode (NodeHasFirsts (types_of low)) (reverse low) =
-    each_reverse (NodeHasFirsts (types_of low)) low (subst (λ ts. EachNode (NodeHasFirsts ts) low) (sym same) (lowered_firsts (types_of after) enums after (ready_firsts program after r full))) in
-    let plain : EachNode (λ n. IsPlain n.body) (reverse low) = each_reverse (λ n. IsPlain n.body) low (each_plain low (whole_law program after r ok)) in
-    let right : EachNode ClocksRight (reverse low) = each_reverse ClocksRight low (ready_right program after r ok) in
-    let apart = lowered_apart program after r.named clocked in
-    let all = nodes_clocked (obc_types (types_of low)) low (types_of low) arms facts apart sound have plain tested right in
-    subst (λ ts. EachNode (Clocked (obc_types ts) (known_of low)) low) same all
+    let some = some_constructors program full in (
+      record { same = same ∙ types_clocked (replaced program) after clocked ∙ types_replaced no_node program; named = r.named; form = form },
+      record {
+        sound = subst (λ ts. SoundBehind ts (reverse low)) (sym same) (ready_sound_law program after r ok some);
+        whole = whole_law program after r ok;
+        tested = subst (λ ts. AreTested ts (reverse low)) (sym same) (tested_law program after r ok some);
+        firsts = subst (λ ts. EachNode (NodeHasFirsts ts) low) (sym same) (lowered_firsts (types_of after) enums after (ready_firsts program after r full));
+        clocks = ready_right program after r ok;
+        apart = lowered_apart program after r.named clocked;
+      },
+    )
+
+pub ready_clocked : (program after : List Item) → IsReady program after → IsRemovable after → TypesForm (obc_types_of program) → EachNode (Clocked (obc_types (types_of after)) (known_of (lowered_program after))) (lowered_program after)
+ready_clocked program after r ok form =
+    let low = lowered_program after in
+    let c = compilable_law program after r ok form in
+    subst (λ ts. EachNode (Clocked (obc_types ts) (known_of low)) low) (types_low (enumerations [] after) after) (compiled_clocked program low c.0 c.1)
 
 pub own_clocks_law : OwnClocksLaw
 own_clocks_law program after r ok form fs made =

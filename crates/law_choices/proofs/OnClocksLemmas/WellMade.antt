@@ -1,5 +1,5 @@
 -- The nodes that are made of a ready program without its automata are well made.
-use Rattle.std.proofs.Common.{◌≡◌, ℕ, ◌≤◌, Bool, true, false, nat_eq, ◌||◌, List, [], ◌∷◌, ◌++◌, length, map, reverse, refl, sym, ap, subst, ◌∙◌, arith}
+use Rattle.std.proofs.Common.{◌≡◌, ℕ, Bool, true, false, nat_eq, ◌||◌, List, [], ◌∷◌, ◌++◌, map, reverse, refl, sym, ap, subst, ◌∙◌, arith}
 use Rattle.std.specs.List.{All, AllByRecursion, IsDistinct}
 use Rattle.std.specs.Str.{bytes_eq}
 use Rattle.std.proofs.lemmas.List.{append_assoc}
@@ -16,17 +16,15 @@ use Rattle.hp_tree.specs.Programs.{TypeDecl, Node}
 use Rattle.hp_tree.specs.Instant.{Place}
 use Rattle.hp_tree.specs.Meaning.{types_of, names_of, nodes, declares}
 use Rattle.law_judged.specs.Named.Scoped.{EachNode}
-use Rattle.hp_expand.specs.Numbering.{no_node, replaced}
 use Rattle.law_values.specs.Accepted.Laws.{IsReady}
-use Rattle.law_values.proofs.AcceptedLemmas.Assembled.{types_replaced, types_clocked}
 use Rattle.hp_automata.specs.Lowering.{enumerations, lowered_program}
 use Rattle.law_automata.specs.Lowered.Removable.{IsRemovable}
-use Rattle.law_automata.proofs.LowerableLemmas.Texts.{clocked_of, each_reverse}
+use Rattle.law_automata.proofs.LowerableLemmas.Texts.{each_reverse}
 use Rattle.hp_flat.specs.declared.node.Variable.{Variable}
 use Rattle.hp_flat.specs.Equations.{FlatEqn}
 use Rattle.hp_flat.specs.Nodes.{FlatNode}
 use Rattle.law_equations.specs.Meaning.Kinding.{HasValue, Callees, EqnKinds, IsWellMade, OneReactionLaw}
-use Rattle.law_equations.specs.Meaning.Scheduling.{IsRanked, DefinesNoInput}
+use Rattle.law_equations.specs.Meaning.Scheduling.{IsRanked, DefinesNoInput, IsWithin}
 use Rattle.law_equations.specs.Meaning.Solving.{TargetsDiffer}
 use Rattle.law_equations.specs.Made.Blocks.{DeclaredOnce}
 use Rattle.law_equations.specs.Made.Laws.{unplaced, NodeReady}
@@ -35,30 +33,27 @@ use Rattle.law_equations.specs.Made.Standing.{Knows}
 use Rattle.law_equations.specs.Made.Types.{obc_type_of, obc_types, obc_types_of}
 use Rattle.law_equations.proofs.MadeLemmas.MadeLaw.{stands-for}
 use Rattle.law_automata.specs.Readied.Laws.{IsWhole}
-use Rattle.law_automata.proofs.ReadiedLemmas.Whole.{whole_law}
 use Rattle.hp_complete.specs.Declaring.{known_of}
 use Rattle.hp_complete.specs.KnownLaw.{ItemsFit}
 use Rattle.hp_complete.specs.Made.{IsMadeOf, AreMadeOf}
 use Rattle.hp_complete.specs.Signatures.{type_names}
 use Rattle.hp_complete.proofs.KnownLaws.{known}
 use Rattle.law_equations.specs.Fitting.Fitting.{TargetsLaw}
-use Rattle.law_wellmade.specs.Timely.Tested.{ConstructorsDiffer, AreTested}
-use Rattle.law_wellmade.proofs.TimelyLemmas.DifferLaws.{differ}
-use Rattle.law_wellmade.proofs.TestedLemmas.TestedPrograms.{tested_law}
 use Rattle.law_wellmade.specs.Begun.Laws.{Begins}
-use Rattle.law_wellmade.proofs.BegunLemmas.BegunLaws.{begun}
-use Rattle.law_wellmade.specs.Regular.Kinds.{IsKnownType}
-use Rattle.law_wellmade.proofs.RegularLemmas.RegularLaws.{variables_typed}
+use Rattle.law_wellmade.proofs.RegularLemmas.GoodPrograms.{NodeGood}
+use Rattle.law_wellmade.proofs.RegularLemmas.RegularLaws.{lowered}
 use Rattle.law_wellmade.specs.Spelled.Integers.{NodeShort}
 use Rattle.law_choices.specs.Closed.Closed.{IsClosed}
 use Rattle.law_choices.specs.Closed.Clocking.{HasClocks}
 use Rattle.law_choices.specs.Closed.Exclusive.{IsAlwaysExclusive}
-use Rattle.law_choices.proofs.ClosedLemmas.ClosedLaws.{each_other, each_both, twice, closed_law}
+use Rattle.law_choices.proofs.ClosedLemmas.ClosedLaws.{each_other, each_both, twice, NodeFilled, closed, in_range}
 use Rattle.law_choices.proofs.ClosedLemmas.Clocking.{fit_law}
 use Rattle.law_choices.proofs.ClosedLemmas.Exclusive.{exclusive_law}
-use Rattle.law_choices.specs.OnClocks.WellMade.{callees_of, MadeLaw, ReactionsLaw}
-use Rattle.law_choices.proofs.OnClocksLemmas.Programs.{each_plain, some_of, number_of, types_low, names_of_types, some_constructors, clocks_law}
-use Rattle.law_choices.proofs.OnClocksLemmas.CallKinds.{kinds_agree}
+use Rattle.law_choices.specs.OnClocks.WellMade.{calls_of, callees_of, MadeLaw, ReactionsLaw}
+use Rattle.law_choices.specs.Closed.Compilable.{HasTypesOf, IsCompilable}
+use Rattle.law_choices.proofs.OnClocksLemmas.Programs.{each_plain, types_low, names_of_types, many_types, constructors_differ, compilable_law, clocks_law}
+use Rattle.law_choices.proofs.OnClocksLemmas.Compilable.{compiled_good, compiled_filled, compiled_begun}
+use Rattle.law_choices.proofs.OnClocksLemmas.CallKinds.{compiled_kinds}
 
 -- ---- what is made of each node
 
@@ -181,58 +176,65 @@ module _ (P Q : FlatNode → Type 0) where
   pair_up : (fs : List FlatNode) → AllByRecursion P fs → AllByRecursion Q fs → AllByRecursion (λ f. P f × Q f) fs
   pair_up fs a b = each_both P Q (λ f. P f × Q f) (λ f p q. (p, q)) fs a b
 
+pub compiled_knows : (program low : List Item) → HasTypesOf program low → IsCompilable low → Knows (types_of low) (nodes (types_of low) filled (reverse low)).outputs (known_of low)
+compiled_knows program low t c =
+    let form = t.form in
+    let names : type_names low ≡ map (λ (d : ObcType). d.name) (obc_types (types_of program)) = names_of_types low ∙ ap (λ ts. map (λ (d : TypeDecl). d.name) ts) t.same ∙ names_made (types_of program) in
+    let apart_names : IsDistinct bytes_eq (type_names low) = subst (IsDistinct bytes_eq) (sym names) form.names.1 in
+    let fit : ItemsFit low = items_fit low (subst (λ ts. All HasConstructors (obc_types ts)) (sym t.same) form.counts) c.whole in
+    known filled low apart_names (many_types program low t) fit
+
 pub ready_knows : (program after : List Item) → IsReady program after → IsRemovable after → TypesForm (obc_types_of program)
     → let low = lowered_program after in Knows (types_of low) (nodes (types_of low) filled (reverse low)).outputs (known_of low)
-ready_knows program after r ok form =
-    let low = lowered_program after in
-    let clocked = clocked_of (replaced program) after r.clocks in
-    let same : types_of low ≡ types_of after = types_low (enumerations [] after) after in
-    let same_all : types_of low ≡ types_of program = same ∙ types_clocked (replaced program) after clocked ∙ types_replaced no_node program in
-    let names : type_names low ≡ type_names program = names_of_types low ∙ ap (λ ts. map (λ (t : TypeDecl). t.name) ts) same_all ∙ sym (names_of_types program) in
-    let apart_names : IsDistinct bytes_eq (type_names low) = subst (IsDistinct bytes_eq) (sym (names ∙ names_of_types program ∙ names_made (types_of program))) form.names.1 in
-    let many : length (types_of low) ≤ 65535 = subst (λ ts. length ts ≤ 65535) (sym same_all) (number_of (types_of program) form.number) in
-    let fit : ItemsFit low = items_fit low (subst (λ ts. All HasConstructors (obc_types ts)) (sym same_all) form.counts) (whole_law program after r ok) in
-    known filled low apart_names many fit
+ready_knows program after r ok form = let c = compilable_law program after r ok form in compiled_knows program (lowered_program after) c.0 c.1
 
-pub known_law : TargetsLaw → KnownLaw
+module _ (law : TargetsLaw) (program low : List Item) (t : HasTypesOf program low) (c : IsCompilable low) (short : EachNode NodeShort low) (fs : List FlatNode) (made : AreMadeOf (known_of low) low fs) where
+  abbrev k : Known
+  k = known_of low
+
+  abbrev types : List ObcType
+  types = obc_types (types_of low)
+
+  abbrev Values : FlatNode → Type 0
+  Values f = AllByRecursion (λ (v : Variable). HasValue types v.ty) f.variables
+
+  abbrev Kinds : FlatNode → Type 0
+  Kinds f = AllByRecursion (EqnKinds types (calls_of types k) f.variables) f.eqns
+
+  compiled_inputs : AllByRecursion DefinesNoInput fs
+  compiled_inputs =
+      let outputs = (nodes (types_of low) filled (reverse low)).outputs in
+      let behind = no_inputs_behind low outputs (compiled_knows program low t c) [] (reverse low) refl (compiled_begun program low t c) (each_reverse IsWhole low c.whole) in
+      all_where k DefinesNoInput low fs made (subst (λ xs. EachNode (WhereMade k DefinesNoInput) xs) (twice low) (each_reverse (WhereMade k DefinesNoInput) (reverse low) behind))
+
+  compiled_sound : AllByRecursion (IsSound types (calls_of types k)) fs
+  compiled_sound =
+      let ranked = all_where k (λ f. IsRanked f.eqns) low fs made (each_where k (λ f. IsRanked f.eqns) low (λ n f m. m.ranked)) in
+      let differ_all = all_where k TargetsDiffer low fs made (each_where k TargetsDiffer low (targets_differ law k)) in
+      let values : AllByRecursion Values fs = each_other (NodeGood types k) Values (λ f g. g.values) fs (compiled_good program low t c fs made) in
+      let first = pair_up (λ f. IsRanked f.eqns) DefinesNoInput fs ranked compiled_inputs in
+      let second = pair_up Values Kinds fs values (compiled_kinds program low t c short fs made) in
+      let third = pair_up (λ f. IsRanked f.eqns × DefinesNoInput f) TargetsDiffer fs first differ_all in
+      each_both (λ f. (IsRanked f.eqns × DefinesNoInput f) × TargetsDiffer f) (λ f. Values f × Kinds f) (IsSound types (calls_of types k))
+      (λ f p q. record { ranked = p.0.0; no_inputs = p.0.1; targets_differ = p.1; values = q.0; kinds = q.1 }) fs third second
+
+  compiled_closed : AllByRecursion IsClosed fs
+  compiled_closed = each_both (NodeGood types k) NodeFilled IsClosed (λ f g h. closed types k f g h) fs (compiled_good program low t c fs made) (compiled_filled program low t c fs made)
+
+  pub compiled_within : AllByRecursion IsWithin fs
+  compiled_within = each_both (NodeGood types k) NodeFilled IsWithin (λ f g h. in_range types k f g h) fs (compiled_good program low t c fs made) (compiled_filled program low t c fs made)
+
+  pub compiled_known : AllByRecursion (IsKnown types (calls_of types k)) fs
+  compiled_known =
+      let outputs = (nodes (types_of low) filled (reverse low)).outputs in
+      let exclusive = exclusive_law (types_of low) outputs k low fs (compiled_knows program low t c) (constructors_differ program low t) (each_plain low c.whole) c.tested made in
+      pair_up (IsSound types (calls_of types k)) (λ f. IsClosed f × IsAlwaysExclusive f) fs compiled_sound (pair_up IsClosed IsAlwaysExclusive fs compiled_closed exclusive)
+
+known_law : TargetsLaw → KnownLaw
 known_law law program after r ok form short fs made =
-    let full = some_of (types_of program) form.counts in
-    let few = number_of (types_of program) form.number in
-    let enums = enumerations [] after in
     let low = lowered_program after in
-    let k = known_of low in
-    let types = obc_types (types_of after) in
-    let callees = callees_of after in
-    let clocked = clocked_of (replaced program) after r.clocks in
-    let same : types_of low ≡ types_of after = types_low enums after in
-    let same_all : types_of low ≡ types_of program = same ∙ types_clocked (replaced program) after clocked ∙ types_replaced no_node program in
-    let whole = whole_law program after r ok in
-    let knows = ready_knows program after r ok form in
-    let outputs = (nodes (types_of low) filled (reverse low)).outputs in
-    let apart : ConstructorsDiffer (types_of low) = subst ConstructorsDiffer (sym same_all) (differ program r.named) in
-    let tested_after = tested_law program after r ok (some_constructors program full) in
-    let tested : AreTested (types_of low) (reverse low) = subst (λ ts. AreTested ts (reverse low)) (sym same) tested_after in
-    let closed = closed_law program after r ok full few fs made in
-    let exclusive = exclusive_law (types_of low) outputs k low fs knows apart (each_plain low whole) tested made in
-    let ranked = all_where k (λ f. IsRanked f.eqns) low fs made (each_where k (λ f. IsRanked f.eqns) low (λ n f m. m.ranked)) in
-    let differ_all = all_where k TargetsDiffer low fs made (each_where k TargetsDiffer low (targets_differ law k)) in
-    let inputs_behind = no_inputs_behind low outputs knows [] (reverse low) refl (begun program after r ok full few) (each_reverse IsWhole low whole) in
-    let inputs =
-    all_where k DefinesNoInput low fs made
-    (subst (λ xs. EachNode (WhereMade k DefinesNoInput) xs) (twice low) (each_reverse (WhereMade k DefinesNoInput) (reverse low) inputs_behind)) in
-    let Values : FlatNode → Type 0 = λ f. AllByRecursion (λ (v : Variable). HasValue types v.ty) f.variables in
-    let Kinds : FlatNode → Type 0 = λ f. AllByRecursion (EqnKinds types callees f.variables) f.eqns in
-    let values : AllByRecursion Values fs =
-    each_other (λ f. AllByRecursion (λ (v : Variable). IsKnownType types v.ty × HasValue types v.ty) f.variables) Values
-    (λ f h. each_other (λ (v : Variable). IsKnownType types v.ty × HasValue types v.ty) (λ (v : Variable). HasValue types v.ty) (λ v q. q.1) f.variables h) fs (variables_typed program after r ok full few tested_after fs made) in
-    let kinded : AllByRecursion Kinds fs = kinds_agree program after r ok full few short fs made in
-    let first = pair_up (λ f. IsRanked f.eqns) DefinesNoInput fs ranked inputs in
-    let second = pair_up Values Kinds fs values kinded in
-    let third = pair_up (λ f. IsRanked f.eqns × DefinesNoInput f) TargetsDiffer fs first differ_all in
-    let sound : AllByRecursion (IsSound types callees) fs =
-    each_both (λ f. (IsRanked f.eqns × DefinesNoInput f) × TargetsDiffer f) (λ f. Values f × Kinds f) (IsSound types callees)
-    (λ f p q. record { ranked = p.0.0; no_inputs = p.0.1; targets_differ = p.1; values = q.0; kinds = q.1 }) fs third second in
-    pair_up (IsSound types callees) (λ f. IsClosed f × IsAlwaysExclusive f) fs sound (pair_up IsClosed IsAlwaysExclusive fs closed exclusive)
+    let c = compilable_law program after r ok form in
+    subst (λ ts. AllByRecursion (IsKnown (obc_types ts) (calls_of (obc_types ts) (known_of low))) fs) (types_low (enumerations [] after) after) (compiled_known law program low c.0 c.1 (lowered after ok short) fs made)
 
 pub made_law : TargetsLaw → MadeLaw
 made_law law program after r ok form short fs made =

@@ -18,7 +18,8 @@ use Rattle.hp_complete.specs.Declaring.{known_of}
 use Rattle.hp_complete.specs.Made.{AreMadeOf}
 use Rattle.law_wellmade.specs.Spelled.Integers.{NodeShort}
 use Rattle.law_choices.specs.Closed.Clocking.{DefinesOwn}
-use Rattle.law_choices.specs.OnClocks.WellMade.{callees_of}
+use Rattle.law_choices.specs.Closed.Compilable.{HasTypesOf, IsCompilable}
+use Rattle.law_choices.specs.OnClocks.WellMade.{calls_of, callees_of}
 use Rattle.law_choices.specs.Adding.Keeping.{IsBased}
 use Rattle.law_choices.specs.Adding.Lifts.{HaveBytes}
 
@@ -27,6 +28,12 @@ pub record IsReadyMade (types : List ObcType) (callees : Callees) (n : FlatNode)
   pub clock : ℕ → Clock
   pub based : IsBased types callees clock n
   pub own : AllByRecursion (DefinesOwn clock) n.eqns
+
+-- So is each node that is made of a program without automata that can be compiled, where the integers that it writes are of 32 bits.
+abbrev pub CompiledMadeLaw : Type 0
+CompiledMadeLaw =
+    (program low : List Item) → HasTypesOf program low → IsCompilable low → EachNode NodeShort low → (fs : List FlatNode) → AreMadeOf (known_of low) low fs
+    → AllByRecursion (IsReadyMade (obc_types (types_of low)) (calls_of (obc_types (types_of low)) (known_of low))) fs
 
 -- So is each node that is made of a ready program without its automata.
 abbrev pub ReadyMadeLaw : Type 0

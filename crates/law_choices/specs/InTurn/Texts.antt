@@ -1,12 +1,13 @@
 -- What is asked of programs whose nodes choose is so of those of texts.
 -- Source: own.
-use Rattle.std.specs.Prelude.{ℕ, List}
+use Rattle.std.specs.Prelude.{◌≡◌, ℕ, false, List}
 use Rattle.hp_lexer.specs.Lexing.{AreTokensOf}
 use Rattle.hp_lexer.specs.declared.token.Token.{Token}
 use Rattle.hp_parser.specs.Lexemes.{lexemes}
 use Rattle.hp_parser.specs.Programs.{IsProgram}
 use Rattle.hp_tree.specs.declared.program.Item.{Item}
 use Rattle.hp_tree.specs.Meaning.{types_of}
+use Rattle.hp_tree.specs.Programs.{Node}
 use Rattle.hp_names.specs.Rules.{WellNamed}
 use Rattle.hp_typing.specs.Rules.{WellTyped}
 use Rattle.hp_typing.specs.DefinitionRules.{WellDefined}
@@ -15,7 +16,9 @@ use Rattle.hp_clocks.specs.Writing.{AreWritten}
 use Rattle.hp_clocks.specs.Answers.{IsClocked}
 use Rattle.hp_expand.specs.Refusals.{IsFormed}
 use Rattle.hp_expand.specs.Numbering.{replaced}
+use Rattle.law_judged.specs.Named.Scoped.{EachNode}
 use Rattle.hp_automata.specs.Lowering.{lowered_program}
+use Rattle.hp_automata.specs.NewNames.{is_new}
 use Rattle.law_equations.specs.Made.Types.{obc_types}
 use Rattle.hp_complete.specs.Declaring.{known_of}
 use Rattle.hp_complete.specs.Made.{AreMadeOf}
@@ -33,3 +36,8 @@ TextLaw =
     → WellNamed program → WellTyped program → WellDefined program → IsFormed program → IsInitialised (replaced program) → AreWritten IsClocked (replaced program) after
     → AreMadeOf (known_of (lowered_program after)) (lowered_program after) (plants (loops ms)) → AllSuit (obc_types (types_of after)) (said_of after ms) observers → CallNothing observers
     → AreAllMade (obc_types (types_of after)) observers after ms → IsChoosing program after observers ms
+
+-- No name of a node of a text holds the sign, so none does where inlined calls are replaced and clocks are written.
+abbrev pub SignLaw : Type 0
+SignLaw =
+    (text : List ℕ) (tokens : List Token) (program after : List Item) → AreTokensOf text tokens → IsProgram (lexemes text tokens) program → AreWritten IsClocked (replaced program) after → EachNode (λ (n : Node). is_new n.name ≡ false) after

@@ -6,15 +6,16 @@ use Rattle.std.proofs.lemmas.Slice.Eq.{bytes_eq-Decides}
 use Rattle.std.proofs.lemmas.List.{append-nil, map-append}
 use Rattle.hp_tree.specs.Blocks.{Decl}
 use Rattle.hp_tree.specs.Meaning.{declares, names_of}
+use Rattle.hp_tree.specs.Programs.{Node}
 use Rattle.hp_flat.specs.declared.node.Variable.{Variable as VariableData}
 use Rattle.law_equations.specs.Followed.Premises.{is_taken, letter_of, IsOwn, names}
-use Rattle.law_equations.specs.Made.Making.{is_in, new_name, each_once, sketch_node}
+use Rattle.law_equations.specs.Made.Making.{Known, is_in, new_name, each_once, sketch_node}
 use Rattle.law_equations.proofs.MadeLemmas.LayerLaws.{Once, names-once}
 use Rattle.law_equations.specs.Made.Blocks.{locals_of}
-use Rattle.law_equations.specs.Fitting.Fitting.{is_made, IsKept, signature_names, NamesLaw}
+use Rattle.law_equations.specs.Fitting.Fitting.{is_made, FreeNamesLaw, IsKept, NodeNamed, signature_names, NamesLaw}
 use Rattle.law_equations.proofs.FittingLemmas.Letters.{new-letter, new-number}
 use Rattle.law_equations.proofs.FittingLemmas.Growth.{IsNew, AreNew}
-use Rattle.law_equations.proofs.FittingLemmas.NodeGrowth.{AreOwn, node-parts}
+use Rattle.law_equations.proofs.FittingLemmas.NodeGrowth.{AreOwn, NodeParts, node-parts}
 
 -- ---- names that differ
 
@@ -130,6 +131,23 @@ all_differ n (v ∷ vs) h a d = by a.0 d (λ e. all_differ (n + 1) vs more a.1 e
     by (inr w) e rest =
         let f = first_apart v.name (plain (names vs)) (subst (IsDistinct bytes_eq) (plain_kept v.name (names vs) w.no_variable) e) in
         apart_first v.name (names vs) (kept_apart v.name (n + 1) vs w.no_variable a.1 f.0) (rest f.1)
+
+-- none is a new name with a number that is no variable's
+new_free : (stem : List ℕ) (j n : ℕ) (vs : List VariableData) → n + length vs ≤ j → j < 2 ^ 64 → AreNamed n vs → AllByRecursion (λ x. x ≡ new_name stem j → ⊥) (names vs)
+new_free stem j n [] h g a = tt
+new_free stem j n (v ∷ vs) h g a = (by a.0, new_free stem j (n + 1) vs (omega (arith, h)) g a.1)
+  where
+    is_new : is_made (new_name stem j) ≡ true
+    is_new = ap (λ l. nat_eq l 120) (new-letter stem j)
+
+    by : IsNamedAt n v → v.name ≡ new_name stem j → ⊥
+    by (inl w) e =
+        let same : n ≡ j = new-number w.0 stem n j (omega (arith, h, g)) g (sym w.1 ∙ e) in
+        omega (arith, h, same)
+    by (inr w) e =
+        let made : is_made v.name ≡ true = ap is_made e ∙ is_new in
+        let kept : is_made v.name ≡ false = w.no_variable in
+        cc
 
 -- all are own names
 all_own : (n : ℕ) (vs : List VariableData) → AreNamed n vs → AllByRecursion IsOwn (names vs)
@@ -249,17 +267,24 @@ crossed : (ds : List Decl) (xs ys zs : List (List ℕ)) → ((x : List ℕ) → 
 crossed ds xs [] zs h a = tt
 crossed ds xs (y ∷ ys) zs h a = (h y a.0.1, crossed ds xs ys zs h a.1)
 
-pub names-law : NamesLaw
-names-law k n named few =
-    let p = node-parts k n in
+-- each variable of a node has a new name with its number, or a kept one
+parts_named : (k : Known) (n : Node) → NodeNamed n → (p : NodeParts n (sketch_node k n)) → AreNamed 0 (p.first ++ (p.lasts ++ (p.owns ++ p.rest)))
+parts_named k n named p =
     let ds = locals_of n.body in
     let xs = each_once [] p.names in
     let kept : AllByRecursion IsKept (names p.first) = subst (AllByRecursion IsKept) (sym p.signed) named.signature in
     let behind : AreNamed (length p.first) (p.lasts ++ (p.owns ++ p.rest)) =
     named_both (length p.first) p.lasts (p.owns ++ p.rest) (named_new (length p.first) p.lasts p.are_lasts)
     (named_both (length p.first + length p.lasts) p.owns p.rest (named_own ds named.locals xs (length p.first + length p.lasts) p.owns p.are_owns) (named_new (length p.first + length p.lasts + length p.owns) p.rest p.are_rest)) in
-    let all : AreNamed 0 (p.first ++ (p.lasts ++ (p.owns ++ p.rest))) =
-    named_both 0 p.first (p.lasts ++ (p.owns ++ p.rest)) (named_kept 0 p.first kept) (let same : length p.first ≡ 0 + length p.first = omega arith in subst (λ m. AreNamed m (p.lasts ++ (p.owns ++ p.rest))) same behind) in
+    named_both 0 p.first (p.lasts ++ (p.owns ++ p.rest)) (named_kept 0 p.first kept) (let same : length p.first ≡ 0 + length p.first = omega arith in subst (λ m. AreNamed m (p.lasts ++ (p.owns ++ p.rest))) same behind)
+
+pub names-law : NamesLaw
+names-law k n named few =
+    let p = node-parts k n in
+    let ds = locals_of n.body in
+    let xs = each_once [] p.names in
+    let kept : AllByRecursion IsKept (names p.first) = subst (AllByRecursion IsKept) (sym p.signed) named.signature in
+    let all = parts_named k n named p in
     let o = own_names ds named.locals xs (length p.first + length p.lasts) p.owns (names-once p.names) p.are_owns in
     let rest_plain : plain (names (p.lasts ++ (p.owns ++ p.rest))) ≡ plain (names p.owns) =
     ap plain (split p.lasts (p.owns ++ p.rest)) ∙ plain_both (names p.lasts) (names (p.owns ++ p.rest))
@@ -278,3 +303,10 @@ names-law k n named few =
   where
     split : (vs ws : List VariableData) → names (vs ++ ws) ≡ names vs ++ names ws
     split vs ws = map-append (λ (v : VariableData). v.name) vs ws
+
+pub free-law : FreeNamesLaw
+free-law k n named stem j above below =
+    let p = node-parts k n in
+    let all = p.first ++ (p.lasts ++ (p.owns ++ p.rest)) in
+    let long : length (sketch_node k n).variables ≡ length all = ap length p.variables in
+    subst (λ (vs : List VariableData). AllByRecursion (λ x. x ≡ new_name stem j → ⊥) (names vs)) (sym p.variables) (new_free stem j 0 all (omega (arith, above, long)) below (parts_named k n named p))

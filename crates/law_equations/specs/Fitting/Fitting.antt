@@ -1,5 +1,5 @@
 -- What the variables and equations that are made of a node have of what is asked of clocked equations.
-use Rattle.std.specs.Prelude.{◌≡◌, ◌≤◌, ◌^◌, ℕ, Bool, true, false, nat_eq, List, ◌++◌, length, IsTrue}
+use Rattle.std.specs.Prelude.{◌≡◌, ◌<◌, ◌≤◌, ◌^◌, ℕ, Bool, true, false, nat_eq, List, ◌++◌, length, IsTrue}
 use Rattle.std.specs.List.{AllByRecursion, IsDistinct}
 use Rattle.std.specs.Str.{bytes_eq}
 use Rattle.hp_tree.specs.Programs.{Node}
@@ -11,7 +11,7 @@ use Rattle.law_equations.specs.Flattened.Behaves.{EachCallIn}
 use Rattle.law_equations.specs.Followed.Programs.{CallsOnly}
 use Rattle.law_equations.specs.Followed.Premises.{letter_of, IsOwn, names}
 use Rattle.law_equations.specs.Made.Blocks.{locals_of}
-use Rattle.law_equations.specs.Made.Making.{Known, sketch_node}
+use Rattle.law_equations.specs.Made.Making.{Known, new_name, sketch_node}
 
 -- the letter behind the first sign of the names that are made for variables
 abbrev pub is_made : List ℕ → Bool
@@ -38,6 +38,11 @@ abbrev pub NamesLaw : Type 0
 NamesLaw =
     (k : Known) (n : Node) → NodeNamed n → length (sketch_node k n).variables ≤ 2 ^ 64
     → IsDistinct bytes_eq (names (sketch_node k n).variables) × AllByRecursion IsOwn (names (sketch_node k n).variables)
+
+-- And none is a name that is made for a variable of a larger number.
+abbrev pub FreeNamesLaw : Type 0
+FreeNamesLaw =
+    (k : Known) (n : Node) → NodeNamed n → (stem : List ℕ) (number : ℕ) → length (sketch_node k n).variables ≤ number → number < 2 ^ 64 → AllByRecursion (λ x. x ≡ new_name stem number → ⊥) (names (sketch_node k n).variables)
 
 -- No equation has a target twice.
 abbrev pub TargetsLaw : Type 0

@@ -13,7 +13,10 @@ returns-in-Ok-clause-outcome g c =
     let status = code_of c.write_source.result in
     let text : c.as_slice.result.now ≡ unfolded_text c.args.program.now = search rules in
     let program = c.args.program.now in
-    let back : ReadsBack c.args.out.now program = λ source is short. c.unfolded_programs_are_read_back.ensures source is.tokens program is.spelled is.read c.in-Ok.ensures.small short in
+    let back : ReadsBack c.args.out.now program = λ source is short. (
+      c.unfolded_programs_are_read_back.ensures source is.tokens program is.spelled is.read c.in-Ok.ensures.small short,
+      c.unfolded_formulas_have_their_values.ensures.written source is.tokens program is.spelled is.read c.in-Ok.ensures.small short,
+    ) in
     (done.0, done.1, unfolds c.args.out.now program back done.0 status (subst (λ z. WritesSource z done.0 status) text done.2))
 
 pub returns-in-Ok-clause-leaves : goal.returns-in-Ok-clause-leaves

@@ -1,0 +1,5 @@
+mod Failing
+mod ListLaws
+mod ForcingLaws
+mod FieldLaws
+mod PlayLaws

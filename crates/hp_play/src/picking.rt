@@ -1,0 +1,134 @@
+//! One valuation of a diagram, and what of it does not matter.
+ghost use Rattle.std.specs.Prelude.{◌≡◌, ◌+◌, ◌<◌, ◌≤◌, length, IfOk, OnOk};
+ghost use Rattle.hp_diagram.specs.Diagrams.{Diagrams, valuation, Has, Keeps};
+ghost use Rattle.hp_synth.specs.Layouts.{place, IsLayout};
+ghost use Rattle.hp_synth.specs.Valued.{read, through};
+
+use hp_diagram::{Ref, Table, one, zero};
+use hp_synth::{Layout, all_in};
+use std::alloc::{AllocError, Global};
+
+/// The valuations in which the variable at a place has this value.
+fn literal(t: &mut Table, y: u16, value: bool) -> Result<Ref, AllocError>
+    requires { y < t.old.vars }
+    ensures has { IfOk result (Has t.new) }
+    ensures keeps { OnOk result (Keeps t.old t.new) }
+{
+    let variable = t.var(y)?;
+    if value {
+        return Ok(variable);
+    }
+    t.not(variable)
+}
+
+/// The valuations in which the variables from one on have these values.
+pub fn of_values(
+    t: &mut Table,
+    layout: &Layout,
+    from: u16,
+    values: &[bool],
+) -> Result<Ref, AllocError>
+    requires layout { IsLayout t.old.vars layout.now }
+    requires within { from + length values.now ≤ t.old.vars }
+    ensures has { IfOk result (Has t.new) }
+    ensures keeps { OnOk result (Keeps t.old t.new) }
+{
+    let _vars = t.vars();
+    let mut all = one();
+    for i in 0..values.len() {
+        let value = literal(t, layout.place(from + i as u16), values[i])?;
+        all = t.and(all, value)?;
+    }
+    Ok(all)
+}
+
+/// Changes the values to ones at which the function is true, if there are some; of two that differ first at a place, those that have the value from before there.
+pub fn pick(t: &Table, r: Ref, values: &mut [bool])
+    requires has { Has t.now r }
+    requires values { length values.old ≡ t.now.vars }
+    ensures { length values.new ≡ length values.old }
+{
+    let mut at = r;
+    for y in 0..t.vars() {
+        let (low, high) = t.children(at, y);
+        let place = usize::from(y);
+        if values[place] && high == zero() {
+            values[place] = false;
+        } else if !values[place] && low == zero() {
+            values[place] = true;
+        }
+        at = if values[place] { high } else { low };
+    }
+}
+
+/// The values of a machine's variables, of those at their places.
+pub fn own_values(
+    alloc: Global,
+    vars: u16,
+    layout: &Layout,
+    placed: &[bool],
+) -> Result<Vec<bool>, AllocError>
+    requires layout { IsLayout vars layout.now }
+    requires placed { length placed.now ≡ vars }
+    ensures { IfOk result (λ values. values.items ≡ read 0 vars (through (place layout.now) (valuation placed.now))) }
+{
+    let mut values = Vec::new(alloc);
+    for x in 0..vars {
+        values.push(placed[usize::from(layout.place(x))])?;
+    }
+    Ok(values)
+}
+
+fn either(is_first: bool, first: Ref, second: Ref) -> Ref
+    ensures { (t : Diagrams) → Has t first → Has t second → Has t result }
+{
+    if is_first { first } else { second }
+}
+
+/// Of each early variable whether it may have the other value too, with those before it that may, where these are the valuations that serve.
+pub fn free_values(
+    alloc: Global,
+    t: &mut Table,
+    layout: &Layout,
+    serve: Ref,
+    placed: &[bool],
+) -> Result<Vec<bool>, AllocError>
+    requires layout { IsLayout t.old.vars layout.now }
+    requires serve { Has t.old serve }
+    requires placed { length placed.now ≡ t.old.vars }
+    ensures many { IfOk result (λ free. length free.items ≡ layout.now.counts.early) }
+    ensures keeps { OnOk result (Keeps t.old t.new) }
+{
+    let _vars = t.vars();
+    let mut left = serve;
+    let mut free = Vec::new(alloc);
+    for k in 0..layout.counts.early {
+        let x = layout.counts.registers + k;
+        let wider = all_in(alloc, t, layout, left, x, x + 1)?;
+        let serves = t.value(wider, placed);
+        left = either(serves, wider, left);
+        free.push(serves)?;
+    }
+    Ok(free)
+}
+
+/// The early values at their places, false where they are free.
+pub fn early_values(
+    alloc: Global,
+    vars: u16,
+    layout: &Layout,
+    placed: &[bool],
+    free: &[bool],
+) -> Result<Vec<bool>, AllocError>
+    requires layout { IsLayout vars layout.now }
+    requires placed { length placed.now ≡ vars }
+    requires free { length free.now ≡ layout.now.counts.early }
+    ensures { IfOk result (λ values. length values.items ≡ layout.now.counts.early) }
+{
+    let mut values = Vec::new(alloc);
+    for k in 0..layout.counts.early {
+        let at = usize::from(layout.place(layout.counts.registers + k));
+        values.push(!free[usize::from(k)] && placed[at])?;
+    }
+    Ok(values)
+}

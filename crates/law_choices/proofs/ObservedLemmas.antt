@@ -1,0 +1,14 @@
+pub mod Apart
+pub mod Bodies
+pub mod Calls
+pub mod Clocks
+pub mod Firsts
+pub mod Known
+pub mod Programs
+pub mod Removable
+pub mod Said
+pub mod Scoped
+pub mod Sound
+pub mod Standing
+pub mod Swapped
+pub mod Worked

@@ -1,0 +1,4 @@
+pub mod Playing
+pub mod Inputs
+pub mod Steering
+pub mod Controllers

@@ -1,0 +1,4 @@
+pub mod Given
+pub mod Inputs
+pub mod Steering
+pub mod Laws

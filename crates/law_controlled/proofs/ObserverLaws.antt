@@ -1,0 +1,117 @@
+-- Each observer of a program is that of one of its contracts.
+use Rattle.std.proofs.Common.{◌≡◌, ℕ, ◌+◌, Bool, true, false, if◌then◌else◌, List, [], ◌∷◌, ◌++◌, length, map, Option, None, Some, refl, sym, ap, ap₂, subst, ◌∙◌, arith}
+use Rattle.std.specs.Prelude.{slice_get}
+use Rattle.std.specs.Str.{bytes_eq}
+use Rattle.std.proofs.lemmas.List.{append_assoc, length-append}
+use Rattle.std.proofs.lemmas.Slice.Eq.{bytes_eq-Decides}
+use Rattle.hp_obc.specs.Form.{TypesForm}
+use Rattle.hp_complete.specs.Signatures.{numbered}
+use Rattle.hp_tree.specs.declared.program.Item.{Item}
+use Rattle.hp_tree.specs.declared.program.Item.TheVariants.{TypeItem, NodeItem}
+use Rattle.hp_tree.specs.Meaning.{types_of}
+use Rattle.hp_tree.specs.Programs.{Contract, Node}
+use Rattle.law_judged.specs.Named.Scoped.{EachNode}
+use Rattle.law_values.specs.Accepted.Laws.{IsReady}
+use Rattle.hp_automata.specs.NewNames.{is_new}
+use Rattle.hp_flat.specs.Nodes.{FlatNode}
+use Rattle.law_equations.specs.Followed.Programs.{CallsOnly}
+use Rattle.law_equations.specs.Made.Types.{obc_types, obc_types_of}
+use Rattle.hp_watch.specs.Watching.{Observed, Observing, observed}
+use Rattle.law_choices.specs.Adding.Surveyed.{Suits}
+use Rattle.law_choices.specs.InTurn.Laws.{said_of}
+use Rattle.law_choices.specs.InTurn.Nodes.{Made, AreAllMade}
+use Rattle.law_choices.specs.InTurn.Observed.{CanBeObserved, with_contract, contracted_nodes, EachObserved, ObservedLaw}
+use Rattle.law_choices.specs.InTurn.Observers.{IsObserver, ObserverLaw}
+use Rattle.hp_controlled.specs.Compiled.{name_if, names_with_contracts, contract_if, contracts_of, observed_all, numbered_of, AreObserved}
+use Rattle.law_controlled.specs.Observers.{ObserversSuitLaw}
+
+-- ---- nodes with contracts
+
+abbrev name_of : Node × Contract → List ℕ
+name_of x = x.0.name
+
+abbrev contract_of : Node × Contract → Contract
+contract_of x = x.1
+
+names_are : (items : List Item) → names_with_contracts items ≡ map name_of (contracted_nodes items)
+names_are [] = refl
+names_are (TypeItem t ∷ items) = names_are items
+names_are (NodeItem n ∷ items) = by n.contract (names_are items)
+  where
+    by : (o : Option Contract) → names_with_contracts items ≡ map name_of (contracted_nodes items) → name_if n.name o ++ names_with_contracts items ≡ map name_of (with_contract n o ++ contracted_nodes items)
+    by None e = e
+    by (Some c) e = ap (λ xs. n.name ∷ xs) e
+
+contracts_are : (items : List Item) → contracts_of items ≡ map contract_of (contracted_nodes items)
+contracts_are [] = refl
+contracts_are (TypeItem t ∷ items) = contracts_are items
+contracts_are (NodeItem n ∷ items) = by n.contract (contracts_are items)
+  where
+    by : (o : Option Contract) → contracts_of items ≡ map contract_of (contracted_nodes items) → contract_if o ++ contracts_of items ≡ map contract_of (with_contract n o ++ contracted_nodes items)
+    by None e = e
+    by (Some c) e = ap (λ xs. c ∷ xs) e
+
+-- ---- the observer of a name
+
+at_length : (before : List Observed) (o : Observed) (rest : List Observed) → slice_get (before ++ o ∷ rest) (length before) ≡ Some o
+at_length [] o rest = refl
+at_length (b ∷ before) o rest = at_length before o rest
+
+module _ (P : Node → FlatNode → Type 0) (f : List ℕ) (o : Observed) where
+  -- it is that of a contract of a node of this name
+  abbrev Found : Type 0
+  Found = (n : Node) × (c : Contract) × (g : FlatNode) × (n.name ≡ f) × (observed c g ≡ o) × P n g
+
+  some_same : (own : Observed) → Some own ≡ Some o → own ≡ o
+  some_same own h = cc
+
+  module _ (x : Node × Contract) (g : FlatNode) (xs : List (Node × Contract)) (fs : List FlatNode) (before : List Observed) where
+    abbrev own : Observed
+    own = observed (contract_of x) g
+
+    abbrev rest : List Observed
+    rest = observed_all (map contract_of xs) fs
+
+    found_or : P x.0 g → (b : Bool) → bytes_eq (name_of x) f ≡ b → numbered_of (before ++ own ∷ rest) (if b then Some (length before) else numbered (length before + 1) (map name_of xs) f) ≡ Some o
+        → (numbered_of ((before ++ own ∷ []) ++ rest) (numbered (length (before ++ own ∷ [])) (map name_of xs) f) ≡ Some o → Found) → Found
+    found_or p true q e r = (x.0, x.1, g, (bytes_eq-Decides (name_of x) f).0 q, some_same own (sym (at_length before own rest) ∙ e), p)
+    found_or p false q e r = r (ap₂ (λ os k. numbered_of os (numbered k (map name_of xs) f)) (append_assoc before (own ∷ []) rest) (length-append before (own ∷ [])) ∙ e)
+
+  found : (xs : List (Node × Contract)) (fs : List FlatNode) (before : List Observed) → EachObserved P xs fs
+      → numbered_of (before ++ observed_all (map contract_of xs) fs) (numbered (length before) (map name_of xs) f) ≡ Some o → Found
+  found [] [] before each e = absurd cc
+  found [] (g ∷ fs) before each e = absurd each
+  found (x ∷ xs) [] before each e = absurd each
+  found (x ∷ xs) (g ∷ fs) before each e = found_or x g xs fs before each.0 (bytes_eq (name_of x) f) refl e (found xs fs (before ++ observed (contract_of x) g ∷ []) each.1)
+
+-- ---- the law
+
+module _ (observed_law : ObservedLaw) (observer_law : ObserverLaw) (program after : List Item) (observers : Observing) (ms : List Made) (r : IsReady program after) (form : TypesForm (obc_types_of program)) (signs : EachNode (λ (n : Node). is_new n.name ≡ false) after) (can : CanBeObserved after)
+    (all_made : AreAllMade (obc_types (types_of after)) observers after ms) (are : AreObserved after observers) where
+  abbrev Is : Node → FlatNode → Type 0
+  Is n g = IsObserver (obc_types (types_of after)) (said_of after ms) n.name g × CallsOnly [] g.eqns
+
+  abbrev named : List (Node × Contract)
+  named = contracted_nodes after
+
+  same : (f : List ℕ) → observers f ≡ numbered_of (observed_all (map contract_of named) are.nodes) (numbered 0 (map name_of named) f)
+  same f = ap (λ (os : Observing). os f) are.are ∙ ap₂ (λ ns cs. numbered_of (observed_all cs are.nodes) (numbered 0 ns f)) (names_are after) (contracts_are after)
+
+  it : (f : List ℕ) (o : Observed) → observers f ≡ Some o → Found Is f o
+  it f o e =
+      let equations = are.equations in
+      found Is f o named are.nodes [] (observed_law program after observers ms are.nodes r form signs can all_made equations.made) (sym (same f) ∙ e)
+
+  suits : (f : List ℕ) (o : Observed) → Found Is f o → Suits (obc_types (types_of after)) (said_of after ms) f o
+  suits f o h =
+      subst (λ (z : Observed). Suits (obc_types (types_of after)) (said_of after ms) f z) h.4
+      (subst (λ x. Suits (obc_types (types_of after)) (said_of after ms) x (observed h.1 h.2)) h.3 (observer_law (obc_types (types_of after)) (said_of after ms) h.0.name h.1 h.2 h.5.0))
+
+  calls : (f : List ℕ) (o : Observed) → Found Is f o → CallsOnly [] o.node.eqns
+  calls f o h = subst (λ (z : Observed). CallsOnly [] z.node.eqns) h.4 h.5.1
+
+pub observers_suit_law : ObservedLaw → ObserverLaw → ObserversSuitLaw
+observers_suit_law observed_law observer_law program after observers ms r form signs can all_made are = (
+  (λ f o e. suits observed_law observer_law program after observers ms r form signs can all_made are f o (it observed_law observer_law program after observers ms r form signs can all_made are f o e)),
+  (λ f o e. calls observed_law observer_law program after observers ms r form signs can all_made are f o (it observed_law observer_law program after observers ms r form signs can all_made are f o e)),
+)

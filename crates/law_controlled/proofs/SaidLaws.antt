@@ -1,0 +1,80 @@
+-- What the machines of a program say is what the program allows.
+use Rattle.std.proofs.Common.{◌≡◌, ℕ, Bool, true, false, if◌then◌else◌, List, [], ◌∷◌, ◌++◌, reverse, Some, refl, sym, ap, subst, ◌∙◌}
+use Rattle.std.specs.List.{AllByRecursion}
+use Rattle.std.specs.Str.{bytes_eq}
+use Rattle.std.proofs.lemmas.List.{append_assoc, reverse-append, reverse-reverse}
+use Rattle.std.specs.Prelude.{Contains}
+use Rattle.std.proofs.lemmas.List.Elements.{All-contains, All-from_recursion}
+use Rattle.hp_base.specs.Kinds.{KindData, AreOfKinds}
+use Rattle.hp_base.specs.declared.value.Value.{Value}
+use Rattle.hp_obc.specs.Machines.{Obc}
+use Rattle.hp_obc.specs.Steps.{machine_behaviour, run}
+use Rattle.hp_tree.specs.declared.program.Item.{Item}
+use Rattle.hp_tree.specs.declared.program.Item.TheVariants.{TypeItem, NodeItem}
+use Rattle.hp_tree.specs.Meaning.{node_among}
+use Rattle.hp_tree.specs.Programs.{Node}
+use Rattle.hp_flat.specs.Nodes.{FlatNode}
+use Rattle.law_equations.specs.Answered.Answering.{AreApart}
+use Rattle.law_equations.specs.Followed.Programs.{all_answers}
+use Rattle.law_history.proofs.StreamsLemmas.NamesApart.{name_found, own_found, ready_apart_after}
+use Rattle.law_choices.specs.InTurn.Allowed.{AllowedRunLaw, IsAllowedRun}
+use Rattle.law_choices.specs.InTurn.Laws.{said_of}
+use Rattle.law_choices.specs.InTurn.Nodes.{all_nodes}
+use Rattle.law_choices.specs.InTurn.Texts.{SignLaw}
+use Rattle.law_choices.proofs.OnClocksLemmas.Texts.{when_accepted}
+use Rattle.law_controlled.specs.Allowed.{AllowedLaw, RunsAllowed}
+use Rattle.law_controlled.specs.Said.{SaidLaw, SaysAllowed}
+
+-- ---- the node of a name, from either end
+
+-- what stands before it, and behind it
+pub record Split (items : List Item) (n : Node) : Type 0 where
+  pub before : List Item
+  pub behind : List Item
+  pub is : items ≡ before ++ NodeItem n ∷ behind
+
+one_more : (item : Item) (items : List Item) (n : Node) → Split items n → Split (item ∷ items) n
+one_more item items n s = record { before = item ∷ s.before; behind = s.behind; is = ap (λ xs. item ∷ xs) s.is }
+
+split : (items : List Item) (f : List ℕ) (n : Node) → node_among items f ≡ Some n → Split items n
+split [] f n e = absurd cc
+split (TypeItem t ∷ items) f n e = one_more (TypeItem t) items n (split items f n e)
+split (NodeItem m ∷ items) f n e = by (bytes_eq m.name f) e (λ k. split items f n k)
+  where
+    by : (b : Bool) → (if b then Some m else node_among items f) ≡ Some n → (node_among items f ≡ Some n → Split items n) → Split (NodeItem m ∷ items) n
+    by true k rest =
+        let same : m ≡ n = cc in
+        record { before = []; behind = items; is = ap (λ (z : Node). NodeItem z ∷ items) same }
+    by false k rest = one_more (NodeItem m) items n (rest k)
+
+-- where names differ, it is found from the other end
+from_behind : (items : List Item) → AreApart (reverse items) → (f : List ℕ) (n : Node) → node_among items f ≡ Some n → node_among (reverse items) f ≡ Some n
+from_behind items apart f n e =
+    let s = split items f n e in
+    let turned : reverse items ≡ reverse s.behind ++ NodeItem n ∷ reverse s.before =
+    ap reverse s.is ∙ reverse-append s.before (NodeItem n ∷ s.behind) ∙ ap (λ xs. xs ++ reverse s.before) (reverse-append (NodeItem n ∷ []) s.behind) ∙ append_assoc (reverse s.behind) (NodeItem n ∷ []) (reverse s.before) in
+    ap (node_among (reverse items)) (sym (name_found items f n e)) ∙ ap (λ xs. node_among xs n.name) turned ∙ own_found (reverse s.behind) (reverse s.before) n (subst AreApart turned apart)
+
+-- ---- what is said
+
+module _ (law : AllowedRunLaw) (after : List Item) (o : Obc) (r : RunsAllowed after o) where
+  -- what is so of all nodes that are made is so of the one that stands for a node
+  at_one : (P : FlatNode → Type 0) (ns : List FlatNode) (w : FlatNode) → AllByRecursion P ns → Contains ns w → P w
+  at_one P ns w h there = All-contains P ns w (All-from_recursion P ns h) there
+
+  says : (f : List ℕ) (n : Node) → node_among (reverse after) f ≡ Some n → SaysAllowed after o f n
+  says f n e inputs kinds =
+      let answers = r.allowed.one.answers in
+      let takes = (said_of after r.all).takes in
+      let w = r.stands f n e in
+      let Answers_so : List ℕ → Type 0 = λ g. (rows : List (List Value)) → AllByRecursion (AreOfKinds (takes g)) rows → run (machine_behaviour o g) (reverse rows) ≡ reverse (all_answers (answers g) rows) in
+      let ran : Answers_so f = subst Answers_so w.named (at_one (λ (v : FlatNode). Answers_so v.name) (all_nodes r.all) w.node r.runs w.there) in
+      let said = ran inputs (subst (λ ks. AllByRecursion (AreOfKinds ks) inputs) (sym w.takes) kinds) in
+      let same : reverse (run (machine_behaviour o f) (reverse inputs)) ≡ all_answers (answers f) inputs = ap reverse said ∙ reverse-reverse (all_answers (answers f) inputs) in
+      subst (IsAllowedRun after f inputs) (sym same) (law after r.all r.allowed f n inputs e kinds)
+
+pub said_law : AllowedRunLaw → AllowedLaw → SignLaw → SaidLaw
+said_law runs allowed sign text tokens program after ranks o a p named typed defined formed initialised clocks fall machines owed f n e =
+    let q = when_accepted text tokens program after a p named typed defined formed initialised clocks in
+    let r = allowed program after ranks o q.ready q.removable fall q.form q.short (sign text tokens program after a p clocks) machines owed in
+    says runs after o r f n (from_behind after (ready_apart_after program after q.ready) f n e)
