@@ -1,4 +1,4 @@
-//! Laws of `hp_past`: in each reaction of an accepted program what contracts remember are formulas, and what unfolding adds remembers them. Used by no other crate.
+//! Laws of `hp_past`: in each reaction of an accepted program what contracts remember are formulas, and what unfolding adds remembers them. `hp_driver` uses them for what `past` writes.
 //!
 //! The functions here do nothing: each is a law, which its contract states.
 #![tactic(auto)]
