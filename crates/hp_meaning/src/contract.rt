@@ -7,7 +7,7 @@ ghost use Rattle.hp_meaning.specs.Contract.Codes.{CodeLaw, WidthLaw};
 ghost use Rattle.hp_meaning.specs.Contract.Forgetting.{ErasedLaw};
 ghost use Rattle.hp_meaning.specs.Contract.FreePlaces.{AbstractEarlyValuesLaw, EarlyValuesLaw};
 ghost use Rattle.hp_meaning.specs.Contract.Game.{AllowedLaw, ChoiceTypesLaw, ChosenLaw, ForcedLaw, GuaranteeLaw, KeptLaw, OneChoiceLaw, PermittedLaw};
-ghost use Rattle.hp_meaning.specs.Contract.Guarantee.{GuaranteedLaw, RunGuaranteedLaw, RunKeepsDutyLaw};
+ghost use Rattle.hp_meaning.specs.Contract.Guarantee.{ErasedNextLaw, GuaranteedLaw, RunGuaranteedLaw, RunKeepsDutyLaw};
 ghost use Rattle.hp_meaning.specs.Contract.ChosenRuns.{InstanceLaw, TypedControlsLaw, UncontrolledLaw};
 ghost use Rattle.hp_meaning.specs.Contract.SteeredRuns.{ChosenReactionLaw, OneReactionByLaw, OneSteeredLaw, SteeredLaw};
 
@@ -70,6 +70,11 @@ pub fn steered_meaning()
 /// In a program without controllable variables each reaction is a run of chosen values.
 pub fn run_without_controls()
     ensures { UncontrolledLaw }
+{}
+
+/// What a reaction holds at an instant is, erased, an instant of the game.
+pub fn reactions_are_instants_of_the_game()
+    ensures { ErasedNextLaw }
 {}
 
 /// Where nothing is forced at first, a run keeps the duty of its node as long as the hypothesis holds.

@@ -21,7 +21,7 @@ use Rattle.hp_meaning.specs.Contract.Forgetting.{erased, erase, ContractsCallNot
 use Rattle.hp_meaning.specs.Contract.FreePlaces.{InputsFit, IsAbstractOf}
 use Rattle.hp_meaning.specs.Contract.Game.{Choice, choices_of, IsAmong, AreChoices, IsChoiceOf, at_controls, IsChosen, IsNext, Played}
 use Rattle.hp_meaning.specs.Contract.ChosenRuns.{Chosen, ChosenThroughout}
-use Rattle.hp_meaning.specs.Contract.Guarantee.{Typed, AllTyped, AllSupposed, RunKeepsDutyLaw}
+use Rattle.hp_meaning.specs.Contract.Guarantee.{Typed, AllTyped, AllSupposed, ErasedNextLaw, RunKeepsDutyLaw}
 use Rattle.hp_meaning.proofs.ContractLemmas.Forgets.{given, Met}
 use Rattle.hp_meaning.proofs.ContractLemmas.ForgetsNodes.{erased_with}
 use Rattle.hp_meaning.proofs.ContractLemmas.Games.{guaranteed, allowed}
@@ -184,6 +184,9 @@ module _ (program : List Item) (f : List ℕ) (n : Node) (r : ContractsCallNothi
           supposed.1,
         ),
       )
+
+pub erased_next : ErasedNextLaw
+erased_next program f n r is_node inputs past free now = next_is program f n r is_node inputs past free now
 
 pub run_keeps : RunKeepsDutyLaw
 run_keeps program f inputs outputs run r safe typed supposed =

@@ -7,15 +7,15 @@ use Rattle.hp_base.specs.declared.value.Value.{Value}
 use Rattle.hp_tree.specs.declared.program.Item.{Item}
 use Rattle.hp_tree.specs.declared.program.Item.TheVariants.{TypeItem, NodeItem}
 use Rattle.hp_tree.specs.Programs.{Contract, Node}
-use Rattle.hp_tree.specs.Operators.{is_there}
+use Rattle.hp_tree.specs.Operators.{is_there, real}
 use Rattle.hp_tree.specs.Instant.{Inputs, Fresh, Instance, Place, Instant, Past, alone, in_row}
-use Rattle.hp_tree.specs.Meaning.{types_of}
-use Rattle.hp_tree.specs.Reaction.{Reaction}
+use Rattle.hp_tree.specs.Meaning.{types_of, node_among}
+use Rattle.hp_tree.specs.Reaction.{Meets, Reaction, controls_at}
 use Rattle.hp_meaning.specs.Causal.Points.{Placed}
 use Rattle.hp_meaning.specs.Contract.Forgetting.{erased, erase, WellValued, ContractsCallNothing}
 use Rattle.hp_meaning.specs.Contract.FreePlaces.{InputsFit, Fits, calls_of, instance_at}
 use Rattle.hp_meaning.specs.Contract.Duties.{assumes, enforces, hypothesis}
-use Rattle.hp_meaning.specs.Contract.Game.{Safe, IsAllowed, AllOwed}
+use Rattle.hp_meaning.specs.Contract.Game.{Safe, IsAllowed, AllOwed, IsChoiceOf, IsNext}
 use Rattle.hp_meaning.specs.Contract.ChosenRuns.{own_past, NamesApart, ControlledThroughout, IsChosenRun}
 
 -- What the instants of a node have in a program of right types: values of their types at comparisons of integers and at outputs of calls.
@@ -31,6 +31,14 @@ AllTyped program n (now ∷ past) = AllTyped program n past × Typed program n n
 abbrev pub AllSupposed : Node → Past → Type 0
 AllSupposed n [] = ⊤
 AllSupposed n (now ∷ past) = AllSupposed n past × IsTrue (hypothesis n now)
+
+-- What a reaction holds at an instant is, erased, an instant of the game over the same inputs and the values that the controllable variables have there.
+abbrev pub ErasedNextLaw : Type 0
+ErasedNextLaw =
+    (program : List Item) (f : List ℕ) (n : Node) → ContractsCallNothing program → node_among (reverse program) f ≡ Some n
+    → (inputs : List Value) (past : Past) (free now : Instant) → Meets real program f inputs (record { past = past; free = free }) now
+    → InputsFit (types_of program) n.inputs inputs → Typed program n now → IsChoiceOf program n (controls_at n now)
+    → IsNext program n (erase past) inputs now (controls_at n now) (erased now)
 
 -- Where nothing is forced at first, a run keeps the duty of its node as long as the hypothesis holds.
 abbrev pub RunKeepsDutyLaw : Type 0
