@@ -43,7 +43,7 @@ word_plain (b ∷ w) h =
     let p = and_parts (is_word_byte b) (list_all is_word_byte w) h in
     ap (λ d. if d then true else is_new w) (no_sign b is_word_byte refl p.0) ∙ word_plain w p.1
 
-small_plain : (x : List ℕ) → IsWord is_small x → is_new x ≡ false
+pub small_plain : (x : List ℕ) → IsWord is_small x → is_new x ≡ false
 small_plain [] h = absurd h
 small_plain (b ∷ w) h = ap (λ d. if d then true else is_new w) (no_sign b is_small refl h.0) ∙ word_plain w h.1
 

@@ -110,7 +110,7 @@ module _ (types : List TypeDecl) (s : Scope) (g : Grounds types s) where
 abbrev pub Complete : Around → Scope → Type 0
 Complete G s = (x : List ℕ) (t : Ty) → lookup s.variables x ≡ Some t → G x t
 
-from_scope : (ds : List Decl) (s : Scope) (x : List ℕ) (t : Ty) → lookup (with_variables s ds).variables x ≡ Some t → Declares ds x t ⊎ (lookup s.variables x ≡ Some t)
+pub from_scope : (ds : List Decl) (s : Scope) (x : List ℕ) (t : Ty) → lookup (with_variables s ds).variables x ≡ Some t → Declares ds x t ⊎ (lookup s.variables x ≡ Some t)
 from_scope [] s x t h = inr h
 from_scope (d ∷ ds) s x t h =
     ⊎_elim (λ k. inl (inr k)) (λ k. entry_cases s.variables d.name d.ty x t k (λ w. inr w) (λ e w z. inl (inl (sym e, w))))
