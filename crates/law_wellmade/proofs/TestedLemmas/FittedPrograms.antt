@@ -24,6 +24,7 @@ use Rattle.law_judged.proofs.ReplacedLemmas.Marks.{all_few_calls}
 use Rattle.law_judged.proofs.ReplacedLemmas.JudgedReplaced.{all_can}
 use Rattle.law_values.specs.Valued.Judged.{ConstantIs, NodeSound}
 use Rattle.law_values.specs.Valued.Values.{scope_behind, Classing, class_behind, AreAccepted}
+use Rattle.law_values.specs.Accepted.Laws.{IsReady}
 use Rattle.law_values.specs.Accepted.Written.{AreClocked}
 use Rattle.law_values.proofs.AcceptedLemmas.Views.{constant_is}
 use Rattle.law_values.proofs.AcceptedLemmas.SoundNodes.{node_more, AllSound, judged_sound}
