@@ -13,7 +13,7 @@ use Rattle.hp_tree.specs.Expressions.{Expr, constant, variable, last_of, one, tw
 use Rattle.hp_tree.specs.Blocks.{Decl, Block, block, Eqns, no_eqn, more_eqns, Eqn, define, switch, reset, automaton, Arms, no_arm, more_arms, States, no_state, more_states}
 use Rattle.hp_tree.specs.Programs.{TypeDecl, Contract, Node}
 use Rattle.hp_tree.specs.Operators.{constant_of, is_comparison}
-use Rattle.hp_tree.specs.Instant.{Step, Inputs, Controls, Body, Observer, Assume, Enforce, Named, Fresh, Equations, Head, Tail, Right, Test, Arms as ArmsOf, States as StatesOf, Until, Unless, Next, Pending, First, Second, Third, Args, Instance, Place}
+use Rattle.hp_tree.specs.Instant.{Inputs, Controls, Body, Observer, Assume, Enforce, Named, Fresh, Equations, Head, Tail, Right, Test, Arms as ArmsOf, States as StatesOf, Until, Unless, Next, Pending, First, Second, Third, Args, Instance, Place}
 use Rattle.hp_tree.specs.Meaning.{controls_of, declares, node_among, types_of}
 use Rattle.hp_tree.specs.Values.{IsOf}
 use Rattle.hp_tree.specs.ExpressionTypes.{Scope, typed_in, untyped, scope_of, type_of}
@@ -40,7 +40,7 @@ use Rattle.law_values.proofs.AcceptedLemmas.Laws.{accepted}
 use Rattle.law_values.proofs.FilledLemmas.Programs.{each_reverse}
 use Rattle.law_past.specs.OneBit.{place_of, at_place, OneBitLaw}
 use Rattle.law_past.proofs.Holding.{first_of, some_is, keeps_by}
-use Rattle.law_past.proofs.Remembered.{IsFound, found as found_node, ready}
+use Rattle.law_past.proofs.Remembered.{found as found_node, ready}
 use Rattle.law_past.proofs.Programs.{kept_law}
 
 -- ---- the registers at a place, among slots

@@ -15,11 +15,9 @@ use Rattle.law_judged.proofs.NamedLemmas.Judged.{scoped}
 use Rattle.law_judged.proofs.OnceLemmas.ReplacedNodes.{judged_once}
 use Rattle.law_judged.proofs.ReplacedLemmas.JudgedReplaced.{judged_replaced}
 use Rattle.law_values.specs.Accepted.Laws.{IsReady}
-use Rattle.hp_lexer.specs.declared.token.Token.{Token}
 use Rattle.hp_tree.specs.Programs.{Contract}
 use Rattle.hp_past.specs.Remembered.{Remembered, Keeps}
 use Rattle.hp_past.specs.Remembering.{HasContract}
-use Rattle.law_past.specs.Remembered.{IsChecked}
 use Rattle.law_past.specs.Unfolded.{KeptLaw}
 use Rattle.law_past.proofs.Alike.{Alike, last_alike}
 use Rattle.law_past.proofs.Remembered.{ready}
