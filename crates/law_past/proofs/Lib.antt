@@ -4,5 +4,6 @@ mod Alike
 mod Bare
 mod Programs
 mod Remembered
+mod OneBit
 mod Unfolded
 mod Worked

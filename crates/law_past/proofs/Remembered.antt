@@ -344,11 +344,11 @@ module _ (types : List TypeDecl) (nils : Bool) (callee : List ℕ → Instant �
 
 -- ---- the node of a name, in an accepted program
 
-record IsFound (types : List TypeDecl) (nils : Bool) (class : Classing) (items : List Item) (f : List ℕ) (n : Node) : Type 0 where
-  others : List Item
-  classing : Classing
-  accepted : NodeAccepted types (node_among others) (scope_behind others) (class_here classing) n
-  fits : (i : Instant) → InstantFits types nils class items f i
+pub record IsFound (types : List TypeDecl) (nils : Bool) (class : Classing) (items : List Item) (f : List ℕ) (n : Node) : Type 0 where
+  pub others : List Item
+  pub classing : Classing
+  pub accepted : NodeAccepted types (node_among others) (scope_behind others) (class_here classing) n
+  pub fits : (i : Instant) → InstantFits types nils class items f i
       → NodeFits types nils (InstantFits types nils (class_behind classing) others) (scope_behind others) (seen_in_node (class_here classing) n) n i
 
 -- an instant fits as one of the first node, or as one of those before
@@ -358,7 +358,7 @@ Here types nils class items m i = NodeFits types nils (InstantFits types nils (c
 abbrev There : List TypeDecl → Bool → Classing → List Item → List ℕ → Instant → Type 0
 There types nils class items f i = InstantFits types nils (class_behind class) items f i
 
-found : (types : List TypeDecl) (nils : Bool) (class : Classing) (items : List Item) (f : List ℕ) (n : Node) → AreAccepted types class items → node_among items f ≡ Some n → IsFound types nils class items f n
+pub found : (types : List TypeDecl) (nils : Bool) (class : Classing) (items : List Item) (f : List ℕ) (n : Node) → AreAccepted types class items → node_among items f ≡ Some n → IsFound types nils class items f n
 found types nils class [] f n a e = absurd cc
 found types nils class (TypeItem t ∷ items) f n a e =
     let r = found types nils class items f n a e in

@@ -18,24 +18,14 @@ use Rattle.hp_past.specs.Unfolding.{unfolded}
 use Rattle.hp_past.proofs.ExtendedLaws.{contracts-extend}
 use Rattle.hp_past.proofs.ReadableLaws.{unfolded-read-back}
 use Rattle.law_past.specs.Remembered.{IsChecked}
-use Rattle.law_past.specs.Unfolded.{KeptLaw, AlwaysTells, HasItsValue, UnfoldedLaw, WrittenLaw}
-use Rattle.law_past.proofs.Remembered.{ready, formula_law}
+use Rattle.law_past.specs.OneBit.{IsOneBit}
+use Rattle.law_past.specs.Unfolded.{AlwaysTells, HasItsValue, UnfoldedLaw, WrittenLaw}
+use Rattle.law_past.proofs.Remembered.{formula_law}
 use Rattle.law_past.proofs.Holding.{some_is}
-use Rattle.law_past.proofs.Replacing.{StillKeeps}
 use Rattle.law_past.proofs.Alike.{Alike, last_alike, one_contract}
 use Rattle.law_past.proofs.Bare.{same_programs}
-use Rattle.law_past.proofs.Programs.{programs_keep}
-
--- ---- the contract of a node, in programs whose nodes still remember
-
-found_again : (xs ys : List Item) → Alike StillKeeps xs ys → (f : List ℕ) (c : Contract) → HasContract xs f c → (m : Remembered) → Keeps c.body m → (d : Contract) × HasContract ys f d × Keeps d.body m
-found_again xs ys a f c h m k =
-    let like = last_alike StillKeeps xs ys f h.node a h.is_node in
-    let d = like.like c h.has m k in
-    (d.0, record { node = like.node; is_node = like.is_node; has = d.1 }, d.2)
-
-pub kept_law : KeptLaw
-kept_law text tokens program after ranks a f c h m k = found_again program after (programs_keep program after (ready text tokens program after ranks a)) f c h m k
+use Rattle.law_past.proofs.Programs.{found_again, kept_law}
+use Rattle.law_past.proofs.OneBit.{one_bit_law}
 
 -- ---- contracts that have new variables
 
@@ -68,9 +58,15 @@ module _ (source : List Item) (text : List ℕ) (tokens : List Token) (program a
       let one : kept.0 ≡ d = one_contract after f kept.0 d kept.1 r.contract in
       formula_law text tokens program after ranks a f d now past r m (subst (λ (z : Contract). Keeps z.body m) one kept.2)
 
+  -- and is one bit
+  one_bit : (c : Contract) → HasContract (unfolded source) f c → (m : Remembered) → Keeps c.body m → IsOneBit after f (variable_of m)
+  one_bit c h m k =
+      let read = found_again (unfolded source) program (same_programs (unfolded source) program (sym same)) f c h m k in
+      one_bit_law text tokens program after ranks a f read.0 read.1 m read.2
+
   value : (c : Contract) → HasContract (unfolded source) f c → (v : Decl) → (v.last ≡ None) ⊎ ((m : Remembered) × (variable_of m ≡ v.name) × Keeps c.body m) → HasItsValue after f c v
   value c h v (inl e) = inl e
-  value c h v (inr m) = inr (m.0, m.1, m.2, subst (λ x. AlwaysTells after f x m.0) m.1 (always_tells c h m.0 m.2))
+  value c h v (inr m) = inr (m.0, m.1, m.2, subst (λ x. AlwaysTells after f x m.0) m.1 (always_tells c h m.0 m.2), subst (IsOneBit after f) m.1 (one_bit c h m.0 m.2))
 
   values : (c : Contract) → HasContract (unfolded source) f c → (new : List Decl) → Each (λ (v : Decl). (v.last ≡ None) ⊎ ((m : Remembered) × (variable_of m ≡ v.name) × Keeps c.body m)) new → Each (HasItsValue after f c) new
   values c h [] k = tt

@@ -1,6 +1,6 @@
 -- A worked program: `node h(a : bool) returns (b : bool) let b = not a tel` and `node g(x : bool) returns (y : bool) contract enforce once(inlined h(x)) let y = x tel`.
 -- Its unfolded contract remembers the formula, all that is asked of the node for replacing its call is met, and the contract with the call replaced and clocks written is seen to remember it.
-use Rattle.std.proofs.Common.{◌≡◌, ◌⊎◌, ⊎_elim, ℕ, ◌≤◌, false, true, ◌||◌, List, [], ◌∷◌, ◌++◌, length, Option, None, Some, refl, subst, arith}
+use Rattle.std.proofs.Common.{◌≡◌, ⊎_elim, ℕ, ◌≤◌, false, true, ◌||◌, List, [], ◌∷◌, ◌++◌, length, Option, None, Some, refl, subst, arith}
 use Rattle.std.specs.Prelude.{IsTrue, codes, decimal}
 use Rattle.std.specs.Fmt.{digits}
 use Rattle.std.specs.Str.{bytes_eq}

@@ -19,6 +19,7 @@ use Rattle.hp_past.specs.Remembered.{Remembered, variable_of, Keeps, Says, insta
 use Rattle.hp_past.specs.Remembering.{HasContract, Tells}
 use Rattle.hp_past.specs.Unfolding.{unfolded, next_number}
 use Rattle.law_past.specs.Remembered.{IsChecked, Reacts}
+use Rattle.law_past.specs.OneBit.{IsOneBit}
 
 -- A formula that a contract of an accepted program remembers is remembered by the same node's contract with inlined calls replaced and clocks written.
 abbrev pub KeptLaw : Type 0
@@ -30,9 +31,9 @@ KeptLaw =
 abbrev pub AlwaysTells : List Item → List ℕ → List ℕ → Remembered → Type 0
 AlwaysTells after f v m = (c : Contract) (now : Instant) (past : Past) → Reacts after f c now past → Tells (now (Observer ∷ Named v ∷ [])) (Says m (instants_of now past))
 
--- A new variable of an unfolded contract is an argument of a formula, or remembers one and always tells it.
+-- A new variable of an unfolded contract is an argument of a formula, or remembers one, always tells it, and is one bit of the node's abstraction.
 abbrev pub HasItsValue : List Item → List ℕ → Contract → Decl → Type 0
-HasItsValue after f c v = (v.last ≡ None) ⊎ ((m : Remembered) × (variable_of m ≡ v.name) × Keeps c.body m × AlwaysTells after f v.name m)
+HasItsValue after f c v = (v.last ≡ None) ⊎ ((m : Remembered) × (variable_of m ≡ v.name) × Keeps c.body m × AlwaysTells after f v.name m × IsOneBit after f v.name)
 
 -- The contract of a node in the unfolded program: new variables behind its own, each with its value in the accepted program.
 pub record HasItsValues (source after : List Item) (f : List ℕ) (c : Contract) : Type 0 where

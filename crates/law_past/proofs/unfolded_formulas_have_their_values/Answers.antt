@@ -1,4 +1,5 @@
-use Rattle.law_past.proofs.Unfolded.{kept_law, unfolded_law, written_law}
+use Rattle.law_past.proofs.Programs.{kept_law}
+use Rattle.law_past.proofs.Unfolded.{unfolded_law, written_law}
 use Rattle.law_past.proofs.unfolded_formulas_have_their_values.Goals as goal
 
 pub returns-clause-kept : goal.returns-clause-kept
