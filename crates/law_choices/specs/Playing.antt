@@ -2,3 +2,4 @@ pub mod Given
 pub mod Inputs
 pub mod Steering
 pub mod Laws
+pub mod Mirrored
