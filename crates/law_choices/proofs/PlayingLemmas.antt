@@ -7,3 +7,4 @@ pub mod Asking
 pub mod ControlBits
 pub mod Holding
 pub mod Greatest
+pub mod Programs

@@ -3,3 +3,4 @@ pub mod Inputs
 pub mod Steering
 pub mod Laws
 pub mod Mirrored
+pub mod Greatest

@@ -17,7 +17,8 @@ use Rattle.hp_meaning.specs.Contract.ChosenRuns.{NamesApart}
 use Rattle.law_games.proofs.GuaranteedLemmas.Apart.{found_among}
 use Rattle.law_games.specs.ReadyGames.Laws.{Stands}
 use Rattle.law_choices.specs.Choosing.Choices.{Choices}
-use Rattle.law_choices.specs.Runs.Chosen.{chosen_given, chosen_nodes, inputs_at}
+use Rattle.law_choices.specs.Runs.Chosen.{chosen_given, chosen_meaning, chosen_nodes, inputs_at}
+use Rattle.hp_meaning.specs.Causal.OneReaction.{ReactionOf}
 use Rattle.law_choices.proofs.RunsLemmas.Chosen.{chosen_real}
 
 -- ---- rows
@@ -90,6 +91,14 @@ nodes-found types (NodeItem k ∷ later) items f m a e vs g i p =
     let N = nodes types real (later ++ items) in
     ap (λ b. (if b then node types real N k vs g i else N.instant f vs g i) p) (other-name k later items f m a e) ∙ nodes-found types later items f m a.1 e vs g i p
 
+pub chosen-found : (choices : Choices) (types : List TypeDecl) (later items : List Item) (f : List ℕ) (m : Node) → NamesApart (later ++ items) → node_among items f ≡ Some m → (vs : List Value) (g : Given) (i : Instant) (p : Place)
+    → (chosen_nodes choices types real (later ++ items)).instant f vs g i p ≡ (chosen_nodes choices types real items).instant f vs g i p
+chosen-found choices types [] items f m a e vs g i p = refl
+chosen-found choices types (TypeItem t ∷ later) items f m a e vs g i p = chosen-found choices types later items f m a e vs g i p
+chosen-found choices types (NodeItem k ∷ later) items f m a e vs g i p =
+    let N = chosen_nodes choices types real (later ++ items) in
+    ap (λ b. (if b then node types real N k vs (chosen_given (choices k.name) k vs g) i else N.instant f vs g i) p) (other-name k later items f m a e) ∙ chosen-found choices types later items f m a.1 e vs g i p
+
 own-name : (n : Node) → bytes_eq n.name n.name ≡ true
 own-name n = (bytes_eq-Decides n.name n.name).1 refl
 
@@ -112,3 +121,26 @@ module _ (choices : Choices) (after earlier : List Item) (n : Node) (stands : St
       here p ∙ chosen_real choices after items n.name vs past free now now (λ q. refl) here p
       ∙ sym (nodes-found types stands.0 items n.name n (subst NamesApart stands.1 apart) (own-among n earlier) vs (record { past = past; free = now }) now p)
       ∙ ap (λ xs. (nodes types real xs).instant n.name vs (record { past = past; free = now }) now p) (sym stands.1)
+
+  -- a reaction of the node in which the values are chosen
+  pub runs-of : (rows : List (List Value)) (frees : List Instant) (past : Past) → ReactionOf (chosen_meaning choices real after n.name) rows frees past → Runs choices (types_of after) earlier n rows past
+  runs-of [] [] [] r = tt
+  runs-of [] [] (now ∷ past) r = absurd r
+  runs-of [] (free ∷ frees) past r = absurd r
+  runs-of (vs ∷ rows) [] past r = absurd r
+  runs-of (vs ∷ rows) (free ∷ frees) [] r = absurd r
+  runs-of (vs ∷ rows) (free ∷ frees) (now ∷ past) r =
+      let types = types_of after in
+      let items = NodeItem n ∷ earlier in
+      let given : Given = record { past = past; free = free } in
+      let N = chosen_nodes choices types real earlier in
+      (
+        runs-of rows frees past r.0,
+        (
+          free,
+          λ p. r.1 p
+              ∙ ap (λ xs. (chosen_nodes choices types real xs).instant n.name vs given now p) stands.1
+              ∙ chosen-found choices types stands.0 items n.name n (subst NamesApart stands.1 apart) (own-among n earlier) vs given now p
+              ∙ ap (λ b. (if b then node types real N n vs (chosen_given (choices n.name) n vs given) now else N.instant n.name vs given now) p) (own-name n),
+        ),
+      )
