@@ -8,3 +8,5 @@ pub mod ControlBits
 pub mod Holding
 pub mod Greatest
 pub mod Programs
+pub mod WorkedMirror
+pub mod Drawn

@@ -4,3 +4,5 @@ pub mod Steering
 pub mod Laws
 pub mod Mirrored
 pub mod Greatest
+pub mod Worked
+pub mod Drawn

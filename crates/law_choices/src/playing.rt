@@ -3,8 +3,10 @@
 //! The functions here do nothing: each is a law, which its contract states.
 #![tactic(auto)]
 
+ghost use Rattle.law_choices.specs.Playing.Drawn.{DrawnFlagsLaw};
 ghost use Rattle.law_choices.specs.Playing.Greatest.{GreatestLaw};
 ghost use Rattle.law_choices.specs.Playing.Laws.{InputsChoiceLaw, PlayingLaw, SteeredChoiceLaw};
+ghost use Rattle.law_choices.specs.Playing.Worked.{SomeMirroredLaw};
 ghost use Rattle.law_choices.specs.Playing.Steering.{ControllerAnswersLaw, TypedAtLaw, WholeRunLaw};
 
 use crate::adding::{
@@ -14,12 +16,12 @@ use crate::adding::{
 use crate::answered::extended_nodes_close;
 use hp_controller::{
     added_equations_give_inputs, controlled_nodes_follow_their_controller,
-    controllers_answer_with_the_choice,
+    controllers_answer_with_the_choice, lines_give_their_functions,
 };
 use hp_meaning::contract::{
     choices_are_values, codes_of_values, reactions_are_instants_of_the_game,
 };
-use law_drawing::mirrors::machine_choices_are_kept;
+use law_drawing::mirrors::{drawn_nodes_are_mirrored, machine_choices_are_kept};
 use law_equations::fitting::{calls_are_kept, targets_differ};
 use law_equations::meaning::nodes_have_one_reaction;
 use law_games::forced::{machines_go_along, permitted_is_fitting};
@@ -81,4 +83,18 @@ pub fn nodes_that_know_all_choose_the_greatest()
     permitted_is_fitting();
     machines_go_along();
     machine_choices_are_kept();
+}
+
+/// A node with one controllable variable, whose contract asks for nothing, asks a machine that mirrors it.
+pub fn a_worked_mirror()
+    ensures { SomeMirroredLaw }
+{
+    lines_give_their_functions();
+}
+
+/// The machine of the circuit that is drawn of a node mirrors it, and of each input and free place it is told whether it is early as the mirror has it.
+pub fn drawn_machines_mirror()
+    ensures { DrawnFlagsLaw }
+{
+    drawn_nodes_are_mirrored();
 }

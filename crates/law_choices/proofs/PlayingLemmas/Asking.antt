@@ -62,7 +62,7 @@ are-bits now (x ∷ xs) (b ∷ bits) h =
     let behind : map now xs ≡ map (λ b. B b) bits = cc in
     (here ∙ sym (ap (λ v. B (is_true v)) here), are-bits now xs bits behind)
 
-type-same : (vs : List Variable) (n other : FlatNode) (x : ℕ) → other.variables ≡ n.variables ++ vs → x < length n.variables → type_at other x ≡ type_at n x
+pub type-same : (vs : List Variable) (n other : FlatNode) (x : ℕ) → other.variables ≡ n.variables ++ vs → x < length n.variables → type_at other x ≡ type_at n x
 type-same vs n other x e l = ap (λ us. type_of (slice_get us x)) e ∙ type-more n.variables vs x l
 
 module _ (laws : NodeLaws) (types : List ObcType) (all : Callees) (observers : Observing) (node : Node) (c : Contracted) (g : Ground types all observers node c) where

@@ -218,7 +218,7 @@ module _ (decls : List TypeDecl) where
   values-long (x ∷ ds) [] bits s = absurd s
   values-long (x ∷ ds) (c ∷ cs) bits s = ap suc (values-long ds cs (drop c.width bits) s.2)
 
-  of-long : (ds : List Decl) (vs : List Value) → AreOf decls ds vs → length vs ≡ length ds
+  pub of-long : (ds : List Decl) (vs : List Value) → AreOf decls ds vs → length vs ≡ length ds
   of-long [] [] h = refl
   of-long [] (v ∷ vs) h = absurd h
   of-long (x ∷ ds) [] h = absurd h

@@ -49,7 +49,8 @@ use Rattle.hp_controller.specs.Extending.{ExtendedLaw, cut}
 use Rattle.hp_controller.specs.Steps.{AlwaysSteered, AnswersLaw, IsSteered, Placing, bits_of, control_places, register_places, state_after}
 use Rattle.hp_watch.specs.declared.watching.Free.{Free}
 use Rattle.hp_watch.specs.Adding.{type_at}
-use Rattle.hp_watch.specs.Watching.{free_input, free_inputs, is_integer, unwatched, with_places, Surveyed, Watched}
+use Rattle.hp_watch.specs.Embedding.{embedded, shift_of}
+use Rattle.hp_watch.specs.Watching.{Observing, Surveyed, Watched, free_input, free_inputs, free_placed, is_integer, moved_free, own_site, placed, unwatched, walked, with_places}
 use Rattle.law_choices.specs.Answered.Loops.{IsItsChoice}
 use Rattle.law_choices.specs.Choosing.Choices.{Choices}
 use Rattle.law_choices.specs.Coded.Codes.{all_bits_at, bits_of_kinds, early_places}
@@ -64,7 +65,7 @@ use Rattle.law_choices.proofs.AddingLemmas.Rows.{each_range}
 use Rattle.law_choices.proofs.CodedLemmas.Kinds.{code_bits_law, input_bits_law}
 use Rattle.law_choices.proofs.InTurnLemmas.Contracted.{Ground, NodeLaws, chooses, chosen_is_headed, chosen_named}
 use Rattle.law_choices.proofs.PlayingLemmas.Asking.{are_coded, asking, chosen, controls, cut-all, early_below, early_many, is_steered, machine, made, made_inputs, name, plant_below, seen, survey, type-same}
-use Rattle.law_choices.proofs.PlayingLemmas.ControlBits.{Suits, chosen-back, control_row, controls-are, here as same_place, suits}
+use Rattle.law_choices.proofs.PlayingLemmas.ControlBits.{Suits, chosen-back, controls-are, here as same_place, of-long, suits}
 use Rattle.law_choices.proofs.PlayingLemmas.Flags.{all-early, all_true, flags-inputs, inputs-alone, none-late}
 use Rattle.law_choices.proofs.PlayingLemmas.Holding.{AreLong, Does, Runs, controls-held, found, inputs-held, meets}
 use Rattle.law_choices.proofs.PlayingLemmas.Inputs.{inputs_choice_law}
@@ -85,12 +86,6 @@ inputs-fit types [] [] h = tt
 inputs-fit types [] (v ∷ vs) h = absurd h
 inputs-fit types (d ∷ ds) [] h = absurd h
 inputs-fit types (d ∷ ds) (v ∷ vs) h = (abstract-of types d.ty v h.0, inputs-fit types ds vs h.1)
-
-of-long : (types : List TypeDecl) (ds : List Decl) (vs : List Value) → AreOf types ds vs → length vs ≡ length ds
-of-long types [] [] h = refl
-of-long types [] (v ∷ vs) h = absurd h
-of-long types (x ∷ ds) [] h = absurd h
-of-long types (x ∷ ds) (v ∷ vs) h = ap suc (of-long types ds vs h.1)
 
 -- a value of a type is one that may be chosen, where some may
 one-choice : (types : List TypeDecl) (t : Ty) (v w : Value) → IsOf types t v → IsAmong (choices_of types t) w → IsAmong (choices_of types t) v
@@ -118,7 +113,7 @@ codes-kinds types [] vs = refl
 codes-kinds types (d ∷ ds) [] = refl
 codes-kinds types (d ∷ ds) (v ∷ vs) = ap₂ (λ a b. a ++ b) (code_bits_law types d.ty v) (codes-kinds types ds vs)
 
-range-long : (a k : ℕ) → length (range_with_len a k) ≡ k
+pub range-long : (a k : ℕ) → length (range_with_len a k) ≡ k
 range-long a zero = refl
 range-long a (suc k) = ap suc (range-long (a + 1) k)
 
@@ -202,7 +197,11 @@ module _ (laws : ChoiceLaws) (program after : List Item) (ranks : List (List ℕ
   inputs-free : (s.free ≡ free_inputs c.plant count) × (length (free_inputs c.plant count) ≡ length places)
   inputs-free =
       let fits = ((g.is).is_watched).fits in
-      inputs-alone types decls c.plant n.inputs (below Inputs (λ q. q)) _ _ known.inputs (fits.places ∙ ap length all-flags ∙ length-map places (λ q. true))
+      let own = fits.own in
+      let site = own_site count c.plant in
+      let put = placed observers (length c.plant.eqns) (embedded own.node site c.plant) in
+      inputs-alone types decls c.plant n.inputs (below Inputs (λ q. q)) (map (moved_free (shift_of own.node site c.plant)) own.free) (flat_map (free_placed observers put) (walked n c.plant)) known.inputs
+      (fits.places ∙ ap length all-flags ∙ length-map places (λ q. true))
 
   early-free : early_places s.free (g.is).is_early ≡ free_inputs c.plant count
   early-free = ap (early_places s.free) all-flags ∙ ap (λ fs. early_places fs (all_true places)) inputs-free.0 ∙ all-early (free_inputs c.plant count) places inputs-free.1

@@ -58,7 +58,7 @@ use Rattle.law_choices.proofs.AnsweredLemmas.Programs.{decls_kinds, takes_kinds}
 use Rattle.law_choices.proofs.InTurnLemmas.Contracted.{Ground}
 use Rattle.law_choices.proofs.InTurnLemmas.Programs.{Grounded, TurnLaws, all_old, all_own, all_stand, have_bytes}
 use Rattle.law_choices.proofs.OnClocksLemmas.Programs.{some_of, types_low}
-use Rattle.law_choices.proofs.PlayingLemmas.Greatest.{ChoiceLaws, Known as KnownNode, node-greatest}
+use Rattle.law_choices.proofs.PlayingLemmas.Greatest.{ChoiceLaws, Known as KnownNode, node-greatest, range-long}
 use Rattle.law_choices.proofs.PlayingLemmas.Holding.{runs-of}
 use Rattle.law_choices.proofs.RunsLemmas.Wholes.{typed-through}
 
@@ -108,10 +108,6 @@ behind-row g a n [] js h =
     let start : a ≡ a + 0 = omega arith in
     let long : length js ≡ n = ap length h ∙ length-map (range_with_len a n) g ∙ range-long a n in
     ap (λ i. map g (range_with_len i (length js))) (sym start) ∙ ap (λ i. map g (range_with_len a i)) long ∙ sym h
-  where
-    range-long : (a k : ℕ) → length (range_with_len a k) ≡ k
-    range-long a zero = refl
-    range-long a (suc k) = ap suc (range-long (a + 1) k)
 behind-row g a zero (k ∷ ks) js h = absurd cc
 behind-row g a (suc n) (k ∷ ks) js h =
     let rest : ks ++ js ≡ map g (range_with_len (a + 1) n) = cc in
@@ -271,8 +267,8 @@ module _ (laws : GreatestLaws) (program after : List Item) (ranks : List (List �
 
         by : (cs : List Control) → (mirror.is).controls ≡ cs → IsOwn cs c → IsItsChoice answers (timely.kinds_of_decls decls n.inputs) (length (mirror.is).controls) c.own (choices n.name)
             → IsItsChoice answers (timely.kinds_of_decls decls n.inputs) (length (mirror.is).controls) c.chosen.node (choices n.name)
-        by [] e o it args earlier a b now past r =
-            no-choice args earlier (sym (mirror.is).count ∙ ap length e) ∙ sym (ap (λ xs. map now (range_with_len c.chosen.node.inputs (length xs))) e)
+        by [] e o it =
+            λ args earlier a b now past r. no-choice args earlier (sym (mirror.is).count ∙ ap length e) ∙ sym (ap (λ (xs : List Control). map now (range_with_len c.chosen.node.inputs (length xs))) e)
         by (x ∷ cs) e o it = subst (λ (z : FlatNode). IsItsChoice answers (timely.kinds_of_decls decls n.inputs) (length (mirror.is).controls) z (choices n.name)) o it
 
     gives : GivesAnswers answers all.takes c.controller
