@@ -195,8 +195,7 @@ module _ (laws : NodeLaws) (types : List ObcType) (all : Callees) (observers : O
       let v = (k.grows).variables in
       let u = ((bits.keeps).grows).variables in
       let m = more_variables in
-      let p = whole.placed in
-      (
+      let p = whole.placed in (
         u.0 ++ (m.0 ++ v.0),
         p.variables ∙ v.1 ∙ ap (λ vs. vs ++ v.0) m.1 ∙ append_assoc made.node.variables m.0 v.0 ∙ ap (λ vs. vs ++ (m.0 ++ v.0)) u.1 ∙ append_assoc survey.node.variables u.0 (m.0 ++ v.0),
       )
@@ -262,8 +261,7 @@ module _ (laws : NodeLaws) (types : List ObcType) (all : Callees) (observers : O
     always_bits [] (now ∷ past) r p = absurd r
     always_bits (row ∷ rows) [] r p = absurd r
     always_bits (row ∷ rows) (now ∷ past) r p =
-        let coded = are_coded past row now r.1 p.0 in
-        (
+        let coded = are_coded past row now r.1 p.0 in (
           (cut_bits now made.early _ (below_all made.early bits.early) coded.early, cut_bits now made.late _ (below_all made.late bits.late) coded.late),
           always_bits rows past r.0 p.1,
         )

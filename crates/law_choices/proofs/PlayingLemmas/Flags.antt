@@ -1,5 +1,6 @@
 -- Where nothing is free but the inputs, all that is watched are the inputs, and they are early.
 use Rattle.std.proofs.Common.{◌≡◌, ℕ, zero, suc, ◌+◌, Bool, true, false, if◌then◌else◌, List, [], ◌∷◌, ◌++◌, length, map, refl, sym, ap, subst, ◌∙◌, arith}
+use Rattle.std.specs.Prelude.{None}
 use Rattle.std.specs.List.{flat_map, range_with_len}
 use Rattle.std.specs.Str.{bytes_eq}
 use Rattle.std.proofs.lemmas.List.{append-nil, append_cancel_left, length-append, length-map}
@@ -103,7 +104,8 @@ free-long types decls n [] first w h = refl
 free-long types decls n (d ∷ ds) first w h =
     let here : variable_kind types n.variables first ≡ kind_of decls d.ty = cc in
     let behind : map (variable_kind types n.variables) (range_with_len (first + 1) (length ds)) ≡ kinds_of_decls decls ds = cc in
-    let one = one-long types decls _ (w (Head ∷ [])) (type_at n first) d.ty (sym (kind-at types n first) ∙ here) in
+    let place : Free = record { variable = first; eqn = None } in
+    let one = one-long types decls place (w (Head ∷ [])) (type_at n first) d.ty (sym (kind-at types n first) ∙ here) in
     let more = free-long types decls n ds (first + 1) (below Tail w) behind in
     let left = length-append (free_input n first) (flat_map (free_input n) (range_with_len (first + 1) (length ds))) in
     let right = length-append (placed (w (Head ∷ [])) d.ty) (places_in_row ds (below Tail w)) in

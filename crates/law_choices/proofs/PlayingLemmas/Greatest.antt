@@ -268,14 +268,14 @@ module _ (laws : ChoiceLaws) (program after : List Item) (ranks : List (List ℕ
     one-chosen : (row : List Value) (rows : List (List Value)) (older : Past) (free now : Instant) (i : flat.Instant) (instants : List flat.Instant) → AllByRecursion (AreOfKinds (kinds_of_decls decls n.inputs)) (row ∷ rows) → Reaction answers choosing (row ∷ rows) (i ∷ instants)
         → Runs choices decls earlier n rows older → Does choices decls earlier n row older free now → (x : IsSteered m p (asked instants) (cut V i)) → map (cut V i) (range_with_len (w.node.inputs - length cs) (length cs)) ≡ values_by cs x.choice
         → controls_at n now ≡ values_by cs x.choice
-    one-chosen row rows older free now i instants kinds reaction runs does x made =
+    one-chosen row rows older free now i instants kinds reaction runs does x taken =
         let long = rows-long rows (rows-of rows kinds.1) in
         let many = of-long decls (controls_of n.contract) (choices n.name row rows) (values row rows) in
         controls-held choices decls earlier n row rows older free now long runs many does
         ∙ its row rows kinds.0 kinds.1 i instants reaction
         ∙ sym (cut-all V i (range_with_len choosing.inputs (length cs)) controls-below)
         ∙ ap (λ t. map (cut V i) (range_with_len t (length cs))) (sym target-is)
-        ∙ made
+        ∙ taken
 
     state-long : (now : flat.Instant) (instants : List flat.Instant) → IsSteered m p instants now → length (state_after m p instants) ≡ m.registers
     state-long now instants x =
@@ -288,9 +288,9 @@ module _ (laws : ChoiceLaws) (program after : List Item) (ranks : List (List ℕ
     one-gives : (row : List Value) (rows : List (List Value)) (older : Past) (free now : Instant) (i : flat.Instant) (instants : List flat.Instant) → AllByRecursion (AreOfKinds (kinds_of_decls decls n.inputs)) (row ∷ rows) → Reaction answers choosing (row ∷ rows) (i ∷ instants)
         → IsPossible types choosing i → Runs choices decls earlier n rows older → Does choices decls earlier n row older free now → Typed after n now → (x : IsSteered m p (asked instants) (cut V i))
         → map (cut V i) (range_with_len (w.node.inputs - length cs) (length cs)) ≡ values_by cs x.choice → One older (cut V i) now row
-    one-gives row rows older free now i instants kinds reaction possible runs does is-typed x made =
+    one-gives row rows older free now i instants kinds reaction possible runs does is-typed x taken =
         let of = are_of decls n.inputs row known.differ kinds.0 in
-        let chosen-values = one-chosen row rows older free now i instants kinds reaction runs does x made in
+        let chosen-values = one-chosen row rows older free now i instants kinds reaction runs does x taken in
         let long = rows-long rows (rows-of rows kinds.1) in
         let many = of-long decls (controls_of n.contract) (choices n.name row rows) (values row rows) in
         let held = controls-held choices decls earlier n row rows older free now long runs many does in
@@ -299,8 +299,7 @@ module _ (laws : ChoiceLaws) (program after : List Item) (ranks : List (List ℕ
         let coded = are_coded laws.nodes types all observers n c g answers instants row i reaction.1 possible in
         let bits = bits-given (cut V i) w.early (all_bits_at types s.node i (early_places s.free (g.is).is_early)) (cut-all V i w.early (early_below laws.nodes types all observers n c g answers) ∙ coded.early) in
         let back = chosen-back laws.codes laws.widths laws.of_types after earlier n m known.mirrors cs known.differ suit known.order known.some
-        (state_after m p (asked instants)) (bits_of (cut V i) p.early) x.choice (state-long (cut V i) (asked instants) x) (length-map w.early (λ y. flat.is_true (cut V i y)) ∙ early_many laws.nodes types all observers n c g) x.chosen in
-        (
+        (state_after m p (asked instants)) (bits_of (cut V i) p.early) x.choice (state-long (cut V i) (asked instants) x) (length-map w.early (λ y. flat.is_true (cut V i y)) ∙ early_many laws.nodes types all observers n c g) x.chosen in (
           record {
             inputs = row;
             fit = fit;
@@ -319,30 +318,30 @@ module _ (laws : ChoiceLaws) (program after : List Item) (ranks : List (List ℕ
 
     gives-all : (rows : List (List Value)) (instants : List flat.Instant) (past : Past) → AllByRecursion (AreOfKinds (kinds_of_decls decls n.inputs)) rows → Reaction answers choosing rows instants → AllByRecursion (IsPossible types choosing) instants
         → Runs choices decls earlier n rows past → Through (λ older now. Typed after n now) past → (steered : AlwaysSteered m p (asked instants)) → AreChosen m p target cs (asked instants) steered → GiveInputs after n m p (asked instants) past
-    gives-all [] [] [] k r q h t steered made = tt
-    gives-all [] [] (now ∷ past) k r q h t steered made = absurd h
-    gives-all [] (i ∷ instants) past k r q h t steered made = absurd r
-    gives-all (row ∷ rows) [] past k r q h t steered made = absurd r
-    gives-all (row ∷ rows) (i ∷ instants) [] k r q h t steered made = absurd h
-    gives-all (row ∷ rows) (i ∷ instants) (now ∷ past) k r q h t steered made =
-        (gives-all rows instants past k.1 r.0 q.1 h.0 t.0 steered.1 made.1, (one-gives row rows past h.1.0 now i instants k r q.0 h.0 h.1.1 t.1 steered.0 made.0).0)
+    gives-all [] [] [] k r q h t steered taken = tt
+    gives-all [] [] (now ∷ past) k r q h t steered taken = absurd h
+    gives-all [] (i ∷ instants) past k r q h t steered taken = absurd r
+    gives-all (row ∷ rows) [] past k r q h t steered taken = absurd r
+    gives-all (row ∷ rows) (i ∷ instants) [] k r q h t steered taken = absurd h
+    gives-all (row ∷ rows) (i ∷ instants) (now ∷ past) k r q h t steered taken =
+        (gives-all rows instants past k.1 r.0 q.1 h.0 t.0 steered.1 taken.1, (one-gives row rows past h.1.0 now i instants k r q.0 h.0 h.1.1 t.1 steered.0 taken.0).0)
 
     abbrev AreGreatest : Past → Type 0
     AreGreatest past = Through (λ older now. IsChosen after n (erase older) (row_of n.inputs (part Inputs now)) now (controls_at n now)) past
 
     greatest : (rows : List (List Value)) (instants : List flat.Instant) (past : Past) → AllByRecursion (AreOfKinds (kinds_of_decls decls n.inputs)) rows → Reaction answers choosing rows instants → AllByRecursion (IsPossible types choosing) instants
         → Runs choices decls earlier n rows past → Through (λ older now. Typed after n now) past → (steered : AlwaysSteered m p (asked instants)) → AreChosen m p target cs (asked instants) steered → AreGreatest past
-    greatest [] [] [] k r q h t steered made = tt
-    greatest [] [] (now ∷ past) k r q h t steered made = absurd h
-    greatest [] (i ∷ instants) past k r q h t steered made = absurd r
-    greatest (row ∷ rows) [] past k r q h t steered made = absurd r
-    greatest (row ∷ rows) (i ∷ instants) [] k r q h t steered made = absurd h
-    greatest (row ∷ rows) (i ∷ instants) (now ∷ past) k r q h t steered made =
-        let one = one-gives row rows past h.1.0 now i instants k r q.0 h.0 h.1.1 t.1 steered.0 made.0 in
-        let given : GiveInputs after n m p (asked (i ∷ instants)) (now ∷ past) = (gives-all rows instants past k.1 r.0 q.1 h.0 t.0 steered.1 made.1, one.0) in
+    greatest [] [] [] k r q h t steered taken = tt
+    greatest [] [] (now ∷ past) k r q h t steered taken = absurd h
+    greatest [] (i ∷ instants) past k r q h t steered taken = absurd r
+    greatest (row ∷ rows) [] past k r q h t steered taken = absurd r
+    greatest (row ∷ rows) (i ∷ instants) [] k r q h t steered taken = absurd h
+    greatest (row ∷ rows) (i ∷ instants) (now ∷ past) k r q h t steered taken =
+        let one = one-gives row rows past h.1.0 now i instants k r q.0 h.0 h.1.1 t.1 steered.0 taken.0 in
+        let given : GiveInputs after n m p (asked (i ∷ instants)) (now ∷ past) = (gives-all rows instants past k.1 r.0 q.1 h.0 t.0 steered.1 taken.1, one.0) in
         let it = inputs_choice_law laws.fitting laws.played program after ranks order earlier n stands alone m known.mirrors known.order known.many p none-is-late (cut V i) (asked instants) now past steered given in
         let held = inputs-held choices decls earlier n row past h.1.0 now (of-long decls n.inputs row (are_of decls n.inputs row known.differ k.0)) h.1.1 in
-        (greatest rows instants past k.1 r.0 q.1 h.0 t.0 steered.1 made.1, subst (λ vs. IsChosen after n (erase past) vs now (controls_at n now)) (one.1 ∙ sym held) it)
+        (greatest rows instants past k.1 r.0 q.1 h.0 t.0 steered.1 taken.1, subst (λ vs. IsChosen after n (erase past) vs now (controls_at n now)) (one.1 ∙ sym held) it)
 
     chosen-kinds : kinds_at types choosing (inputs_of choosing) ≡ kinds_of_decls decls n.inputs
     chosen-kinds =

@@ -133,8 +133,7 @@ module _ (choices : Choices) (after earlier : List Item) (n : Node) (stands : St
       let types = types_of after in
       let items = NodeItem n ∷ earlier in
       let given : Given = record { past = past; free = free } in
-      let N = chosen_nodes choices types real earlier in
-      (
+      let N = chosen_nodes choices types real earlier in (
         runs-of rows frees past r.0,
         (
           free,

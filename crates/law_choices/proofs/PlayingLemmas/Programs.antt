@@ -168,11 +168,10 @@ module _ (laws : GreatestLaws) (program after : List Item) (ranks : List (List �
   find (TypeItem t ∷ items) earlier made e is of mirrored own grounded given their =
       find items (TypeItem t ∷ earlier) made (e ∙ ap (λ xs. xs ++ earlier) (reverse-append (TypeItem t ∷ []) items) ∙ append_assoc (reverse items) (TypeItem t ∷ []) earlier) is of mirrored own grounded given their
   find (NodeItem n ∷ items) earlier [] e is of mirrored own grounded given their = absurd is
-  find (NodeItem n ∷ items) earlier (plain f ∷ made) e is of mirrored own grounded given their =
-      (
-        inl (none n.contract refl is.0),
-        find items (NodeItem n ∷ earlier) made (e ∙ ap (λ xs. xs ++ earlier) (reverse-append (NodeItem n ∷ []) items) ∙ append_assoc (reverse items) (NodeItem n ∷ []) earlier) is.1 of.1 mirrored own.1 grounded.1 given.1 their.1,
-      )
+  find (NodeItem n ∷ items) earlier (plain f ∷ made) e is of mirrored own grounded given their = (
+    inl (none n.contract refl is.0),
+    find items (NodeItem n ∷ earlier) made (e ∙ ap (λ xs. xs ++ earlier) (reverse-append (NodeItem n ∷ []) items) ∙ append_assoc (reverse items) (NodeItem n ∷ []) earlier) is.1 of.1 mirrored own.1 grounded.1 given.1 their.1,
+  )
     where
       none : (o : Option Contract) → n.contract ≡ o → IsMade types observers n o (plain f) → n.contract ≡ None
       none None q i = q
@@ -181,8 +180,7 @@ module _ (laws : GreatestLaws) (program after : List Item) (ranks : List (List �
       let behind = e ∙ ap (λ xs. xs ++ earlier) (reverse-append (NodeItem n ∷ []) items) ∙ append_assoc (reverse items) (NodeItem n ∷ []) earlier in
       let it = grounded.0 in
       let named : (it.0).name ≡ n.name = sym (it.1).named ∙ (of.0).name in
-      let same : it.0 ≡ n = let both : Some it.0 ≡ Some n = sym it.5 ∙ ap (node_among (reverse after)) named ∙ own.0 in cc in
-      (
+      let same : it.0 ≡ n = let both : Some it.0 ≡ Some n = sym it.5 ∙ ap (node_among (reverse after)) named ∙ own.0 in cc in (
         inr (record {
           earlier = earlier;
           stands = (reverse items, behind);
