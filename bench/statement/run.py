@@ -19,13 +19,13 @@ SHORT_PAGE = f'{TOP}/docs/PROVED.md'
 MARK = '<!-- These two tables are written by bench/statement/run.py --write. -->\n'
 # of each claim the tables of rows that show it, and the crates whose wrong bodies (must-fail/, docs/edits) are refused by what it rests on
 CLAIMS = {
-    '1 accepted, or the first refusal': ('tokens grammar names types definitions expansion front limits random checked', 'hp_arguments hp_base hp_expand hp_clocks hp_init hp_cause'),
-    '2 runs are right': ('run traces worked', 'hp_lines hp_meaning hp_obc hp_automata hp_complete hp_schedule hp_normal hp_toobc hp_fuse'),
+    '1 accepted, or the first refusal': ('tokens grammar names types definitions expansion front limits random checked', 'hp_arguments hp_base hp_parser hp_names hp_typing hp_compile hp_expand hp_clocks hp_init hp_cause'),
+    '2 runs are right': ('run traces worked', 'hp_lines hp_meaning hp_obc hp_automata hp_complete hp_schedule hp_normal hp_toobc hp_fuse hp_exec'),
     '3 `E11` is exact': ('contracts', 'hp_diagram hp_quant hp_synth hp_drawing hp_abstract hp_circuit'),
     '4 `compile`, then `exec`': ('machines machine_forms run', 'hp_obc hp_toobc hp_fuse'),
     '5 `prove` and `verify`': ('contracts', 'hp_cert hp_quant'),
     '6 a stopped run goes on': ('checkpoints resumed', 'hp_exec hp_obctext'),
-    'each status has its cause': ('words faults system', 'hp_io'),
+    'each status has its cause': ('words faults system', 'hp_io hp_driver'),
     'values that are chosen (tested)': ('controlled worked', 'hp_control hp_watch hp_controlled'),
 }
 LAST_PART = '\n## For proofs alone'

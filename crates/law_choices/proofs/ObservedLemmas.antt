@@ -3,7 +3,9 @@ pub mod Bodies
 pub mod Calls
 pub mod Clocks
 pub mod Firsts
+pub mod Fitting
 pub mod Known
+pub mod Named
 pub mod Programs
 pub mod Removable
 pub mod Said

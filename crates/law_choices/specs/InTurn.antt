@@ -1,6 +1,7 @@
 pub mod Nodes
 pub mod Calling
 pub mod Laws
+pub mod AllowedRuns
 pub mod Allowed
 pub mod Worked
 pub mod Observers

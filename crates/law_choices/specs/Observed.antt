@@ -1,3 +1,4 @@
 pub mod Contracts
 pub mod Laws
+pub mod Texts
 pub mod Worked

@@ -11,11 +11,12 @@ use Rattle.hp_flat.specs.Nodes.{FlatNode}
 use Rattle.hp_machines.specs.Making.{AreMade}
 use Rattle.law_equations.specs.Made.Types.{obc_types}
 use Rattle.law_equations.specs.Meaning.Scheduling.{IsWithin}
+use Rattle.law_games.specs.ReadyGames.Laws.{ReadyContractsLaw}
 use Rattle.law_history.proofs.StreamsLemmas.MadeMachines.{have_few}
 use Rattle.law_choices.specs.InTurn.Laws as turn
 use Rattle.law_choices.specs.InTurn.Nodes.{all_nodes}
 use Rattle.law_choices.specs.InTurn.Standing.{StandsLaw}
-use Rattle.law_choices.specs.Observed.Laws.{CanBeObservedLaw}
+use Rattle.law_choices.specs.Observed.Laws.{CanBeObservedLaw, TestedObserversLaw}
 use Rattle.hp_controlled.specs.Compiled.{AreNodes, HaveMachines}
 use Rattle.law_controlled.specs.Machines.{AnswerAsWhole, IsWritable, TurnMachinesLaw}
 use Rattle.law_controlled.specs.Names.{HasFreeNames}
@@ -29,8 +30,9 @@ writable (n ∷ ns) h k =
     let names = k.0 in
     (record { within = h.0; names_differ = names.differ; names_own = names.own }, writable ns h.1 k.1)
 
-pub allowed_law : CanBeObservedLaw → ObserversSuitLaw → MadeNodesLaw → MadeNamesLaw → TurnMachinesLaw → turn.TurnLaw → turn.WithinLaw → turn.ChoosingProgramLaw → StandsLaw → AllowedLaw
-allowed_law can_law observers_law made_law names_law machines_law in_turn within means standing program after ranks o ready removable fall form short names machines owed =
+pub allowed_law : CanBeObservedLaw → TestedObserversLaw → ReadyContractsLaw → ObserversSuitLaw → MadeNodesLaw → MadeNamesLaw → TurnMachinesLaw → turn.TurnLaw → turn.WithinLaw → turn.ChoosingProgramLaw → StandsLaw → AllowedLaw
+allowed_law can_law tested_law contracts_law observers_law made_law names_law machines_law in_turn within means standing program after ranks o order removable form short names observable machines =
+    let ready = order.ready in
     let c = machines.machines in
     let equations = c.equations in
     let have = c.have in
@@ -39,7 +41,8 @@ allowed_law can_law observers_law made_law names_law machines_law in_turn within
     let its_form = subst TypesForm machines.types machines.form in
     let its_machines = subst (λ (ts : List ObcType). AreMade ts have.nodes o.machines) machines.types have.made in
     let made = made_law after types c.observers (known_of (lowered_program after)) (enumerations [] after) after c.plants have.nodes equations.made are in
-    let can = can_law program after ready removable form short owed.calls owed.observable owed.tested in
+    let calls = contracts_law program after ready order.conditions in
+    let can = can_law program after ready removable form short calls observable (tested_law program after ranks order removable form short calls observable) in
     let suit = observers_law program after c.observers made.all ready form names can made.made c.observed in
     let chooses : turn.IsChoosing program after c.observers made.all = record {
       ready = ready;
@@ -53,7 +56,7 @@ allowed_law can_law observers_law made_law names_law machines_law in_turn within
       made = made.made;
     } in
     let free = names_law program after types c.observers c.plants have.nodes ready equations.made made (have_few types have.nodes o.machines its_machines) in
-    let allowed = means program after ranks c.observers made.all fall chooses in
+    let allowed = means program after ranks c.observers made.all order.ordered chooses in
     let runs = machines_law types (turn.said_of after made.all) (all_nodes made.all) have.nodes o.machines its_form (in_turn program after c.observers made.all chooses)
     (writable (all_nodes made.all) (within program after c.observers made.all chooses) free) made.from its_machines allowed.one in
     record {

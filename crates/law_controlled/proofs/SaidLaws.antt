@@ -17,13 +17,17 @@ use Rattle.hp_flat.specs.Nodes.{FlatNode}
 use Rattle.law_equations.specs.Answered.Answering.{AreApart}
 use Rattle.law_equations.specs.Followed.Programs.{all_answers}
 use Rattle.law_history.proofs.StreamsLemmas.NamesApart.{name_found, own_found, ready_apart_after}
-use Rattle.law_choices.specs.InTurn.Allowed.{AllowedRunLaw, IsAllowedRun}
+use Rattle.law_games.specs.ReadyGames.Laws.{TextOrderLaw}
+use Rattle.law_choices.specs.Observed.Texts.{ObservableTextsLaw}
+use Rattle.law_choices.specs.InTurn.AllowedRuns.{IsAllowedRun}
+use Rattle.law_choices.specs.InTurn.Allowed.{AllowedRunLaw}
 use Rattle.law_choices.specs.InTurn.Laws.{said_of}
 use Rattle.law_choices.specs.InTurn.Nodes.{all_nodes}
 use Rattle.law_choices.specs.InTurn.Texts.{SignLaw}
 use Rattle.law_choices.proofs.OnClocksLemmas.Texts.{when_accepted}
 use Rattle.law_controlled.specs.Allowed.{AllowedLaw, RunsAllowed}
-use Rattle.law_controlled.specs.Said.{SaidLaw, SaysAllowed}
+use Rattle.law_controlled.specs.Saying.{SaysAllowed}
+use Rattle.law_controlled.specs.Said.{SaidLaw}
 
 -- ---- the node of a name, from either end
 
@@ -73,8 +77,9 @@ module _ (law : AllowedRunLaw) (after : List Item) (o : Obc) (r : RunsAllowed af
       let same : reverse (run (machine_behaviour o f) (reverse inputs)) ≡ all_answers (answers f) inputs = ap reverse said ∙ reverse-reverse (all_answers (answers f) inputs) in
       subst (IsAllowedRun after f inputs) (sym same) (law after r.all r.allowed f n inputs e kinds)
 
-pub said_law : AllowedRunLaw → AllowedLaw → SignLaw → SaidLaw
-said_law runs allowed sign text tokens program after ranks o a p named typed defined formed initialised clocks fall machines owed f n e =
+pub said_law : AllowedRunLaw → AllowedLaw → SignLaw → TextOrderLaw → ObservableTextsLaw → SaidLaw
+said_law runs allowed sign order observable text tokens program after ranks o a p named typed defined formed initialised clocks fall machines f n e =
     let q = when_accepted text tokens program after a p named typed defined formed initialised clocks in
-    let r = allowed program after ranks o q.ready q.removable fall q.form q.short (sign text tokens program after a p clocks) machines owed in
+    let r =
+    allowed program after ranks o (order text tokens program after ranks a p named typed defined formed initialised clocks fall) q.removable q.form q.short (sign text tokens program after a p clocks) (observable text tokens program after a p clocks) machines in
     says runs after o r f n (from_behind after (ready_apart_after program after q.ready) f n e)

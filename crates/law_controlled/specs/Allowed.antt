@@ -7,10 +7,8 @@ use Rattle.hp_obc.specs.Machines.{Obc}
 use Rattle.hp_tree.specs.declared.program.Item.{Item}
 use Rattle.hp_tree.specs.Meaning.{types_of, node_among}
 use Rattle.hp_tree.specs.Programs.{Node}
-use Rattle.hp_meaning.specs.Causal.RanksOfPoints.{AllFall}
-use Rattle.hp_meaning.specs.Contract.Forgetting.{ContractsCallNothing}
 use Rattle.law_judged.specs.Named.Scoped.{EachNode}
-use Rattle.law_values.specs.Accepted.Laws.{IsReady}
+use Rattle.law_games.specs.ReadyGames.Laws.{IsInOrder}
 use Rattle.hp_automata.specs.NewNames.{is_new}
 use Rattle.law_automata.specs.Lowered.Removable.{IsRemovable}
 use Rattle.law_equations.specs.Made.Types.{obc_types, obc_types_of}
@@ -20,9 +18,7 @@ use Rattle.law_choices.specs.InTurn.Laws.{IsAllowed, said_of}
 use Rattle.law_choices.specs.InTurn.Nodes.{Made, AreAllMade, all_nodes, loops}
 use Rattle.law_choices.specs.InTurn.Standing.{StandsFor}
 use Rattle.law_choices.specs.Observed.Contracts.{IsObservable}
-use Rattle.law_choices.specs.Observed.Laws.{AreTestedObservers}
 use Rattle.hp_controlled.specs.Chosen.{AreControlledMachines}
-use Rattle.hp_controlled.specs.Compiled.{AreCompiled}
 use Rattle.law_controlled.specs.Machines.{AnswerAsWhole}
 use Rattle.law_controlled.specs.Names.{HasFreeNames}
 
@@ -33,14 +29,8 @@ pub record RunsAllowed (after : List Item) (o : Obc) : Type 0 where
   pub runs : AnswerAsWhole o.types o.machines allowed.one.answers (said_of after all).takes (all_nodes all)
   pub stands : (f : List ℕ) (n : Node) → node_among (reverse after) f ≡ Some n → StandsFor after all f n
 
--- What is asked of compiled machines and is not proved yet: contracts hold no call; their names and integers are such as those of a text; and the tests of their observers are typed.
-pub record AreOwed (after : List Item) (o : Obc) (c : AreCompiled after o.types o.machines) : Type 0 where
-  pub calls : ContractsCallNothing after
-  pub observable : EachNode IsObservable after
-  pub tested : AreTestedObservers after
-
--- So it is of the machines that are compiled of a ready program whose points have ranks.
+-- So it is of the machines that are compiled of a ready program in order, whose contracts can be observed.
 abbrev pub AllowedLaw : Type 0
 AllowedLaw =
-    (program after : List Item) (ranks : List (List ℕ)) (o : Obc) → IsReady program after → IsRemovable after → AllFall after ranks → TypesForm (obc_types_of program) → EachNode NodeShort after → EachNode (λ (n : Node). is_new n.name ≡ false) after
-    → (machines : AreControlledMachines after o) → AreOwed after o machines.machines → RunsAllowed after o
+    (program after : List Item) (ranks : List (List ℕ)) (o : Obc) → IsInOrder program after ranks → IsRemovable after → TypesForm (obc_types_of program) → EachNode NodeShort after → EachNode (λ (n : Node). is_new n.name ≡ false) after
+    → EachNode IsObservable after → AreControlledMachines after o → RunsAllowed after o

@@ -4,4 +4,5 @@ pub mod Names
 pub mod Observers
 pub mod Parts
 pub mod Program
+pub mod Saying
 pub mod Said

@@ -17,12 +17,15 @@ use law_choices::in_turn::{
     nodes_that_choose_stand_in_turn, observers_of_contracts_suit, programs_of_texts_may_choose,
     well_built_observers_suit,
 };
-use law_choices::observed::observers_can_be_compiled;
+use law_choices::observed::{
+    contracts_of_texts_can_be_observed, observers_can_be_compiled, tests_of_observers_are_typed,
+};
 use law_choices::part::{parts_keep_form, parts_keep_reactions};
 use law_choices::undisturbed::controls_are_apart;
 use law_equations::fewer::nodes_are_compiled;
 use law_equations::fitting::{larger_names_are_free, names_fit};
 use law_equations::followed::names_are_own;
+use law_games::ready_games::{contracts_call_nothing, programs_of_texts_are_in_order};
 use law_wellmade::apart::names_are_apart;
 
 /// The part that the compiler makes of a node is a part of it, so it answers as the node does.
@@ -79,6 +82,8 @@ pub fn machines_say_what_is_allowed()
     ensures { AllowedLaw }
 {
     observers_can_be_compiled();
+    tests_of_observers_are_typed();
+    contracts_call_nothing();
     observers_suit();
     nodes_are_made();
     names_of_what_is_made_differ();
@@ -94,4 +99,6 @@ pub fn machines_of_texts_say_what_is_allowed()
     machines_say_what_is_allowed();
     nodes_that_choose_answer_as_the_program_allows();
     programs_of_texts_may_choose();
+    programs_of_texts_are_in_order();
+    contracts_of_texts_can_be_observed();
 }

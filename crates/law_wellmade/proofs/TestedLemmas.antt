@@ -10,6 +10,7 @@ pub mod GoodClocks
 pub mod Standing
 pub mod JudgedAround
 pub mod FullTypes
+pub mod ApartKept
 pub mod MadeAround
 pub mod Settled
 pub mod TestedPrograms

@@ -1,3 +1,4 @@
 pub mod Fits
+pub mod Apart
 pub mod Around
 pub mod Laws

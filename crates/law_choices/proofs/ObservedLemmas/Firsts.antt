@@ -6,9 +6,8 @@ use Rattle.hp_tree.specs.Expressions.{Expr}
 use Rattle.hp_tree.specs.Blocks.{Decl, Block, block, Eqns, no_eqn, more_eqns, Eqn, eqns_of, list_of_eqns}
 use Rattle.hp_tree.specs.Programs.{TypeDecl, Contract, Node}
 use Rattle.law_values.specs.Filled.Firsts.{DeclsHaveFirsts, EqnHasFirsts, EqnsHaveFirsts, BlockHasFirsts, ContractHasFirsts, NodeHasFirsts}
-use Rattle.law_wellmade.specs.Spelled.Integers.{ExprShort, LastsShort, EqnShort, EqnsShort, BlockShort, NodeShort}
+use Rattle.law_wellmade.specs.Spelled.Integers.{ExprShort, LastsShort, EqnShort, EqnsShort, BlockShort, ConditionShort, ContractShort, NodeShort}
 use Rattle.hp_watch.specs.Observing.{inputs_for, condition_of, all_handed_on, with_lines, lines_of, observer_of}
-use Rattle.law_choices.specs.Observed.Contracts.{ConditionShort, ContractShort}
 
 -- ---- first values
 

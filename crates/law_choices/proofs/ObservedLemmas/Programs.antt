@@ -1,11 +1,12 @@
 -- The observers of a ready program can be compiled.
-use Rattle.std.proofs.Common.{◌≡◌, ℕ, ◌||◌, List, [], ◌∷◌, map, reverse, refl, sym, subst, ◌∙◌}
+use Rattle.std.proofs.Common.{◌≡◌, ℕ, ◌||◌, List, [], ◌∷◌, ◌++◌, map, reverse, refl, sym, subst, ◌∙◌}
+use Rattle.std.proofs.lemmas.List.{append_assoc}
 use Rattle.std.specs.Prelude.{IsFalse}
 use Rattle.std.specs.Str.{bytes_eq}
 use Rattle.hp_tree.specs.declared.program.Item.{Item}
 use Rattle.hp_tree.specs.declared.program.Item.TheVariants.{TypeItem, NodeItem}
 use Rattle.hp_tree.specs.Meaning.{types_of}
-use Rattle.hp_tree.specs.Programs.{Node}
+use Rattle.hp_tree.specs.Programs.{TypeDecl, Node}
 use Rattle.hp_meaning.specs.Causal.Clocked.{ClocksRight}
 use Rattle.hp_meaning.specs.Contract.Forgetting.{ContractsCallNothing}
 use Rattle.law_judged.specs.Named.Scoped.{EachNode, NodeScoped}
@@ -22,13 +23,13 @@ use Rattle.law_values.specs.Filled.Firsts.{TypesHaveConstructors}
 use Rattle.law_values.proofs.AcceptedLemmas.Laws.{accepted}
 use Rattle.law_values.proofs.AcceptedLemmas.SoundNodes.{judged_sound}
 use Rattle.law_automata.specs.Lowered.OldNames.{IsOld}
-use Rattle.law_automata.specs.Readied.Sound.{SoundBehind}
+use Rattle.law_automata.specs.Readied.Sound.{SoundBehind, ConstantsBehind}
 use Rattle.law_automata.proofs.LowerableLemmas.OldNodes.{program_old, old_clocked}
 use Rattle.law_automata.proofs.ReadiedLemmas.HasConstants.{ready_constants_law}
 use Rattle.law_values.specs.Filled.Firsts.{NodeHasFirsts}
 use Rattle.law_values.proofs.FilledLemmas.Ready.{ready_firsts}
 use Rattle.hp_automata.specs.Lowering.{Enumerations, enumerations, lowered_node, lowered_item, lowered_program}
-use Rattle.law_automata.specs.Lowered.Removable.{NodeOk}
+use Rattle.law_automata.specs.Lowered.Removable.{NodeOk, IsRemovable}
 use Rattle.law_automata.specs.Readied.Laws.{IsWhole}
 use Rattle.law_automata.specs.Readied.Single.{NodeSingle}
 use Rattle.law_automata.proofs.LoweredLemmas.RightSteps.{all_right_law}
@@ -39,9 +40,15 @@ use Rattle.law_equations.specs.Answered.Answering.{has_node, AreApart}
 use Rattle.hp_complete.specs.Declaring.{known_of}
 use Rattle.hp_complete.proofs.KnownLaws.{nodes-known}
 use Rattle.law_wellmade.specs.Spelled.Integers.{NodeShort}
+use Rattle.law_wellmade.specs.Timely.Tested.{AreTested}
+use Rattle.law_wellmade.specs.Tested.Apart.{ContractApart}
 use Rattle.law_wellmade.proofs.BegunLemmas.LoweredFirsts.{lowered_firsts}
 use Rattle.law_wellmade.proofs.BegunLemmas.NamesApart.{lowered_apart}
 use Rattle.law_wellmade.proofs.RegularLemmas.RegularLaws.{lowered}
+use Rattle.law_wellmade.proofs.TestedLemmas.FittedPrograms.{ready_grounds}
+use Rattle.law_wellmade.proofs.TestedLemmas.TestedPrograms.{contracts_apart_law}
+use Rattle.law_games.specs.ReadyGames.Laws.{IsInOrder}
+use Rattle.law_drawing.proofs.DrawableLemmas.Programs.{drawable}
 use Rattle.law_history.proofs.StreamsLemmas.Shapes.{Fresh, all_fresh}
 use Rattle.law_drawing.proofs.SteeredLemmas.NothingCalled.{contracts-none}
 use Rattle.law_drawing.proofs.SteeredLemmas.Uncalled.{ContractCallsNothing}
@@ -51,7 +58,7 @@ use Rattle.law_choices.specs.InTurn.Observed.{CallsNone}
 use Rattle.law_choices.proofs.InTurnLemmas.Observed.{types_watched}
 use Rattle.law_choices.proofs.InTurnLemmas.Types.{types_same}
 use Rattle.law_choices.specs.Observed.Contracts.{IsObservable}
-use Rattle.law_choices.specs.Observed.Laws.{CanBeObservedLaw}
+use Rattle.law_choices.specs.Observed.Laws.{CanBeObservedLaw, TestedObserversLaw}
 use Rattle.law_choices.proofs.ObservedLemmas.Apart.{each_observer, removable, observers_apart}
 use Rattle.law_choices.proofs.ObservedLemmas.Calls.{observer_none}
 use Rattle.law_choices.proofs.ObservedLemmas.Clocks.{outputs_based, observer_right}
@@ -59,7 +66,7 @@ use Rattle.law_choices.proofs.ObservedLemmas.Firsts.{observer_firsts, observer_s
 use Rattle.law_choices.proofs.ObservedLemmas.Known.{IsKnown}
 use Rattle.law_choices.proofs.ObservedLemmas.Removable.{AllBase, observer_ok}
 use Rattle.law_choices.proofs.ObservedLemmas.Scoped.{observer_scoped, observer_single, observer_whole}
-use Rattle.law_choices.proofs.ObservedLemmas.Standing.{ConstantsAre, constants_are, all_sound, observers_onto, accepted_sound, enums_same}
+use Rattle.law_choices.proofs.ObservedLemmas.Standing.{ConstantsAre, constants_are, DrawableBehind, all_sound, all_tested, observers_onto, accepted_sound, enums_same}
 
 -- ---- each node
 
@@ -101,38 +108,72 @@ each_alone after nothing names [] fresh = tt
 each_alone after nothing names (TypeItem t ∷ items) fresh = each_alone after nothing names items fresh
 each_alone after nothing names (NodeItem n ∷ items) fresh = (contracts-none after nothing n.name n (sym (nodes-known after n.name) ∙ fresh.1), each_alone after nothing (n.name ∷ names) items fresh.2)
 
--- ---- the observers are sound
+-- ---- the observers are sound, and their tests typed
 
-sound_observers : (program after : List Item) → IsReady program after → TypesHaveConstructors (types_of program) → EachNode (IsKnown (types_of after)) after → AreApart (reverse (lowered_program (observers after))) → SoundBehind (types_of after) (reverse (lowered_program (observers after)))
-sound_observers program after r full known apart =
+-- what is known of each node that stands there, the last one first
+record IsSeen (types : List TypeDecl) (enums : Enumerations) (items : List Item) : Type 0 where
+  known : EachNode (IsKnown types) items
+  old : EachNode (NodeNames IsOld) items
+  sound : SoundBehind types items
+  constants : ConstantsAre types items
+  has : ConstantsBehind enums items
+
+ready_seen : (program after : List Item) → IsReady program after → TypesHaveConstructors (types_of program) → EachNode (IsKnown (types_of after)) after → IsSeen (types_of after) (enumerations [] after) (reverse after)
+ready_seen program after r full known =
     let types = types_of after in
-    let enums = enumerations [] after in
-    let seen = observers after in
-    let same_enums : enumerations [] seen ≡ enums = enums_same [] after in
     let has_types = typed program r.named r.typed r.merges in
     let names = scoped program r.named r.defined in
     let clocked = clocked_of (replaced program) after r.clocks in
     let can = all_can no_node program names r.names (calls_fit program r.named has_types) (all_few_calls no_node program r.calls) (few_variables program r.limits) in
     let sound = judged_sound program names r.armed r.named r.typed has_types r.defined in
-    let constants : ConstantsAre types (reverse after) = subst (λ ts. ConstantsAre ts (reverse after)) (sym (types_same program after r)) (constants_are (types_of program) no_node program after clocked sound) in
     let a = accepted program after r in
-    let old = each_reverse (NodeNames IsOld) after (old_clocked (replaced program) after clocked (program_old program can)) in
-    let turned = observers_onto types enums after [] in
+    record {
+      known = each_reverse (IsKnown types) after known;
+      old = each_reverse (NodeNames IsOld) after (old_clocked (replaced program) after clocked (program_old program can));
+      sound = accepted_sound types a.0 (reverse after) a.1;
+      constants = subst (λ ts. ConstantsAre ts (reverse after)) (sym (types_same program after r)) (constants_are (types_of program) no_node program after clocked sound);
+      has = ready_constants_law program after r (some_constructors program full);
+    }
+
+-- what is shown of observers from the last one on, is so of those of the program
+of_observers : (P : List Item → Type 0) (after : List Item) → (AreApart (map (lowered_item (enumerations [] after)) (observers (reverse after))) → P (map (lowered_item (enumerations [] after)) (observers (reverse after)))) → AreApart (reverse (lowered_program (observers after))) → P (reverse (lowered_program (observers after)))
+of_observers P after f apart =
+    let enums = enumerations [] after in
+    let seen = observers after in
+    let same_enums : enumerations [] seen ≡ enums = enums_same [] after in
+    let turned = observers_onto (types_of after) enums after [] in
     let apart_low : AreApart (reverse (map (lowered_item enums) seen)) = subst (λ z. AreApart (reverse (map (lowered_item z) seen))) same_enums apart in
-    let all = all_sound types enums (reverse after) (each_reverse (IsKnown types) after known) old (accepted_sound types a.0 (reverse after) a.1) constants (ready_constants_law program after r (some_constructors program full)) (subst AreApart turned apart_low) in
-    subst (λ z. SoundBehind types (reverse (map (lowered_item z) seen))) (sym same_enums) (subst (SoundBehind types) (sym turned) all)
+    subst (λ z. P (reverse (map (lowered_item z) seen))) (sym same_enums) (subst P (sym turned) (f (subst AreApart turned apart_low)))
+
+sound_observers : (program after : List Item) → IsReady program after → TypesHaveConstructors (types_of program) → EachNode (IsKnown (types_of after)) after → AreApart (reverse (lowered_program (observers after))) → SoundBehind (types_of after) (reverse (lowered_program (observers after)))
+sound_observers program after r full known apart =
+    let s = ready_seen program after r full known in
+    of_observers (SoundBehind (types_of after)) after (all_sound (types_of after) (enumerations [] after) (reverse after) s.known s.old s.sound s.constants s.has) apart
+
+-- each node can be drawn where it stands
+drawable_behind : (program after : List Item) (ranks : List (List ℕ)) → IsInOrder program after ranks → (later items : List Item) → reverse after ≡ later ++ items → DrawableBehind (types_of after) (enumerations [] after) items
+drawable_behind program after ranks o later [] e = tt
+drawable_behind program after ranks o later (TypeItem t ∷ items) e = drawable_behind program after ranks o (later ++ TypeItem t ∷ []) items (e ∙ sym (append_assoc later (TypeItem t ∷ []) items))
+drawable_behind program after ranks o later (NodeItem n ∷ items) e =
+    let can = drawable program after ranks o items n (later, e) in
+    (can.node, drawable_behind program after ranks o (later ++ NodeItem n ∷ []) items (e ∙ sym (append_assoc later (NodeItem n ∷ []) items)))
+
+tested_observers : (program after : List Item) (ranks : List (List ℕ)) → IsInOrder program after ranks → EachNode (IsKnown (types_of after)) after → AreApart (reverse (lowered_program (observers after))) → AreTested (types_of after) (reverse (lowered_program (observers after)))
+tested_observers program after ranks o known apart =
+    let r = o.ready in
+    let s = ready_seen program after r o.constructors known in
+    let apart_in = each_reverse (λ (n : Node). ContractApart n.contract) after (contracts_apart_law program after r) in
+    of_observers (AreTested (types_of after)) after
+    (all_tested (types_of after) (enumerations [] after) (reverse after) s.known s.old s.sound s.constants s.has (ready_grounds program after r) (drawable_behind program after ranks o [] (reverse after) refl) apart_in) apart
 
 -- ---- the law
 
-pub can_be_observed_law : CanBeObservedLaw
-can_be_observed_law program after r ok form short nothing observable tested =
+-- what is known of each node of a ready program
+ready_known : (program after : List Item) → IsReady program after → IsRemovable after → TypesHaveConstructors (types_of program) → EachNode NodeShort after → ContractsCallNothing after → EachNode IsObservable after → AreApart (reverse (lowered_program after)) → EachNode (IsKnown (types_of after)) after
+ready_known program after r ok full short nothing observable apart =
     let types = types_of after in
     let enums = enumerations [] after in
-    let seen = observers after in
-    let others = enumerations [] seen in
     let clocked = clocked_of (replaced program) after r.clocks in
-    let apart = lowered_apart program after r.named clocked in
-    let full = some_of (types_of program) form.counts in
     let alone = each_alone after nothing [] after (all_fresh after (with_automata enums after [] [] (λ f. refl) tt apart)) in
     let Rest : Node → Type 0 = λ n. (NodeOk n × NodeScoped n) × (NodeSingle n × AllBase n.outputs) in
     let More : Node → Type 0 = λ n. (ClocksRight n × NodeHasFirsts types n) × (NodeShort n × (IsObservable n × ContractCallsNothing n.contract)) in
@@ -143,10 +184,19 @@ can_be_observed_law program after r ok form short nothing observable tested =
     both (λ n. ClocksRight n × NodeHasFirsts types n) (λ n. NodeShort n × (IsObservable n × ContractCallsNothing n.contract)) after
     (both ClocksRight (NodeHasFirsts types) after (ready_clocks program after r) (ready_firsts program after r full))
     (both NodeShort (λ n. IsObservable n × ContractCallsNothing n.contract) after short (both IsObservable (λ n. ContractCallsNothing n.contract) after observable alone)) in
-    let known : EachNode (IsKnown types) after =
     each_node (λ n. Rest n × More n) (IsKnown types)
     (λ n h. record { ok = h.0.0.0; scoped = h.0.0.1; single = h.0.1.0; base = h.0.1.1; clocks = h.1.0.0; firsts = h.1.0.1; short = h.1.1.0; observable = h.1.1.1.0; alone = h.1.1.1.1 })
-    after (both Rest More after rest more) in
+    after (both Rest More after rest more)
+
+pub can_be_observed_law : CanBeObservedLaw
+can_be_observed_law program after r ok form short nothing observable tested =
+    let types = types_of after in
+    let seen = observers after in
+    let others = enumerations [] seen in
+    let clocked = clocked_of (replaced program) after r.clocks in
+    let apart = lowered_apart program after r.named clocked in
+    let full = some_of (types_of program) form.counts in
+    let known = ready_known program after r ok full short nothing observable apart in
     let ok_all = removable seen (each_observer (IsKnown types) NodeOk (λ n c e k. observer_ok n c e k.ok k.scoped k.base k.observable) after known) in
     let same : types_of (lowered_program seen) ≡ types = types_watched after in
     record {
@@ -166,3 +216,10 @@ can_be_observed_law program after r ok form short nothing observable tested =
       alone = each_low others CallsNone seen
           (each_observer (IsKnown types) (λ m. CallsNone (lowered_node others m)) (λ n c e k. observer_none others n c (subst ContractCallsNothing e k.alone)) after known);
     }
+
+pub tested_observers_law : TestedObserversLaw
+tested_observers_law program after ranks o ok form short nothing observable =
+    let r = o.ready in
+    let apart = lowered_apart program after r.named (clocked_of (replaced program) after r.clocks) in
+    let known = ready_known program after r ok o.constructors short nothing observable apart in
+    subst (λ ts. AreTested ts (reverse (lowered_program (observers after)))) (sym (types_watched after)) (tested_observers program after ranks o known (observers_apart after apart))

@@ -23,14 +23,20 @@ use Rattle.hp_expand.specs.Numbering.{same_name}
 use Rattle.law_values.specs.Valued.Judged.{Lasts, no_lasts, lasts_in, lasts_of, ConstantIs, RightSound, TestSound, FirstSound, DeclsSound, OthersKnown, BlockSound, EqnsSound, HaveOwnTypes, HaveEquations, ToldSound, ContractSound, NodeSound}
 use Rattle.law_values.proofs.ValuedLemmas.Scoped.{still_known, not_declared}
 use Rattle.law_values.proofs.AcceptedLemmas.Views.{own_types, declared_type, last_among, lasts_own}
-use Rattle.law_values.proofs.AcceptedLemmas.Keeps.{Grows, test_moved}
+use Rattle.law_values.proofs.AcceptedLemmas.Keeps.{KeptName, Grows, test_moved}
 use Rattle.law_values.proofs.AcceptedLemmas.Moves.{Place, grows_more, lasts_cases, last_known, eqns_moved}
 use Rattle.law_automata.proofs.LoweredLemmas.Apart.{bytes_same, same_bytes}
 use Rattle.law_automata.proofs.LoweredLemmas.Nodes.{itself}
+use Rattle.law_wellmade.specs.Tested.Apart.{BlockApart, ConditionApart, ContractApart}
+use Rattle.law_wellmade.specs.Tested.Fits.{ExprApart, WrittenFits, DeclsFit, BlockFits, EqnsFit, NodeFits}
+use Rattle.law_wellmade.proofs.TimelyLemmas.DifferLaws.{Grounds, grounds_more}
+use Rattle.law_drawing.specs.Carrying.Drawable.{BlockDrawable, ContractDrawable}
 use Rattle.law_drawing.proofs.SteeredLemmas.Uncalled.{CallsNothing, BlockCallsNothing, EqnsCallNothing, ToldCallsNothing, ContractCallsNothing}
 use Rattle.hp_watch.specs.Observing.{assumed, enforced, outputs_at, inputs_for, condition_of, all_handed_on, with_lines, lines_of, observer_of}
 use Rattle.law_choices.specs.Observed.Contracts.{IsOther}
 use Rattle.law_choices.proofs.ObservedLemmas.Bodies.{false_unless, assumed_not_other, enforced_not_other, none_declared, outputs_other, once_first, once_last, local_no_output}
+use Rattle.law_choices.proofs.ObservedLemmas.Fitting.{none, Wider, decls_fit, eqns_fit}
+use Rattle.law_choices.proofs.ObservedLemmas.Removable.{AllBase}
 use Rattle.law_choices.proofs.ObservedLemmas.Said.{eqns_said}
 use Rattle.law_choices.proofs.ObservedLemmas.Swapped.{to, to_more, eqns_to, test_to}
 
@@ -125,10 +131,29 @@ module _ (types : List TypeDecl) (before : List ℕ → Option Node) where
   told_right r lasts y s q (merge at x ps) a h = (h.0, (ty.Bool, (h.1, (q, tt))))
   told_right r lasts y s q (call at f i es) a h = absurd a
 
--- ---- the observer
+-- ---- the tests of declared outputs, and of equations in a row
 
-abbrev none : List ℕ → Option Node
-none f = None
+outputs_fit : (types : List TypeDecl) (r : Scope) (ds : List Decl) → AllBase ds → DeclsFit types r ds
+outputs_fit types r [] h = tt
+outputs_fit types r (d ∷ ds) h = (subst (WrittenFits types r) (sym h.0) tt, outputs_fit types r ds h.1)
+
+decls_fit_both : (types : List TypeDecl) (r : Scope) (ds es : List Decl) → DeclsFit types r ds → DeclsFit types r es → DeclsFit types r (ds ++ es)
+decls_fit_both types r [] es h k = k
+decls_fit_both types r (d ∷ ds) es h k = (h.0, decls_fit_both types r ds es h.1 k)
+
+fit_behind : (types : List TypeDecl) (r : Scope) (es : Eqns) (more : List Eqn) → EqnsFit types r es → EqnsFit types r (eqns_of more) → EqnsFit types r (eqns_of (list_of_eqns es ++ more))
+fit_behind types r no_eqn more h k = k
+fit_behind types r (more_eqns e es) more h k = (h.0, fit_behind types r es more h.1 k)
+
+handed_fit : (types : List TypeDecl) (r : Scope) (i : ℕ) (ds : List Decl) → EqnsFit types r (eqns_of (all_handed_on i ds))
+handed_fit types r i [] = tt
+handed_fit types r i (d ∷ ds) = (tt, handed_fit types r (i + 1) ds)
+
+told_apart : (o : Option Expr) (at : Span) → ConditionApart o → ExprApart (condition_of o at)
+told_apart None at h = tt
+told_apart (Some e) at h = h
+
+-- ---- the observer
 
 module _ (types : List TypeDecl) (among before : List ℕ → Option Node) (s r : Scope) (empty_s : (x : List ℕ) → lookup s.variables x ≡ None) (empty_r : (x : List ℕ) → lookup r.variables x ≡ None) (conses : r.constructors ≡ s.constructors)
     (constants : (c : Const) → ConstantIs types r c) (known : (f : List ℕ) → lookup r.nodes f ≡ before f) (n : Node) (c : Contract) (scoped : NodeScoped n) (there : NodeScoped (observer_of n c)) (names : (x : List ℕ) → IsTrue (interface n x) → IsOther x) where
@@ -271,6 +296,13 @@ module _ (types : List TypeDecl) (among before : List ℕ → Option Node) (s r 
         ap (λ z. with_variables (with_variables z n.outputs) ds) (to_more types among none [] n.inputs s) ∙ ap (λ z. with_variables z ds) (to_more types among none [] n.outputs (with_variables s n.inputs))
         ∙ to_more types among none [] ds (inside_node s n)
 
+    wider : Grounds types r → Wider types among before (with_variables (inside_node s n) ds) new
+    wider g = record {
+      grows = subst (λ z. Grows types before z new) same_scope place.grows;
+      names = subst (λ z. (x : List ℕ) → KeptName z new x x) same_scope place.names;
+      ground = grounds_more types locals outer (grounds_more types told (with_variables r all) (grounds_more types all r g));
+    }
+
     condition_sound : (o : Option Expr) (at : Span) (y : List ℕ) → lookup new.variables y ≡ Some ty.Bool → ToldCallsNothing o → ToldSound types among (with_variables (inside_node s n) ds) lasts_old o → RightSound types before new lasts_new ((y, at) ∷ []) (condition_of o at)
     condition_sound None at y q a h = ((λ t e. constants (const.B true) t e), (ty.Bool, (refl, (q, tt))))
     condition_sound (Some e) at y q a h =
@@ -299,6 +331,20 @@ module _ (types : List TypeDecl) (among before : List ℕ → Option Node) (s r 
             let o = some_owned x after (also (also no_names told) locals) eqns here.3 h in
             ⊎_elim (λ l. absurd (let e : true ≡ false = sym l ∙ k in cc)) (λ l. ⊎_elim (λ m. declared_type types before outer told x outer_told m) (λ m. absurd cc) (or_cases (declares told x) false l)) (or_cases (declares locals x) (declares told x || false) o)
 
+    sound_front : (more : List Eqn) (qs : Eqns) → EqnsSound types before new lasts_new (eqns_of (list_of_eqns qs ++ more)) → EqnsSound types before new lasts_new qs
+    sound_front more no_eqn k = tt
+    sound_front more (more_eqns q qs) k = (k.0, sound_front more qs k.1)
+
+    body_fits : Grounds types r → AllBase n.outputs → EqnsCallNothing es → BlockDrawable (inside_node s n) (block ds es) → BlockApart (block ds es) → ConditionApart c.assume → ConditionApart c.enforce → BlockSound types among (inside_node s n) (lasts_in n.outputs no_lasts) (block ds es)
+        → BlockSound types before outer (lasts_in told no_lasts) (block locals eqns) → BlockFits types outer (block locals eqns)
+    body_fits g base a d p pa pe h k =
+        let here = with_variables (inside_node s n) ds in
+        let w = wider g in (
+          decls_fit_both types new ds n.outputs (decls_fit types among before here new w ds d.1.0) (outputs_fit types new n.outputs base),
+          fit_behind types new es (lines_of n c) (eqns_fit types among before es here new lasts_old lasts_new w a d.1.1 p h.1.1 (sound_front (lines_of n c) es k.1.1))
+              (told_apart c.assume c.span pa, (told_apart c.enforce c.span pe, handed_fit types new 0 n.outputs)),
+        )
+
     told_had : AreDefined told eqns → HaveEquations types before (block locals eqns) told
     told_had f = ((both_true (some_defines eqns assumed) (declares locals assumed) (f assumed refl) (no_local assumed assumed_not_other), tt), ((both_true (some_defines eqns enforced) (declares locals enforced) (f enforced refl) (no_local enforced enforced_not_other), tt), tt))
       where
@@ -318,3 +364,16 @@ module _ (types : List TypeDecl) (among before : List ℕ → Option Node) (s r 
       let body =
       all_sound c.body (subst (ContractScoped (interface n)) e scoped.contract) (subst (ContractNames IsOther) e inner) there.body there.outputs (firsts_had types before among n.body n.outputs h.1.1.1.0) a.0 a.1 a.2 k.0 k.1.0 k.1.1 in
       ((outer_all, outer_told), ((outer_all, outer_told), (tt, (body.0, (body.1, tt)))))
+
+  all_fits : (b : Block) → BlockScoped (interface n) no_names b → BlockNames IsOther b → BlockScoped (also (also (also no_names all) told) []) (also no_names told) (with_lines b n.outputs (lines_of n c)) → Grounds types r → AllBase n.outputs → BlockCallsNothing b → BlockDrawable (inside_node s n) b → BlockApart b
+      → ConditionApart c.assume → ConditionApart c.enforce → BlockSound types among (inside_node s n) (lasts_in n.outputs no_lasts) b → BlockSound types before outer (lasts_in told no_lasts) (with_lines b n.outputs (lines_of n c)) → BlockFits types outer (with_lines b n.outputs (lines_of n c))
+  all_fits (block ds es) own inner here g base a d p pa pe h k = body_fits ds es own inner here g base a d p pa pe h k
+
+  -- and its tests fit
+  pub observer_fits : n.contract ≡ Some c → ContractNames IsOther n.contract → ContractCallsNothing n.contract → AllBase n.outputs → Grounds types r → ContractDrawable (inside_node s n) n.contract → ContractApart n.contract → NodeSound types among s n → NodeFits types r (observer_of n c)
+  observer_fits e inner alone base g drawn apart h =
+      let a : ContractCallsNothing (Some c) = subst ContractCallsNothing e alone in
+      let k : ContractSound types among (inside_node s n) (lasts_in n.outputs no_lasts) (Some c) = subst (ContractSound types among (inside_node s n) (lasts_in n.outputs no_lasts)) e h.1.1.1.1.1 in
+      let p : ContractApart (Some c) = subst ContractApart e apart in
+      let own = observer_sound e inner alone h in
+      all_fits c.body (subst (ContractScoped (interface n)) e scoped.contract) (subst (ContractNames IsOther) e inner) there.body g base a.0 (subst (ContractDrawable (inside_node s n)) e drawn) p.0 p.1.0 p.1.1 k.0 own.1.1.1.1.0

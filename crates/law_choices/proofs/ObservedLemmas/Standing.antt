@@ -12,7 +12,7 @@ use Rattle.hp_tree.specs.declared.program.Item.{Item}
 use Rattle.hp_tree.specs.declared.program.Item.TheVariants.{TypeItem, NodeItem}
 use Rattle.hp_tree.specs.Meaning.{declares, node_among, controls_of}
 use Rattle.hp_tree.specs.Programs.{TypeDecl, Contract, Node}
-use Rattle.hp_typing.specs.Scopes.{with_constructors}
+use Rattle.hp_typing.specs.Scopes.{with_constructors, with_variables, inside_node}
 use Rattle.hp_typing.specs.Types.{enum_of}
 use Rattle.law_judged.specs.Named.Scopes.{Scope}
 use Rattle.law_judged.specs.Named.Scoped.{EachNode, also, no_names, interface}
@@ -21,7 +21,7 @@ use Rattle.law_judged.proofs.NamedLemmas.Sets.{or_cases, or_left, or_right, decl
 use Rattle.law_judged.proofs.OnceLemmas.Renamed.{or_none}
 use Rattle.hp_expand.specs.Numbering.{with_node, replaced_node, replaced_items}
 use Rattle.law_values.specs.Accepted.Written.{AreClocked}
-use Rattle.law_values.specs.Valued.Judged.{ConstantIs, NodeSound}
+use Rattle.law_values.specs.Valued.Judged.{no_lasts, lasts_in, body_scope, ConstantIs, NodeSound}
 use Rattle.law_values.specs.Valued.Values.{scope_behind, Classing, class_behind, AreAccepted}
 use Rattle.law_values.proofs.AcceptedLemmas.SoundNodes.{node_more, AllSound}
 use Rattle.law_values.proofs.AcceptedLemmas.Views.{constant_is}
@@ -34,11 +34,18 @@ use Rattle.law_automata.proofs.LowerableLemmas.Texts.{onto}
 use Rattle.law_automata.proofs.ReadiedLemmas.SoundNodes.{sound_law}
 use Rattle.law_automata.proofs.ReadiedLemmas.TypesKept.{node_weaker}
 use Rattle.law_equations.specs.Answered.Answering.{has_node, AreApart}
+use Rattle.law_wellmade.specs.Timely.Tested.{NodeTested, AreTested}
+use Rattle.law_wellmade.specs.Tested.Apart.{ContractApart}
+use Rattle.law_wellmade.specs.Tested.Fits.{NodeFits}
+use Rattle.law_wellmade.proofs.TimelyLemmas.DifferLaws.{Grounds, grounds_more}
+use Rattle.law_wellmade.proofs.TestedLemmas.Fitted.{block_tested}
+use Rattle.law_wellmade.proofs.TestedLemmas.FittedPrograms.{grounds_there, GroundBehind, node_fits}
+use Rattle.law_drawing.specs.Carrying.Drawable.{ContractDrawable, NodeDrawable}
 use Rattle.hp_watch.specs.Observing.{assumed, enforced, outputs_at, inputs_for, all_handed_on, with_lines, lines_of, observer_of, observer_if, observers}
 use Rattle.law_choices.proofs.ObservedLemmas.Known.{IsKnown}
 use Rattle.law_choices.proofs.ObservedLemmas.Removable.{assumed_old, enforced_old, input_old, observer_ok}
 use Rattle.law_choices.proofs.ObservedLemmas.Scoped.{input_from, observer_scoped}
-use Rattle.law_choices.proofs.ObservedLemmas.Sound.{observer_sound}
+use Rattle.law_choices.proofs.ObservedLemmas.Sound.{observer_sound, observer_fits}
 
 -- ---- constants are of their types where nodes stand
 
@@ -168,6 +175,51 @@ module _ (types : List TypeDecl) (enums : Enumerations) where
       let sound = observer_sound types (node_among earlier) (node_among there) s r (no_variables earlier) (no_variables there) same here known n c k.scoped scoped o.interface e o.contract k.alone h in
       let typed = observer_types (HasConstant enums r) n c e refl (node_weaker (HasConstant enums s) (HasConstant enums r) (has_constant s r same) n has) in
       sound_law types (node_among there) enums r (observer_of n c) (here, known) (no_variables there) typed (around_old n c old o.few) scoped (observer_ok n c e k.ok k.scoped k.base o) sound
+
+  kinds_same : (items : List Item) → (scope_behind (low (observers items))).types ≡ (scope_behind items).types
+  kinds_same [] = refl
+  kinds_same (TypeItem t ∷ items) = ap (λ z. with_entry z t.name t) (kinds_same items)
+  kinds_same (NodeItem n ∷ items) = by n.contract (kinds_same items)
+    where
+      by : (o : Option Contract) → (scope_behind (low (observers items))).types ≡ (scope_behind items).types → (scope_behind (low (observer_if n o ++ observers items))).types ≡ (scope_behind items).types
+      by None e = e
+      by (Some c) e = e
+
+  one_tested : (n : Node) (c : Contract) (earlier : List Item) → n.contract ≡ Some c → IsKnown types n → NodeNames IsOld n → NodeSound types (node_among earlier) (scope_behind earlier) n → ((k : Const) → ConstantIs types (scope_behind earlier) k)
+      → NodeTypes (HasConstant enums (scope_behind earlier)) n → AreApart (low (observers earlier)) → Grounds types (scope_behind earlier) → ContractDrawable (inside_node (scope_behind earlier) n) n.contract → ContractApart n.contract → NodeTested types (scope_behind (low (observers earlier))) (lowered_node enums (observer_of n c))
+  one_tested n c earlier e k old h constants has apart ground drawn p =
+      let o = k.observable in
+      let there = low (observers earlier) in
+      let s = scope_behind earlier in
+      let r = scope_behind there in
+      let same : r.constructors ≡ s.constructors = conses_same earlier in
+      let here : (q : Const) → ConstantIs types r q = λ q. constant_there types s r same q (constants q) in
+      let known = nodes_known there apart in
+      let scoped = observer_scoped n c e k.scoped o in
+      let g = grounds_there types s r same (kinds_same earlier) ground in
+      let sound = observer_sound types (node_among earlier) (node_among there) s r (no_variables earlier) (no_variables there) same here known n c k.scoped scoped o.interface e o.contract k.alone h in
+      let fits = observer_fits types (node_among earlier) (node_among there) s r (no_variables earlier) (no_variables there) same here known n c k.scoped scoped o.interface e o.contract k.alone k.base g drawn p h in
+      let typed = observer_types (HasConstant enums r) n c e refl (node_weaker (HasConstant enums s) (HasConstant enums r) (has_constant s r same) n has) in
+      let m = lowered_node enums (observer_of n c) in
+      let low_fits : NodeFits types r m = node_fits types (node_among there) enums r (observer_of n c) (here, known) (no_variables there) typed (around_old n c old o.few) scoped (observer_ok n c e k.ok k.scoped k.base o) sound fits in
+      let low_sound = one_sound n c earlier e k old h constants has apart in
+      block_tested types (node_among there) m.body (body_scope r m) (lasts_in m.outputs no_lasts) (grounds_more types (controls_of m.contract) (inside_node r m) (grounds_more types m.outputs (with_variables r m.inputs) (grounds_more types m.inputs r g))) low_fits low_sound.1.1.1.1.0
+
+  -- each node can be drawn where it stands
+  abbrev pub DrawableBehind : List Item → Type 0
+  DrawableBehind [] = ⊤
+  DrawableBehind (TypeItem t ∷ earlier) = DrawableBehind earlier
+  DrawableBehind (NodeItem n ∷ earlier) = NodeDrawable (scope_behind earlier) n × DrawableBehind earlier
+
+  pub all_tested : (items : List Item) → EachNode (IsKnown types) items → EachNode (NodeNames IsOld) items → SoundBehind types items → ConstantsAre types items → ConstantsBehind enums items → GroundBehind types items → DrawableBehind items → EachNode (λ (n : Node). ContractApart n.contract) items
+      → AreApart (low (observers items)) → AreTested types (low (observers items))
+  all_tested [] k old h g has ground drawn p apart = tt
+  all_tested (TypeItem t ∷ items) k old h g has ground drawn p apart = all_tested items k old h g has ground drawn p apart
+  all_tested (NodeItem n ∷ items) k old h g has ground drawn p apart = by n.contract refl apart (all_tested items k.1 old.1 h.1 g.1 has.1 ground.1 drawn.1 p.1)
+    where
+      by : (o : Option Contract) → n.contract ≡ o → AreApart (low (observer_if n o ++ observers items)) → (AreApart (low (observers items)) → AreTested types (low (observers items))) → AreTested types (low (observer_if n o ++ observers items))
+      by None e a rest = rest a
+      by (Some c) e a rest = (one_tested n c items e k.0 old.0 h.0 g.0 has.0 a.1 ground.0.1.1 drawn.0.contract p.0, rest a.1)
 
   pub all_sound : (items : List Item) → EachNode (IsKnown types) items → EachNode (NodeNames IsOld) items → SoundBehind types items → ConstantsAre types items → ConstantsBehind enums items → AreApart (low (observers items)) → SoundBehind types (low (observers items))
   all_sound [] k old h g has apart = tt

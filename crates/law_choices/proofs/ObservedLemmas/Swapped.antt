@@ -41,7 +41,7 @@ module _ (types : List TypeDecl) (among before : List ℕ → Option Node) (ns :
   cons_same s (cons.Named c) = refl
 
   mutual
-    type_same : (s : Scope) (e : Expr) → CallsNothing e → type_of (to s) e ≡ type_of s e
+    pub type_same : (s : Scope) (e : Expr) → CallsNothing e → type_of (to s) e ≡ type_of s e
     type_same s (constant at c) a = constant_same s c
     type_same s (variable at x) a = refl
     type_same s (last_of at x) a = refl

@@ -1,23 +1,13 @@
 -- What is asked of the contracts of a program, so that their observers can be compiled.
 -- Source: own.
-use Rattle.std.specs.Prelude.{◌≡◌, ⊤, ℕ, ◌<◌, false, List, length, Option, None, Some, IsTrue}
+use Rattle.std.specs.Prelude.{◌≡◌, ℕ, ◌<◌, false, List, length, IsTrue}
 use Rattle.std.specs.Str.{bytes_eq}
-use Rattle.hp_tree.specs.Expressions.{Expr}
-use Rattle.hp_tree.specs.Programs.{Contract, Node}
+use Rattle.hp_tree.specs.Programs.{Node}
 use Rattle.law_judged.specs.Named.Scoped.{interface}
 use Rattle.law_judged.specs.Replaced.Fitting.{ContractNames}
-use Rattle.law_wellmade.specs.Spelled.Integers.{ExprShort, BlockShort}
+use Rattle.law_wellmade.specs.Spelled.Integers.{ContractShort}
 use Rattle.hp_watch.specs.Observing as observing
 use Rattle.hp_watch.specs.Observing.{input_name}
-
--- the integers that a contract writes are of 32 bits
-abbrev pub ConditionShort : Option Expr → Type 0
-ConditionShort None = ⊤
-ConditionShort (Some e) = ExprShort e
-
-abbrev pub ContractShort : Option Contract → Type 0
-ContractShort None = ⊤
-ContractShort (Some c) = BlockShort c.body × (ConditionShort c.assume × ConditionShort c.enforce)
 
 -- a name is none of those that an observer has beside the names of its contract
 pub record IsOther (x : List ℕ) : Type 0 where

@@ -1,6 +1,6 @@
 -- The observers of a ready program can be compiled.
 -- Source: own.
-use Rattle.std.specs.Prelude.{List, reverse}
+use Rattle.std.specs.Prelude.{ℕ, List, reverse}
 use Rattle.hp_obc.specs.Form.{TypesForm}
 use Rattle.hp_tree.specs.declared.program.Item.{Item}
 use Rattle.hp_tree.specs.Meaning.{types_of}
@@ -12,6 +12,7 @@ use Rattle.law_automata.specs.Lowered.Removable.{IsRemovable}
 use Rattle.law_equations.specs.Made.Types.{obc_types_of}
 use Rattle.law_wellmade.specs.Spelled.Integers.{NodeShort}
 use Rattle.law_wellmade.specs.Timely.Tested.{AreTested}
+use Rattle.law_games.specs.ReadyGames.Laws.{IsInOrder}
 use Rattle.hp_watch.specs.Observing.{observers}
 use Rattle.law_choices.specs.InTurn.Observed.{CanBeObserved}
 use Rattle.law_choices.specs.Observed.Contracts.{IsObservable}
@@ -24,3 +25,8 @@ AreTestedObservers after = AreTested (types_of (lowered_program (observers after
 abbrev pub CanBeObservedLaw : Type 0
 CanBeObservedLaw =
     (program after : List Item) → IsReady program after → IsRemovable after → TypesForm (obc_types_of program) → EachNode NodeShort after → ContractsCallNothing after → EachNode IsObservable after → AreTestedObservers after → CanBeObserved after
+
+-- Their tests are typed in a ready program in order: the rules ask of a contract what they ask of a body.
+abbrev pub TestedObserversLaw : Type 0
+TestedObserversLaw =
+    (program after : List Item) (ranks : List (List ℕ)) → IsInOrder program after ranks → IsRemovable after → TypesForm (obc_types_of program) → EachNode NodeShort after → ContractsCallNothing after → EachNode IsObservable after → AreTestedObservers after

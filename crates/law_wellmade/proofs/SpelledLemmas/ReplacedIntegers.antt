@@ -1,6 +1,6 @@
 -- Where inlined calls are replaced, integers are still of 32 bits.
 use Rattle.std.proofs.Common.{ℕ, ◌+◌, Bool, true, false, if◌then◌else◌, List, [], ◌∷◌, ◌++◌, map}
-use Rattle.std.specs.Prelude.{⊤}
+use Rattle.std.specs.Prelude.{⊤, Option, None, Some, option_map}
 use Rattle.std.specs.Str.{bytes_eq}
 use Rattle.hp_base.specs.declared.span.Span.{Span}
 use Rattle.hp_tree.specs.declared.block.Trans.{Trans}
@@ -8,14 +8,14 @@ use Rattle.hp_tree.specs.declared.program.Item.{Item}
 use Rattle.hp_tree.specs.declared.program.Item.TheVariants.{TypeItem, NodeItem}
 use Rattle.hp_tree.specs.Expressions.{Expr, constant, variable, last_of, one, two, choose, pre, fby, arrow, when_is, merge, call, Exprs, no_expr, more_exprs, Parts, no_part, more_parts}
 use Rattle.hp_tree.specs.Blocks.{Decl, Block, block, Eqns, no_eqn, more_eqns, Eqn, define, switch, reset, automaton, Arms, no_arm, more_arms, States, no_state, more_states, eqns_of, list_of_eqns}
-use Rattle.hp_tree.specs.Programs.{Node}
+use Rattle.hp_tree.specs.Programs.{Contract, Node}
 use Rattle.law_judged.specs.Named.Scoped.{EachNode}
 use Rattle.hp_expand.specs.NewNames.{marked}
 use Rattle.hp_expand.specs.Renaming.{renamed, renamed_exprs, renamed_parts, renamed_decls, renamed_transition, renamed_block, renamed_eqns, renamed_eqn, renamed_arms, renamed_states}
-use Rattle.hp_expand.specs.Replacing.{Replaced, beside, given, locals_of, equations_of, inlined_call, output_at, defined_by, in_expr, in_exprs, in_parts, in_definition, in_block, in_eqns, in_eqn, in_arms, in_states, in_contract, in_node}
+use Rattle.hp_expand.specs.Replacing.{Replaced, beside, given, locals_of, equations_of, inlined_call, output_at, defined_by, in_expr, in_exprs, in_parts, in_definition, in_block, in_eqns, in_eqn, in_arms, in_states, in_condition, in_contract, in_node}
 use Rattle.hp_expand.specs.Numbering as number
-use Rattle.hp_expand.specs.Numbering.{declaring, new_in_decls, new_in_block, new_in_eqns, new_in_eqn, behind, numbered, replaced_node, with_node, replaced_items, no_node, replaced}
-use Rattle.law_wellmade.specs.Spelled.Integers.{ExprShort, ExprsShort, PartsShort, LastsShort, TestsShort, BlockShort, EqnsShort, EqnShort, ArmsShort, StatesShort, InputsShort, NodeShort}
+use Rattle.hp_expand.specs.Numbering.{declaring, new_in_decls, new_in_block, new_in_eqns, new_in_eqn, declaring_in, behind, numbered, replaced_node, with_node, replaced_items, no_node, replaced}
+use Rattle.law_wellmade.specs.Spelled.Integers.{ExprShort, ExprsShort, PartsShort, LastsShort, TestsShort, BlockShort, EqnsShort, EqnShort, ArmsShort, StatesShort, ConditionShort, ContractShort, InputsShort, NodeShort}
 
 -- ---- lists
 
@@ -124,6 +124,18 @@ mutual
     ),
     states_numbered to (k + (new_in_decls ds + new_in_eqns es)) ss h.1,
   )
+
+-- in a contract
+
+condition_renamed : (to : List ℕ → List ℕ) (o : Option Expr) → ConditionShort o → ConditionShort (option_map (renamed to) o)
+condition_renamed to None h = tt
+condition_renamed to (Some e) h = expr_renamed to e h
+
+contract_numbered : (o : Option Contract) → ContractShort o → ContractShort (option_map number.in_contract o)
+contract_numbered None h = tt
+contract_numbered (Some c) h =
+    let to = declaring_in c.body in
+    (block_numbered number.same_name 1 c.body h.0, (condition_renamed to c.assume h.1.0, condition_renamed to c.enforce h.1.1))
 
 -- ---- replacing
 
@@ -274,6 +286,32 @@ module _ (nodes : List ℕ → Node) (short : (f : List ℕ) → CalledShort (no
     states_replaced k no_state h = tt
     states_replaced k (more_states f b until unless s ss) h = ((block_replaced k b h.0.0, h.0.1), states_replaced (in_block nodes k b).next ss h.1)
 
+  -- what the conditions of a contract are made of, stands at the end of its equations
+  condition_held : (k : ℕ) (o : Option Expr) → ConditionShort o → Held ConditionShort (in_condition nodes k o)
+  condition_held k None h = (tt, (tt, tt))
+  condition_held k (Some e) h = expr_held k e h
+
+  contract_replaced : (o : Option Contract) → ContractShort o → ContractShort (in_contract nodes 1 o).part
+  contract_replaced None h = tt
+  contract_replaced (Some c) h =
+      let es = in_eqns nodes 1 (equations_of c.body) in
+      let assume = in_condition nodes es.next c.assume in
+      let enforce = in_condition nodes assume.next c.enforce in
+      let q = eqns_replaced 1 (equations_of c.body) (equations_short c.body h.0) in
+      let a = condition_held es.next c.assume h.1.0 in
+      let e = condition_held assume.next c.enforce h.1.1 in (
+        (
+          both_lasts (locals_of c.body) (es.locals ++ (assume.locals ++ enforce.locals)) (locals_short c.body h.0)
+              (both_lasts es.locals (assume.locals ++ enforce.locals) q.0 (both_lasts assume.locals enforce.locals a.0 e.0)),
+          of_rows (list_of_eqns es.part ++ (assume.before ++ enforce.before))
+              (both_rows (list_of_eqns es.part) (assume.before ++ enforce.before) (to_rows es.part q.1) (both_rows assume.before enforce.before a.1.0 e.1.0)),
+        ),
+        (a.1.1, e.1.1),
+      )
+
+  contract_short : (n : Node) → ContractShort n.contract → ContractShort (replaced_node nodes n).contract
+  contract_short n h = contract_numbered (in_contract nodes 1 n.contract).part (contract_replaced n.contract h)
+
   node_short : (n : Node) → NodeShort n → NodeShort (replaced_node nodes n)
   node_short n h =
       let m = in_node nodes n in
@@ -296,6 +334,17 @@ items_short nodes h (NodeItem n ∷ items) i s =
     let m = replaced_node nodes n in
     let alone = node_short nodes h n s.0 in
     (alone, items_short (with_node nodes m) (with_short nodes h m (i.0, alone)) items i.1 s.1)
+
+contracts_short : (nodes : List ℕ → Node) → ((f : List ℕ) → CalledShort (nodes f)) → (items : List Item) → EachNode InputsShort items → EachNode NodeShort items → EachNode (λ (n : Node). ContractShort n.contract) items
+    → EachNode (λ (n : Node). ContractShort n.contract) (replaced_items nodes items)
+contracts_short nodes h [] i s c = tt
+contracts_short nodes h (TypeItem t ∷ items) i s c = contracts_short nodes h items i s c
+contracts_short nodes h (NodeItem n ∷ items) i s c =
+    let m = replaced_node nodes n in
+    (contract_short nodes h n c.0, contracts_short (with_node nodes m) (with_short nodes h m (i.0, node_short nodes h n s.0)) items i.1 s.1 c.1)
+
+pub program_contracts_short : (program : List Item) → EachNode InputsShort program → EachNode NodeShort program → EachNode (λ (n : Node). ContractShort n.contract) program → EachNode (λ (n : Node). ContractShort n.contract) (replaced program)
+program_contracts_short program i s c = contracts_short no_node (λ f. (tt, (tt, (tt, tt)))) program i s c
 
 pub program_short : (program : List Item) → EachNode InputsShort program → EachNode NodeShort program → EachNode NodeShort (replaced program)
 program_short program i s = items_short no_node (λ f. (tt, (tt, (tt, tt)))) program i s

@@ -9,13 +9,14 @@ use Rattle.hp_tree.specs.declared.program.Item.{Item}
 use Rattle.hp_tree.specs.declared.program.Item.TheVariants.{TypeItem, NodeItem}
 use Rattle.hp_tree.specs.Expressions.{Expr, constant, variable, last_of, one, two, choose, pre, fby, arrow, when_is, merge, call, Exprs, no_expr, more_exprs, Parts, no_part, more_parts}
 use Rattle.hp_tree.specs.Blocks.{Decl, Block, block, Eqns, no_eqn, more_eqns, Eqn, define, switch, reset, automaton, Arms, no_arm, more_arms, States, no_state, more_states}
+use Rattle.hp_tree.specs.Programs.{Contract, Node}
 use Rattle.hp_parser.specs.declared.mode.Mode.{Mode}
 use Rattle.hp_parser.specs.declared.mode.Mode.TheVariants.{Whole, Plain}
 use Rattle.hp_print.proofs.Heights.{IsNatural, IsPlainConstant, Good, GoodAll, GoodParts}
 use Rattle.hp_print.proofs.Readable as readable
-use Rattle.hp_print.proofs.Readable.{IsInteger, GoodConstant, Path, GoodLocal, GoodParameterParts, GoodParameter, Each, GoodTransition, GoodBlock, GoodEqns, GoodEqn, GoodArms, GoodStates, GoodItem}
+use Rattle.hp_print.proofs.Readable.{IsInteger, GoodConstant, Path, GoodLocal, GoodParameterParts, GoodParameter, Each, GoodTransition, GoodBlock, GoodEqns, GoodEqn, GoodArms, GoodStates, GoodCondition, GoodOptional, GoodItem}
 use Rattle.law_judged.specs.Named.Scoped.{EachNode}
-use Rattle.law_wellmade.specs.Spelled.Integers.{ConstShort, ExprShort, ExprsShort, PartsShort, LastShort, LastsShort, TestsShort, BlockShort, EqnsShort, EqnShort, ArmsShort, StatesShort, InputsShort, NodeShort}
+use Rattle.law_wellmade.specs.Spelled.Integers.{ConstShort, ExprShort, ExprsShort, PartsShort, LastShort, LastsShort, TestsShort, BlockShort, EqnsShort, EqnShort, ArmsShort, StatesShort, ConditionShort, ContractShort, InputsShort, NodeShort}
 
 natural_short : (n : ℤ) → IsNatural n → FitsSigned w32 n
 natural_short (pos n) g = record { sfits = omega (arith, g) }
@@ -119,3 +120,18 @@ module _ (d : ℕ) where
   inputs_short nested inputs outputs more [] g = tt
   inputs_short nested inputs outputs more (TypeItem t ∷ items) g = inputs_short nested inputs outputs more items g.1
   inputs_short nested inputs outputs more (NodeItem n ∷ items) g = (parameters_short false n.inputs g.0.0.0, inputs_short nested inputs outputs more items g.1)
+
+  -- ---- contracts
+
+  condition_short : (o : Option Expr) → GoodCondition d o → ConditionShort o
+  condition_short None g = tt
+  condition_short (Some e) g = expr_short Whole e g.0
+
+  contract_short : (nested : ℕ) (o : Option Contract) → GoodOptional d nested o → ContractShort o
+  contract_short nested None g = tt
+  contract_short nested (Some c) g = (block_short c.body g.0.0, (condition_short c.assume g.1, condition_short c.enforce g.2))
+
+  pub contracts_short : (nested : ℕ) (inputs outputs more : Option ℕ) (items : List Item) → Each (GoodItem d nested inputs outputs more) items → EachNode (λ (n : Node). ContractShort n.contract) items
+  contracts_short nested inputs outputs more [] g = tt
+  contracts_short nested inputs outputs more (TypeItem t ∷ items) g = contracts_short nested inputs outputs more items g.1
+  contracts_short nested inputs outputs more (NodeItem n ∷ items) g = (contract_short nested n.contract g.0.2, contracts_short nested inputs outputs more items g.1)

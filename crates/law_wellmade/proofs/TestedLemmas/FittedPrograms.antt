@@ -24,6 +24,7 @@ use Rattle.law_judged.proofs.ReplacedLemmas.Marks.{all_few_calls}
 use Rattle.law_judged.proofs.ReplacedLemmas.JudgedReplaced.{all_can}
 use Rattle.law_values.specs.Valued.Judged.{ConstantIs, NodeSound}
 use Rattle.law_values.specs.Valued.Values.{scope_behind, Classing, class_behind, AreAccepted}
+use Rattle.law_values.specs.Accepted.Laws.{IsReady}
 use Rattle.law_values.specs.Accepted.Written.{AreClocked}
 use Rattle.law_values.proofs.AcceptedLemmas.Views.{constant_is}
 use Rattle.law_values.proofs.AcceptedLemmas.SoundNodes.{node_more, AllSound, judged_sound}
@@ -126,13 +127,13 @@ along_type done there t u e a =
       none = a.none;
     }
 
-grounds_there : (types : List TypeDecl) (s r : Scope) → r.constructors ≡ s.constructors → r.types ≡ s.types → Grounds types s → Grounds types r
+pub grounds_there : (types : List TypeDecl) (s r : Scope) → r.constructors ≡ s.constructors → r.types ≡ s.types → Grounds types s → Grounds types r
 grounds_there types s r e k g = record { known = λ c u h. let q = g.known c u (ap (λ z. lookup z c) (sym e) ∙ h) in (q.0, ap (λ z. lookup z u) k ∙ q.1, q.2, q.3) }
 
-abbrev Ground : List TypeDecl → List Item → Node → Type 0
+abbrev pub Ground : List TypeDecl → List Item → Node → Type 0
 Ground types earlier n = ((c : Const) → ConstantIs types (scope_behind earlier) c) × ((node_among earlier n.name ≡ None) × Grounds types (scope_behind earlier))
 
-abbrev GroundBehind : List TypeDecl → List Item → Type 0
+abbrev pub GroundBehind : List TypeDecl → List Item → Type 0
 GroundBehind types [] = ⊤
 GroundBehind types (TypeItem t ∷ earlier) = GroundBehind types earlier
 GroundBehind types (NodeItem n ∷ earlier) = Ground types earlier n × GroundBehind types earlier
@@ -164,7 +165,7 @@ controls_same : (enums : Enumerations) (tys : Types) (o : Option Contract) → c
 controls_same enums tys None = refl
 controls_same enums tys (Some c) = refl
 
-node_fits : (types : List TypeDecl) (among : List ℕ → Option Node) (enums : Enumerations) (s : Scope) (n : Node) → IsGround types among s → ((x : List ℕ) → lookup s.variables x ≡ None) → NodeTypes (HasConstant enums s) n → AroundOld n → NodeScoped n → NodeOk n → NodeSound types among s n
+pub node_fits : (types : List TypeDecl) (among : List ℕ → Option Node) (enums : Enumerations) (s : Scope) (n : Node) → IsGround types among s → ((x : List ℕ) → lookup s.variables x ≡ None) → NodeTypes (HasConstant enums s) n → AroundOld n → NodeScoped n → NodeOk n → NodeSound types among s n
     → NodeFits types s n → NodeFits types s (lowered_node enums n)
 node_fits types among enums s n g e t old sc ok h fits =
     let cs = controls_of n.contract in
@@ -257,6 +258,18 @@ module _ (types : List TypeDecl) (enums : Enumerations) where
         all_tested (class_behind class) items g.1 a.1 sc.1 o.1 ok.1 h.1 low_sound.1 fits.1,
       )
 
+-- what is known behind each node of a ready program
+pub ready_grounds : (program after : List Item) → IsReady program after → GroundBehind (types_of after) (reverse after)
+ready_grounds program after r =
+    let has_types = typed program r.named r.typed r.merges in
+    let all_scoped = scoped program r.named r.defined in
+    let sound = judged_sound program all_scoped r.armed r.named r.typed has_types r.defined in
+    let clocked = clocked_of (replaced program) after r.clocks in
+    let same : types_of after ≡ types_of program = types_clocked (replaced program) after clocked ∙ types_replaced no_node program in
+    let shape = shape_clocked program (replaced program) after (shape_replaced no_node program) clocked in
+    subst (λ z. GroundBehind z (reverse after)) (sym same)
+    (ground (types_of program) [] names.nothing [] [] program after refl so_far_none r.named (record { conses = refl; kinds = refl; none = λ f e. e }) sound shape tt)
+
 pub fitted_law : FittedLaw
 fitted_law program after r ok cons fits =
     let h = ready_constants_law program after r cons in
@@ -264,15 +277,10 @@ fitted_law program after r ok cons fits =
     let types = types_of after in
     let has_types = typed program r.named r.typed r.merges in
     let all_scoped = scoped program r.named r.defined in
-    let sound = judged_sound program all_scoped r.armed r.named r.typed has_types r.defined in
     let clocked = clocked_of (replaced program) after r.clocks in
     let can = all_can no_node program all_scoped r.names (calls_fit program r.named has_types) (all_few_calls no_node program r.calls) (few_variables program r.limits) in
-    let same : types ≡ types_of program = types_clocked (replaced program) after clocked ∙ types_replaced no_node program in
-    let shape = shape_clocked program (replaced program) after (shape_replaced no_node program) clocked in
-    let grounds : GroundBehind types (reverse after) =
-    subst (λ z. GroundBehind z (reverse after)) (sym same) (ground (types_of program) [] names.nothing [] [] program after refl so_far_none r.named (record { conses = refl; kinds = refl; none = λ f e. e }) sound shape tt) in
     let a = accepted program after r in
     let low_sound : SoundBehind types (low types enums (reverse after)) = subst (SoundBehind types) (sym (low_onto types enums after [])) (ready_sound_law program after r ok cons) in
     subst (AreTested types) (low_onto types enums after [])
-    (all_tested types enums a.0 (reverse after) grounds a.1 (each_reverse NodeScoped after (ready_scoped program after r)) (each_reverse (NodeNames IsOld) after (old_clocked (replaced program) after clocked (program_old program can)))
+    (all_tested types enums a.0 (reverse after) (ready_grounds program after r) a.1 (each_reverse NodeScoped after (ready_scoped program after r)) (each_reverse (NodeNames IsOld) after (old_clocked (replaced program) after clocked (program_old program can)))
     (each_reverse NodeOk after (each_ok after ok)) h low_sound fits)

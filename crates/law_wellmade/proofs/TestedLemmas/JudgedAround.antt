@@ -11,22 +11,22 @@ use Rattle.hp_tree.specs.declared.program.Item.{Item}
 use Rattle.hp_tree.specs.declared.program.Item.TheVariants.{TypeItem, NodeItem}
 use Rattle.hp_tree.specs.Expressions.{Expr, constant, variable, last_of, one, two, choose, pre, fby, arrow, when_is, merge, call, Exprs, no_expr, more_exprs, Parts, no_part, more_parts}
 use Rattle.hp_tree.specs.Blocks.{Decl, Block, block, Eqns, no_eqn, more_eqns, Eqn, define, switch, reset, automaton, Arms, no_arm, more_arms, States, no_state, more_states}
-use Rattle.hp_tree.specs.Programs.{TypeDecl, Node}
+use Rattle.hp_tree.specs.Programs.{TypeDecl, Contract, Node}
 use Rattle.hp_tree.specs.Instant.{Clock}
 use Rattle.hp_tree.specs.Meaning.{controls_of, types_of, node_among}
 use Rattle.hp_base.specs.Known.Known.{lookup, with_entry}
 use Rattle.hp_names.specs.Names.{with_names, state_names}
 use Rattle.hp_names.specs.Scopes as names
-use Rattle.hp_names.specs.Rules.{ConsIsNamed, PathIsNamed, ClockIsNamed, DeclsAreNamed, BlockIsNamed, EqnsAreNamed, EqnIsNamed, ArmsAreNamed, StatesAreNamed, NodeIsNamed, ItemsAreNamed}
-use Rattle.hp_typing.specs.Scopes.{with_variables, inside_node, with_constructors}
+use Rattle.hp_names.specs.Rules.{ConsIsNamed, PathIsNamed, ClockIsNamed, DeclsAreNamed, BlockIsNamed, EqnsAreNamed, EqnIsNamed, ArmsAreNamed, StatesAreNamed, ContractIsNamed, NodeIsNamed, ItemsAreNamed}
+use Rattle.hp_typing.specs.Scopes.{with_variables, inside, inside_node, with_constructors}
 use Rattle.hp_typing.specs.Types.{type_of, types_in, cons_type, enum_of, args_fit, constructors_of as all_of_type}
-use Rattle.hp_typing.specs.Rules.{Fits, PathIsTyped, ClockIsTyped, DeclsAreTyped, BlockIsTyped, EqnsAreTyped, EqnIsTyped, ArmsAreTyped, StatesAreTyped, NodeIsTyped, ItemsAreTyped}
+use Rattle.hp_typing.specs.Rules.{Fits, PathIsTyped, ClockIsTyped, DeclsAreTyped, BlockIsTyped, EqnsAreTyped, EqnIsTyped, ArmsAreTyped, StatesAreTyped, ContractIsTyped, NodeIsTyped, ItemsAreTyped}
 use Rattle.hp_typing.specs.Definitions.{EachStandsOnce}
 use Rattle.hp_typing.specs.Definedness.{conses_of_parts, conses_of_arms}
-use Rattle.hp_typing.specs.DefinitionRules.{MergesAreWhole, ArgumentsAreWhole, PartsAreWhole, TransitionsAreWhole, BlockIsDefined, EqnsAreDefined, EqnIsDefined, ArmsAreDefined, StatesAreDefined, NodeIsDefined, ItemsAreDefined}
+use Rattle.hp_typing.specs.DefinitionRules.{MergesAreWhole, ArgumentsAreWhole, PartsAreWhole, TransitionsAreWhole, BlockIsDefined, EqnsAreDefined, EqnIsDefined, ArmsAreDefined, StatesAreDefined, ConditionIsWhole, ContractIsDefined, NodeIsDefined, ItemsAreDefined}
 use Rattle.law_judged.specs.Typed.Scopes.{Scope, NameScope}
 use Rattle.law_judged.specs.Named.Scoped.{EachNode}
-use Rattle.law_values.specs.Valued.Judged.{Lasts, lasts_in, no_lasts, of_parts, of_arms, body_scope, RightSound, TestsSound, BlockSound, EqnsSound, EqnSound, ArmsSound, StatesSound, NodeSound}
+use Rattle.law_values.specs.Valued.Judged.{Lasts, lasts_in, lasts_of, no_lasts, of_parts, of_arms, body_scope, RightSound, TestsSound, ToldSound, BlockSound, EqnsSound, EqnSound, ArmsSound, StatesSound, ContractSound, NodeSound}
 use Rattle.law_values.specs.Valued.Values.{scope_behind}
 use Rattle.law_values.proofs.ValuedLemmas.Typed.{one_typed, two_typed, if_typed, pair_typed, when_typed, call_typed, row_typed, merge_typed, PartsHave, arg_typed}
 use Rattle.law_values.proofs.AcceptedLemmas.Views.{entry_cases, entry_kept}
@@ -34,8 +34,9 @@ use Rattle.law_values.proofs.AcceptedLemmas.SoundNodes.{AllSound}
 use Rattle.law_automata.proofs.LowerableLemmas.Texts.{onto}
 use Rattle.law_wellmade.proofs.TimelyLemmas.Covering.{Covers, covers_variables, covers_node, covers_behind}
 use Rattle.law_wellmade.proofs.TimelyLemmas.DifferLaws.{Grounds, grounds_more, SoFar, so_far_type, so_far_node, append_more, grounds_of}
+use Rattle.law_wellmade.specs.Tested.Apart.{ConditionApart}
 use Rattle.law_wellmade.specs.Tested.Fits.{ExprApart, ExprsApart, PartsApart, TestsApart}
-use Rattle.law_wellmade.specs.Tested.Around.{Around, nobody, Declares, among, AllConses, PathAround, WrittenAround, DeclsAround, BlockAround, EqnsAround, EqnAround, ArmsAround, StatesAround, interface_of, NodeAround}
+use Rattle.law_wellmade.specs.Tested.Around.{Around, nobody, Declares, among, AllConses, PathAround, WrittenAround, DeclsAround, BlockAround, EqnsAround, EqnAround, ArmsAround, StatesAround, interface_of, NodeAround, ContractAround}
 use Rattle.law_wellmade.proofs.TestedLemmas.Standing.{taken, fits_some, AllConses as Alike, apart_of, parts_same, arms_same, merge_conses}
 
 -- ---- expressions
@@ -89,6 +90,10 @@ module _ (types : List TypeDecl) (s : Scope) (g : Grounds types s) where
     tests_apart [] ok w = tt
     tests_apart (t ∷ ts) ok w = (expr_apart t.cond ty.Bool ok.0.1 w.0, tests_apart ts ok.1 w.1)
 
+    condition_apart : (o : Option Expr) → ToldSound types nodes s lasts o → ConditionIsWhole s o → ConditionApart o
+    condition_apart None ok w = tt
+    condition_apart (Some e) ok w = expr_apart e ty.Bool ok.1 w
+
   -- ---- constructors
 
   cons_known : (n : NameScope) → Covers s n → (c : Cons) → ConsIsNamed n c → IsSome (cons_type s c)
@@ -105,7 +110,7 @@ module _ (types : List TypeDecl) (s : Scope) (g : Grounds types s) where
 abbrev pub Complete : Around → Scope → Type 0
 Complete G s = (x : List ℕ) (t : Ty) → lookup s.variables x ≡ Some t → G x t
 
-from_scope : (ds : List Decl) (s : Scope) (x : List ℕ) (t : Ty) → lookup (with_variables s ds).variables x ≡ Some t → Declares ds x t ⊎ (lookup s.variables x ≡ Some t)
+pub from_scope : (ds : List Decl) (s : Scope) (x : List ℕ) (t : Ty) → lookup (with_variables s ds).variables x ≡ Some t → Declares ds x t ⊎ (lookup s.variables x ≡ Some t)
 from_scope [] s x t h = inr h
 from_scope (d ∷ ds) s x t h =
     ⊎_elim (λ k. inl (inr k)) (λ k. entry_cases s.variables d.name d.ty x t k (λ w. inr w) (λ e w z. inl (inl (sym e, w))))
@@ -195,6 +200,30 @@ module _ (types : List TypeDecl) (known : Scope) where
         ),
       )
 
+  inside_grounds : (b : Block) (s : Scope) → Grounds types s → Grounds types (inside s b)
+  inside_grounds (block ds es) s g = grounds_more types ds s g
+
+  contract_around : (nodes : List ℕ → Option Node) (o : Option Contract) (s : Scope) (n : NameScope) (inputs outputs : List Decl) (lasts : Lasts) (G : Around) → Grounds types s → More known s → Covers s n → Complete G s → ContractIsNamed n o → ContractIsTyped s o → ContractIsDefined s inputs outputs o → ContractSound types nodes s lasts o
+      → ContractAround known G o
+  contract_around nodes None s n inputs outputs lasts G g o k c m t d ok = tt
+  contract_around nodes (Some x) s n inputs outputs lasts G g o k c m t d ok =
+      let r = inside s x.body in
+      let g' = inside_grounds x.body s g in
+      let later = lasts_of x.body lasts in (
+        block_around nodes x.body s n lasts G g o k c m.0 t.0 d.0 ok.0,
+        (condition_apart types r g' nodes later x.assume ok.1.0 d.1.1.1.0, condition_apart types r g' nodes later x.enforce ok.1.1 d.1.1.1.1),
+      )
+
+  -- the inputs and outputs of a node are all that its contract sees
+  complete_interface : (y : Node) (s : Scope) → ((x : List ℕ) → lookup s.variables x ≡ None) → Complete (interface_of y) (inside_node s y)
+  complete_interface y s empty = complete_more (among nobody y.inputs) (with_variables s y.inputs) y.outputs (complete_more nobody s y.inputs (λ x u h. absurd (let q = sym (empty x) ∙ h in cc)))
+
+  node_contract_around : (nodes : List ℕ → Option Node) (y : Node) (s : Scope) (n : NameScope) → Grounds types s → More known s → Covers s n → ((x : List ℕ) → lookup s.variables x ≡ None) → NodeIsNamed n y → NodeIsTyped s y → NodeIsDefined s y → NodeSound types nodes s y → ContractAround known (interface_of y) y.contract
+  node_contract_around nodes y s n g o k empty m t d ok =
+      let g' = grounds_more types y.outputs (with_variables s y.inputs) (grounds_more types y.inputs s g) in
+      let o' = more_variables known y.outputs (with_variables s y.inputs) (more_variables known y.inputs s o) in
+      contract_around nodes y.contract (inside_node s y) (names.inside_node n y) y.inputs y.outputs (lasts_in y.outputs no_lasts) (interface_of y) g' o' (covers_node s n y k) (complete_interface y s empty) m.1.1.1.1.0 t.1.1.0 d.0 ok.1.1.1.1.1
+
   node_around : (nodes : List ℕ → Option Node) (y : Node) (s : Scope) (n : NameScope) → Grounds types s → More known s → Covers s n → ((x : List ℕ) → lookup s.variables x ≡ None) → NodeIsNamed n y → NodeIsTyped s y → NodeIsDefined s y → NodeSound types nodes s y → NodeAround known y
   node_around nodes y s n g o k empty m t d ok =
       let cs = controls_of y.contract in
@@ -204,13 +233,10 @@ module _ (types : List TypeDecl) (known : Scope) where
       let g' = grounds_more types y.outputs (with_variables s y.inputs) (grounds_more types y.inputs s g) in
       let o' = more_variables known y.outputs (with_variables s y.inputs) (more_variables known y.inputs s o) in
       let k' = covers_node s n y k in
-      let c' : Complete I r = complete_more (among nobody y.inputs) (with_variables s y.inputs) y.outputs (complete_more nobody s y.inputs (λ x u h. absurd (none x u h))) in (
+      let c' : Complete I r = complete_interface y s empty in (
         (decls_around r g' o' rn k' I c' y.inputs m.1.1.0 t.0, decls_around r g' o' rn k' I c' y.outputs m.1.1.1.0 t.1.0),
         block_around nodes y.body (body_scope s y) (names.with_variables rn cs) (lasts_in y.outputs no_lasts) (among I cs) (grounds_more types cs r g') (more_variables known cs r o') (covers_variables r rn cs k') (complete_more I r cs c') m.1.1.1.1.1.1 t.1.1.1.1 d.1.0 ok.1.1.1.1.0,
       )
-    where
-      none : (x : List ℕ) (u : Ty) → lookup s.variables x ≡ Some u → ⊥
-      none x u h = absurd (let q = sym (empty x) ∙ h in cc)
 
 -- ---- programs
 
@@ -239,4 +265,16 @@ items_around types before n done (NodeItem y ∷ items) split p k m t d ok =
     let g = subst (λ (ts : List TypeDecl). Grounds ts s) (sym split) (grounds_of before (types_of items) n s p) in (
       node_around types (scope_behind (onto (NodeItem y ∷ items) done)) (node_among done) y s n g (more_behind (NodeItem y ∷ items) done) k (no_variables done) m.0.1 t.0 d.0 ok.0.1.1,
       items_around types before (names.behind n (NodeItem y)) (NodeItem y ∷ done) items split (so_far_node before n s y p) (covers_behind s n (NodeItem y) k) m.1 t.1 d.1 ok.1,
+    )
+
+pub items_contracts_around : (types before : List TypeDecl) (n : NameScope) (done items : List Item) → types ≡ before ++ types_of items → SoFar before n (scope_behind done) → Covers (scope_behind done) n → ItemsAreNamed n items → ItemsAreTyped (scope_behind done) items → ItemsAreDefined (scope_behind done) items → AllSound types done items
+    → EachNode (λ (y : Node). ContractAround (scope_behind (onto items done)) (interface_of y) y.contract) items
+items_contracts_around types before n done [] split p k m t d ok = tt
+items_contracts_around types before n done (TypeItem y ∷ items) split p k m t d ok =
+    items_contracts_around types (before ++ y ∷ []) (names.behind n (TypeItem y)) (TypeItem y ∷ done) items (split ∙ sym (append_more before y (types_of items))) (so_far_type before n (scope_behind done) y p m.0.0) (covers_behind (scope_behind done) n (TypeItem y) k) m.1 t.1 d.1 ok
+items_contracts_around types before n done (NodeItem y ∷ items) split p k m t d ok =
+    let s = scope_behind done in
+    let g = subst (λ (ts : List TypeDecl). Grounds ts s) (sym split) (grounds_of before (types_of items) n s p) in (
+      node_contract_around types (scope_behind (onto (NodeItem y ∷ items) done)) (node_among done) y s n g (more_behind (NodeItem y ∷ items) done) k (no_variables done) m.0.1 t.0 d.0 ok.0.1.1,
+      items_contracts_around types before (names.behind n (NodeItem y)) (NodeItem y ∷ done) items split (so_far_node before n s y p) (covers_behind s n (NodeItem y) k) m.1 t.1 d.1 ok.1,
     )

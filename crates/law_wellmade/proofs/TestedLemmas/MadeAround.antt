@@ -25,9 +25,11 @@ use Rattle.law_values.specs.Accepted.Written.{AreClocked}
 use Rattle.law_values.proofs.AcceptedLemmas.ReplacesEqns.{ExprInlines, ExprsInline, PartsInline, BlockInlines, EqnsInline, EqnInlines, ArmsInline, StatesInline}
 use Rattle.law_automata.specs.Readied.Constants.{DeclTypes}
 use Rattle.law_automata.proofs.ReadiedLemmas.TypesKept.{AllTypes, node_replaced as types_replaced, with_types}
-use Rattle.law_wellmade.specs.Tested.Around.{nobody, among, BlockAround, interface_of, NodeAround}
-use Rattle.law_wellmade.proofs.TestedLemmas.Replaced.{block_around}
-use Rattle.law_wellmade.proofs.TestedLemmas.Numbered.{Seen, seen_more, block_numbered}
+use Rattle.law_wellmade.specs.Tested.Apart.{ContractApart}
+use Rattle.law_wellmade.specs.Tested.Around.{nobody, among, BlockAround, interface_of, NodeAround, ContractAround}
+use Rattle.law_wellmade.proofs.TestedLemmas.ApartKept.{contract_apart}
+use Rattle.law_wellmade.proofs.TestedLemmas.Replaced.{ConditionInlines, ContractInlines, block_around, contract_around}
+use Rattle.law_wellmade.proofs.TestedLemmas.Numbered.{Seen, seen_more, block_numbered, contract_numbered}
 use Rattle.law_wellmade.proofs.TestedLemmas.FullTypes.{Full, NodeFull}
 
 -- what is known of the shape of a node, whose type its crate keeps to itself
@@ -122,6 +124,21 @@ module _ (nodes : List ℕ → Node) (forms : List ℕ → Form) (alike : (f : L
         let k = then_marks (shapes.in_block forms b) (us ++ (vs ++ shapes.in_states forms ss)) h in
         (block_inlines b (first_marks (shapes.in_block forms b) (us ++ (vs ++ shapes.in_states forms ss)) h), states_inline ss (then_marks vs (shapes.in_states forms ss) (then_marks us (vs ++ shapes.in_states forms ss) k)))
 
+  condition_inlines : (o : Option Expr) → InlineNoContract (shapes.in_condition forms o) → ConditionInlines P o
+  condition_inlines None h = tt
+  condition_inlines (Some e) h = expr_inlines e h
+
+  contract_inlines : (o : Option Contract) → InlineNoContract (shapes.in_contract forms o) → ContractInlines P o
+  contract_inlines None h = tt
+  contract_inlines (Some c) h =
+      let assumes = shapes.in_condition forms c.assume in
+      let enforces = shapes.in_condition forms c.enforce in
+      let controls = shapes.in_controls c.controls in
+      let k = then_marks (shapes.in_block forms c.body) (assumes ++ (enforces ++ controls)) h in (
+        block_inlines c.body (first_marks (shapes.in_block forms c.body) (assumes ++ (enforces ++ controls)) h),
+        (condition_inlines c.assume (first_marks assumes (enforces ++ controls) k), condition_inlines c.enforce (first_marks enforces controls (then_marks assumes (enforces ++ controls) k))),
+      )
+
 -- ---- a node whose inlined calls are replaced
 
 controls_in : (nodes : List ℕ → Node) (o : Option Contract) → controls_of (in_contract nodes 1 o).part ≡ controls_of o
@@ -155,6 +172,12 @@ module _ (types : List TypeDecl) (known : Scope) where
             (subst (λ z. Seen (also (interface m1) z) G) (sym cs) (seen_more (interface n) (interface_of n) (controls_of n.contract) (seen_interface n))) (λ x t g. g) made),
       )
 
+  replaced_contract : (nodes : List ℕ → Node) → ((f : List ℕ) → NodeAround known (nodes f)) → ((f : List ℕ) → IsReady (nodes f)) → (n : Node) → CanBeReplaced nodes n → ContractInlines (Uncontrolled nodes) n.contract → ContractAround known (interface_of n) n.contract → ContractAround known (interface_of n) (replaced_node nodes n).contract
+  replaced_contract nodes bodies ready n can i h =
+      let m = in_node nodes n in
+      let sc = in_node_scoped nodes ready n can.scoped can.plain can.fits can.few_calls in
+      contract_numbered known (interface m) (interface_of n) m.contract sc.contract (seen_interface n) (contract_around known nodes bodies (interface_of n) n.contract i h)
+
   with_around : (nodes : List ℕ → Node) → ((f : List ℕ) → NodeAround known (nodes f)) → (n : Node) → NodeAround known n → (f : List ℕ) → NodeAround known (with_node nodes n f)
   with_around nodes bodies n h f = by (bytes_eq n.name f)
     where
@@ -165,6 +188,11 @@ module _ (types : List TypeDecl) (known : Scope) where
   contract_there : (nodes : List ℕ → Node) (o : Option Contract) → is_some (option_map number_contract (in_contract nodes 1 o).part) ≡ is_some o
   contract_there nodes None = refl
   contract_there nodes (Some c) = refl
+
+  form_alike : (nodes : List ℕ → Node) (forms : List ℕ → Form) → ((f : List ℕ) → (forms f).has_contract ≡ is_some (nodes f).contract) → (n : Node) (f : List ℕ) (b : Bool)
+      → (if b then shapes.form_of forms n else forms f).has_contract ≡ is_some (if b then replaced_node nodes n else nodes f).contract
+  form_alike nodes forms alike n f true = sym (contract_there nodes n.contract)
+  form_alike nodes forms alike n f false = alike f
 
   pub all_made : (nodes : List ℕ → Node) (forms : List ℕ → Form) → ((f : List ℕ) → NodeAround known (nodes f)) → ((f : List ℕ) → IsReady (nodes f)) → ((f : List ℕ) → AllTypes (Full types) (nodes f)) → ((f : List ℕ) → (forms f).has_contract ≡ is_some (nodes f).contract) → (xs ys : List Item)
       → EachNode (NodeAround known) xs → EachNode (NodeFull types) xs → AllCanBeReplaced nodes xs → AreShaped forms xs → AreClocked (replaced_items nodes xs) ys → EachNode Made ys
@@ -183,9 +211,24 @@ module _ (types : List TypeDecl) (known : Scope) where
       let cs : controls_of m.contract ≡ controls_of n.contract = controls_numbered (in_node nodes n).contract ∙ controls_in nodes n.contract in
       subst (λ z. EachNode Made (z ∷ ys)) (sym c.0.1.1) (
         (m, (c.0.0, (refl, (c.0.1.0, (around, (r.scoped, (types_m, subst (DeclTypes (Full types)) (sym cs) t.0.1))))))),
-        all_made (with_node nodes m) (shapes.with_form forms n.name (shapes.form_of forms n)) (with_around nodes bodies m around) (with_ready nodes ready m r) (with_types (Full types) nodes full m types_m) (λ f. form f (bytes_eq n.name f)) xs ys a.1 t.1 can.1 shape.1 c.1,
+        all_made (with_node nodes m) (shapes.with_form forms n.name (shapes.form_of forms n)) (with_around nodes bodies m around) (with_ready nodes ready m r) (with_types (Full types) nodes full m types_m) (λ f. form_alike nodes forms alike n f (bytes_eq n.name f)) xs ys a.1 t.1 can.1 shape.1 c.1,
       )
-    where
-      form : (f : List ℕ) (b : Bool) → (if b then shapes.form_of forms n else forms f).has_contract ≡ is_some (if b then replaced_node nodes n else nodes f).contract
-      form f true = sym (contract_there nodes n.contract)
-      form f false = alike f
+
+  -- the contracts of its nodes, with their clocks
+  pub contracts_apart : (nodes : List ℕ → Node) (forms : List ℕ → Form) → ((f : List ℕ) → NodeAround known (nodes f)) → ((f : List ℕ) → IsReady (nodes f)) → ((f : List ℕ) → (forms f).has_contract ≡ is_some (nodes f).contract) → (xs ys : List Item)
+      → EachNode (NodeAround known) xs → EachNode (λ (n : Node). ContractAround known (interface_of n) n.contract) xs → AllCanBeReplaced nodes xs → AreShaped forms xs → AreClocked (replaced_items nodes xs) ys → EachNode (λ (n : Node). ContractApart n.contract) ys
+  contracts_apart nodes forms bodies ready alike [] [] a t can shape c = tt
+  contracts_apart nodes forms bodies ready alike [] (y ∷ ys) a t can shape c = absurd c
+  contracts_apart nodes forms bodies ready alike (TypeItem d ∷ xs) [] a t can shape c = absurd c
+  contracts_apart nodes forms bodies ready alike (NodeItem n ∷ xs) [] a t can shape c = absurd c
+  contracts_apart nodes forms bodies ready alike (TypeItem d ∷ xs) (y ∷ ys) a t can shape c =
+      subst (λ z. EachNode (λ (n : Node). ContractApart n.contract) (z ∷ ys)) (sym c.0) (contracts_apart nodes forms bodies ready alike xs ys a t can shape c.1)
+  contracts_apart nodes forms bodies ready alike (NodeItem n ∷ xs) (y ∷ ys) a t can shape c =
+      let m = replaced_node nodes n in
+      let around = replaced_around nodes bodies ready n can.0 (block_inlines nodes forms alike n.body shape.0.body_inlines_no_contract) a.0 in
+      let told = replaced_contract nodes bodies ready n can.0 (contract_inlines nodes forms alike n.contract shape.0.contract_inlines_no_contract) t.0 in
+      let r = node_replaced nodes ready n can.0 in
+      subst (λ z. EachNode (λ (w : Node). ContractApart w.contract) (z ∷ ys)) (sym c.0.1.1) (
+        contract_apart known c.0.0 (interface_of n) m.contract told,
+        contracts_apart (with_node nodes m) (shapes.with_form forms n.name (shapes.form_of forms n)) (with_around nodes bodies m around) (with_ready nodes ready m r) (λ f. form_alike nodes forms alike n f (bytes_eq n.name f)) xs ys a.1 t.1 can.1 shape.1 c.1,
+      )

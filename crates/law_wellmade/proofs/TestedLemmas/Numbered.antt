@@ -1,18 +1,21 @@
 -- Numbering new names keeps tests fitting.
 use Rattle.std.proofs.Common.{◌≡◌, inl, inr, ℕ, ◌+◌, Bool, true, false, ◌&&◌, ◌||◌, if◌then◌else◌, List, [], ◌∷◌, refl, sym, ap, ◌∙◌, subst}
-use Rattle.std.specs.Prelude.{IsTrue, IsFalse}
+use Rattle.std.specs.Prelude.{IsTrue, IsFalse, Option, None, Some, option_map}
 use Rattle.std.specs.Str.{bytes_eq}
 use Rattle.hp_base.specs.declared.ty.Ty.{Ty}
+use Rattle.hp_tree.specs.Expressions.{Expr}
 use Rattle.hp_tree.specs.Blocks.{Decl, Block, block, Eqns, no_eqn, more_eqns, Eqn, define, switch, reset, automaton, Arms, no_arm, more_arms, States, no_state, more_states}
+use Rattle.hp_tree.specs.Programs.{Contract}
 use Rattle.hp_tree.specs.Meaning.{declares}
 use Rattle.law_judged.specs.Typed.Scopes.{Scope}
 use Rattle.law_values.specs.Valued.Judged.{of_arms}
-use Rattle.law_judged.specs.Named.Scoped.{Names, also, BlockScoped, EqnsScoped, EqnScoped, ArmsScoped, StatesScoped}
+use Rattle.law_judged.specs.Named.Scoped.{Names, no_names, also, BlockScoped, EqnsScoped, EqnScoped, ArmsScoped, StatesScoped, ContractScoped}
 use Rattle.law_judged.proofs.NamedLemmas.Sets.{or_left, or_right, name_same}
 use Rattle.hp_expand.specs.NewNames.{is_new, numbered_name}
-use Rattle.hp_expand.specs.Renaming.{renamed_decls}
-use Rattle.hp_expand.specs.Numbering.{one_if_new, declaring_one, declaring, new_in_decls, new_in_block, new_in_eqn, in_block, in_eqns, in_eqn, in_arms, in_states}
-use Rattle.law_wellmade.specs.Tested.Around.{Around, Declares, among, BlockAround, EqnsAround, EqnAround, ArmsAround, StatesAround}
+use Rattle.hp_expand.specs.Renaming.{renamed, renamed_decls}
+use Rattle.hp_expand.specs.Numbering.{one_if_new, declaring_one, declaring, new_in_decls, new_in_block, new_in_eqn, same_name, in_block, in_eqns, in_eqn, in_arms, in_states, declaring_in, in_contract}
+use Rattle.law_wellmade.specs.Tested.Apart.{ConditionApart}
+use Rattle.law_wellmade.specs.Tested.Around.{Around, Declares, among, BlockAround, EqnsAround, EqnAround, ArmsAround, StatesAround, ContractAround}
 use Rattle.law_wellmade.proofs.TestedLemmas.Renamed.{apart_renamed, tests_renamed, declares_renamed, Becomes, decls_renamed, one_type}
 
 -- a name that is not declared is said as before
@@ -84,3 +87,13 @@ module _ (known : Scope) where
     states_numbered seen own to k G H no_state sc s b h = tt
     states_numbered seen own to k G H (more_states f (block ds es) until unless a ss) sc s b h =
         (block_numbered seen own to k G H (block ds es) sc.0 s b h.0, (tests_renamed (declaring to k ds) until h.1.0, (tests_renamed to unless h.1.1.0, states_numbered seen own to (k + new_in_block (block ds es)) G H ss sc.1 s b h.1.1.1)))
+
+  pub contract_numbered : (seen : Names) (G : Around) (o : Option Contract) → ContractScoped seen o → Seen seen G → ContractAround known G o → ContractAround known G (option_map in_contract o)
+  contract_numbered seen G None sc s h = tt
+  contract_numbered seen G (Some c) sc s h =
+      let to = declaring_in c.body in
+      (block_numbered seen no_names same_name 1 G G c.body sc s (λ x t g. g) h.0, (condition_renamed to c.assume h.1.0, condition_renamed to c.enforce h.1.1))
+    where
+      condition_renamed : (to : List ℕ → List ℕ) (o : Option Expr) → ConditionApart o → ConditionApart (option_map (renamed to) o)
+      condition_renamed to None k = tt
+      condition_renamed to (Some e) k = apart_renamed to e k

@@ -1,21 +1,22 @@
 -- Replacing inlined calls keeps tests fitting.
 use Rattle.std.proofs.Common.{◌≡◌, inl, inr, ℕ, List, [], ◌∷◌, ◌++◌, refl, sym, ap, subst}
-use Rattle.std.specs.Prelude.{true, false}
+use Rattle.std.specs.Prelude.{⊤, true, false, Option, None, Some}
 use Rattle.hp_base.specs.declared.span.Span.{Span}
 use Rattle.hp_base.specs.declared.ty.Ty.{Ty}
 use Rattle.hp_tree.specs.Expressions.{Expr, constant, variable, last_of, one, two, choose, pre, fby, arrow, when_is, merge, call, Exprs, no_expr, more_exprs, Parts, no_part, more_parts}
-use Rattle.hp_tree.specs.Blocks.{Decl, Block, block, Eqns, no_eqn, more_eqns, Eqn, define, switch, reset, automaton, Arms, no_arm, more_arms, States, no_state, more_states, list_of_eqns}
-use Rattle.hp_tree.specs.Programs.{Node}
+use Rattle.hp_tree.specs.Blocks.{Decl, Block, block, Eqns, no_eqn, more_eqns, Eqn, define, switch, reset, automaton, Arms, no_arm, more_arms, States, no_state, more_states, eqns_of, list_of_eqns}
+use Rattle.hp_tree.specs.Programs.{Contract, Node}
 use Rattle.hp_tree.specs.Meaning.{controls_of}
 use Rattle.law_judged.specs.Typed.Scopes.{Scope}
 use Rattle.law_values.specs.Valued.Judged.{of_parts, of_arms}
 use Rattle.hp_expand.specs.NewNames.{marked}
 use Rattle.hp_expand.specs.Renaming.{renamed_decls, renamed_eqns}
-use Rattle.hp_expand.specs.Replacing.{given, locals_of, equations_of, names_of, output_at, inlined_call, defined_by, in_expr, in_exprs, in_parts, in_definition, in_block, in_eqns, in_eqn, in_arms, in_states}
+use Rattle.hp_expand.specs.Replacing.{given, locals_of, equations_of, names_of, output_at, inlined_call, defined_by, in_expr, in_exprs, in_parts, in_definition, in_block, in_eqns, in_eqn, in_arms, in_states, in_condition, in_contract}
 use Rattle.law_values.proofs.AcceptedLemmas.ReplacesEqns.{ExprInlines, ExprsInline, PartsInline, BlockInlines, EqnsInline, EqnInlines, ArmsInline, StatesInline}
 use Rattle.law_wellmade.specs.Timely.Tested.{AreApart}
+use Rattle.law_wellmade.specs.Tested.Apart.{ConditionApart}
 use Rattle.law_wellmade.specs.Tested.Fits.{ExprApart, ExprsApart, PartsApart}
-use Rattle.law_wellmade.specs.Tested.Around.{Around, Declares, among, DeclsAround, BlockAround, EqnsAround, EqnAround, ArmsAround, StatesAround, interface_of, NodeAround}
+use Rattle.law_wellmade.specs.Tested.Around.{Around, Declares, among, DeclsAround, BlockAround, EqnsAround, EqnAround, ArmsAround, StatesAround, interface_of, NodeAround, ContractAround}
 use Rattle.law_wellmade.proofs.TestedLemmas.Renamed.{first_declares, then_declares, declares_renamed, Becomes, Within, decls_renamed, decls_within, decls_both, one_type, eqns_renamed, ListAround, list_around, row_around, both_around}
 
 -- the parts of a called node, under other names
@@ -49,6 +50,16 @@ module _ (known : Scope) (n : Node) (h : NodeAround known n) (u : controls_of n.
 output_apart : (a : Span) (ys : List (List ℕ)) → ExprApart (output_at a ys)
 output_apart a [] = tt
 output_apart a (y ∷ ys) = tt
+
+-- which nodes are inlined in a contract
+module _ (P : List ℕ → Type 0) where
+  abbrev pub ConditionInlines : Option Expr → Type 0
+  ConditionInlines None = ⊤
+  ConditionInlines (Some e) = ExprInlines P e
+
+  abbrev pub ContractInlines : Option Contract → Type 0
+  ContractInlines None = ⊤
+  ContractInlines (Some c) = BlockInlines P c.body × (ConditionInlines c.assume × ConditionInlines c.enforce)
 
 module _ (known : Scope) (nodes : List ℕ → Node) (bodies : (f : List ℕ) → NodeAround known (nodes f)) where
   abbrev pub Free : List ℕ → Type 0
@@ -187,19 +198,19 @@ module _ (known : Scope) (nodes : List ℕ → Node) (bodies : (f : List ℕ) �
         let new = renamed_decls (marked args.next) ((nodes f).inputs ++ ((nodes f).outputs ++ locals_of (nodes f).body)) in
         (call_around f k es i.0 u (exprs_around k es i.1 h (sub_first args.locals new u)), defined_around s xs at (inlined_call (nodes f) (in_exprs nodes k es)).part)
 
+  within_more : (G H : Around) → Within G H → (ds ls : List Decl) → Within (among G ds) (among H (ds ++ ls))
+  within_more G H w ds ls x t (inl g) = inl (first_declares ds ls x t g)
+  within_more G H w ds ls x t (inr g) = inr (w x t g)
+
   mutual
     pub block_around : (G H : Around) → Within G H → (k : ℕ) (b : Block) → BlockInlines Free b → BlockAround known G b → BlockAround known H (in_block nodes k b).part
     block_around G H w k (block ds es) i h =
         let ls = (in_eqns nodes k es).locals in
         let G' = among G ds in
         let H' = among H (ds ++ ls) in
-        let w' : Within G' H' = λ x t g. more G H w ds ls x t g in
+        let w' : Within G' H' = λ x t g. within_more G H w ds ls x t g in
         let r = eqns_around G' H' w' k es i h.1 (λ x t g. inl (then_declares ds ls x t g)) in
         (decls_both known H' ds ls (decls_within known G' H' w' ds h.0) r.0, r.1)
-      where
-        more : (G H : Around) → Within G H → (ds ls : List Decl) → Within (among G ds) (among H (ds ++ ls))
-        more G H w ds ls x t (inl g) = inl (first_declares ds ls x t g)
-        more G H w ds ls x t (inr g) = inr (w x t g)
 
     eqns_around : (G H : Around) → Within G H → (k : ℕ) (es : Eqns) → EqnsInline Free es → EqnsAround known G es → Sub H (in_eqns nodes k es).locals → DeclsAround known H (in_eqns nodes k es).locals × EqnsAround known H (in_eqns nodes k es).part
     eqns_around G H w k no_eqn i h s = (tt, tt)
@@ -228,3 +239,39 @@ module _ (known : Scope) (nodes : List ℕ → Node) (bodies : (f : List ℕ) �
     states_around : (G H : Around) → Within G H → (k : ℕ) (ss : States) → StatesInline Free ss → StatesAround known G ss → StatesAround known H (in_states nodes k ss).part
     states_around G H w k no_state i h = tt
     states_around G H w k (more_states f b until unless s ss) i h = (block_around G H w k b i.0 h.0, (h.1.0, (h.1.1.0, states_around G H w (in_block nodes k b).next ss i.1 h.1.1.1)))
+
+  -- ---- contracts: what their conditions are made of, stands at the end of their equations
+
+  condition_around : (D : Around) (k : ℕ) (o : Option Expr) → ConditionInlines Free o → ConditionApart o → Sub D (in_condition nodes k o).locals → ConditionApart (in_condition nodes k o).part × Good D (in_condition nodes k o).locals (in_condition nodes k o).before
+  condition_around D k None i h s = (tt, (tt, tt))
+  condition_around D k (Some e) i h s = expr_around D k e i h s
+
+  observer_around : (G : Around) (k : ℕ) (b : Block) (assume enforce : Option Expr) → BlockInlines Free b → ConditionInlines Free assume → ConditionInlines Free enforce → BlockAround known G b → ConditionApart assume → ConditionApart enforce
+      → BlockAround known G (block (locals_of b ++ ((in_eqns nodes k (equations_of b)).locals ++ ((in_condition nodes (in_eqns nodes k (equations_of b)).next assume).locals ++ (in_condition nodes (in_condition nodes (in_eqns nodes k (equations_of b)).next assume).next enforce).locals)))
+      (eqns_of (list_of_eqns (in_eqns nodes k (equations_of b)).part ++ ((in_condition nodes (in_eqns nodes k (equations_of b)).next assume).before ++ (in_condition nodes (in_condition nodes (in_eqns nodes k (equations_of b)).next assume).next enforce).before))))
+      × (ConditionApart (in_condition nodes (in_eqns nodes k (equations_of b)).next assume).part × ConditionApart (in_condition nodes (in_condition nodes (in_eqns nodes k (equations_of b)).next assume).next enforce).part)
+  observer_around G k (block ds es) assume enforce ib ia ie h ha he =
+      let q = in_eqns nodes k es in
+      let a = in_condition nodes q.next assume in
+      let c = in_condition nodes a.next enforce in
+      let more = a.locals ++ c.locals in
+      let ls = q.locals ++ more in
+      let G' = among G ds in
+      let H' = among G (ds ++ ls) in
+      let w' : Within G' H' = λ x t g. within_more G G (λ y u k. k) ds ls x t g in
+      let all : Sub H' ls = λ x t g. inl (then_declares ds ls x t g) in
+      let sub_more = sub_then H' q.locals more all in
+      let r = eqns_around G' H' w' k es ib h.1 (sub_first H' q.locals more all) in
+      let ra = condition_around H' q.next assume ia ha (sub_first H' a.locals c.locals sub_more) in
+      let rc = condition_around H' a.next enforce ie he (sub_then H' a.locals c.locals sub_more) in
+      let news = a.before ++ c.before in (
+        (
+          decls_both known H' ds ls (decls_within known G' H' w' ds h.0) (decls_both known H' q.locals more r.0 (decls_both known H' a.locals c.locals ra.1.0 rc.1.0)),
+          row_around known H' (list_of_eqns q.part ++ news) (both_around known H' (list_of_eqns q.part) news (list_around known H' q.part r.1) (both_around known H' a.before c.before ra.1.1 rc.1.1)),
+        ),
+        (ra.0, rc.0),
+      )
+
+  pub contract_around : (G : Around) (o : Option Contract) → ContractInlines Free o → ContractAround known G o → ContractAround known G (in_contract nodes 1 o).part
+  contract_around G None i h = tt
+  contract_around G (Some c) i h = observer_around G 1 c.body c.assume c.enforce i.0 i.1.0 i.1.1 h.0 h.1.0 h.1.1

@@ -34,11 +34,11 @@ use Rattle.law_wellmade.specs.Timely.Tested.{ConstructorsDiffer}
 use Rattle.law_wellmade.proofs.TimelyLemmas.Covering.{covers_nothing}
 use Rattle.law_wellmade.proofs.TimelyLemmas.DifferLaws.{differ, Grounds, SoFar, so_far_none, so_far_type, so_far_node, append_more, grounds_of}
 use Rattle.law_wellmade.specs.Tested.Fits.{NodeFits, FitBehind}
-use Rattle.law_wellmade.specs.Tested.Around.{NodeAround}
-use Rattle.law_wellmade.specs.Tested.Laws.{FitLaw, TestedLaw}
+use Rattle.law_wellmade.specs.Tested.Around.{NodeAround, ContractAround, interface_of}
+use Rattle.law_wellmade.specs.Tested.Laws.{FitLaw, TestedLaw, ContractsApartLaw}
 use Rattle.law_wellmade.proofs.TestedLemmas.FullTypes.{Full, program_full}
-use Rattle.law_wellmade.proofs.TestedLemmas.JudgedAround.{More, constructors_kept, no_variables, items_around}
-use Rattle.law_wellmade.proofs.TestedLemmas.MadeAround.{Made, all_made}
+use Rattle.law_wellmade.proofs.TestedLemmas.JudgedAround.{More, constructors_kept, no_variables, items_around, items_contracts_around}
+use Rattle.law_wellmade.proofs.TestedLemmas.MadeAround.{Made, all_made, contracts_apart}
 use Rattle.law_wellmade.proofs.TestedLemmas.Settled.{Rich, node_settled}
 use Rattle.law_wellmade.proofs.TestedLemmas.FittedPrograms.{fitted_law}
 
@@ -119,3 +119,16 @@ fit_law program after r cons =
 
 pub tested_law : TestedLaw
 tested_law program after r ok cons = fitted_law program after r ok cons (fit_law program after r cons)
+
+pub contracts_apart_law : ContractsApartLaw
+contracts_apart_law program after r =
+    let types = types_of program in
+    let known = scope_behind (onto program []) in
+    let has_types = typed program r.named r.typed r.merges in
+    let all_scoped = scoped program r.named r.defined in
+    let sound = judged_sound program all_scoped r.armed r.named r.typed has_types r.defined in
+    let clocked = clocked_of (replaced program) after r.clocks in
+    let can = all_can no_node program all_scoped r.names (calls_fit program r.named has_types) (all_few_calls no_node program r.calls) (few_variables program r.limits) in
+    let around : EachNode (NodeAround known) program = items_around types [] names.nothing [] program refl so_far_none covers_nothing r.named r.typed r.defined sound in
+    let told : EachNode (λ (y : Node). ContractAround known (interface_of y) y.contract) program = items_contracts_around types [] names.nothing [] program refl so_far_none covers_nothing r.named r.typed r.defined sound in
+    contracts_apart types known no_node shapes.nothing_known (λ f. ((tt, tt), (tt, tt))) none_ready (λ f. refl) program after around told can r.shapes clocked

@@ -7,7 +7,7 @@ use Rattle.hp_base.specs.declared.ty.Const.TheVariants as const
 use Rattle.hp_tree.specs.Expressions.{Expr, constant, variable, last_of, one, two, choose, pre, fby, arrow, when_is, merge, call, Exprs, no_expr, more_exprs, Parts, no_part, more_parts}
 use Rattle.hp_tree.specs.Blocks.{Decl, Block, block, Eqns, no_eqn, more_eqns, Eqn, define, switch, reset, automaton, Arms, no_arm, more_arms, States, no_state, more_states}
 use Rattle.hp_tree.specs.declared.block.Trans.{Trans}
-use Rattle.hp_tree.specs.Programs.{Node}
+use Rattle.hp_tree.specs.Programs.{Contract, Node}
 
 abbrev pub ConstShort : Const → Type 0
 ConstShort (const.I n) = FitsSigned w32 n
@@ -79,3 +79,13 @@ NodeShort n = LastsShort n.outputs × BlockShort n.body
 -- the first values of its inputs, of which a text has none
 abbrev pub InputsShort : Node → Type 0
 InputsShort n = LastsShort n.inputs
+
+-- what a contract assumes or enforces
+abbrev pub ConditionShort : Option Expr → Type 0
+ConditionShort None = ⊤
+ConditionShort (Some e) = ExprShort e
+
+-- the block of a contract, and its conditions
+abbrev pub ContractShort : Option Contract → Type 0
+ContractShort None = ⊤
+ContractShort (Some c) = BlockShort c.body × (ConditionShort c.assume × ConditionShort c.enforce)

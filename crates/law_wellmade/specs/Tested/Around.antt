@@ -3,13 +3,14 @@ use Rattle.std.specs.Prelude.{◌≡◌, ◌⊎◌, ⊤, ℕ, List, [], ◌∷�
 use Rattle.hp_base.specs.declared.ty.Ty.{Ty}
 use Rattle.hp_tree.specs.declared.decl.Cons.{Cons}
 use Rattle.hp_tree.specs.Blocks.{Decl, Block, block, Eqns, no_eqn, more_eqns, Eqn, define, switch, reset, automaton, Arms, no_arm, more_arms, States, no_state, more_states}
-use Rattle.hp_tree.specs.Programs.{Node}
+use Rattle.hp_tree.specs.Programs.{Contract, Node}
 use Rattle.hp_tree.specs.Instant.{Clock}
 use Rattle.hp_tree.specs.Meaning.{controls_of}
 use Rattle.hp_typing.specs.Types.{cons_type}
 use Rattle.law_judged.specs.Typed.Scopes.{Scope}
 use Rattle.law_values.specs.Valued.Judged.{of_arms}
 use Rattle.law_wellmade.specs.Timely.Tested.{AreApart}
+use Rattle.law_wellmade.specs.Tested.Apart.{ConditionApart}
 use Rattle.law_wellmade.specs.Tested.Fits.{ExprApart, TestsApart}
 
 -- which names have which types
@@ -77,3 +78,8 @@ module _ (known : Scope) where
   -- a node: what is said of its inputs and outputs, and its body
   abbrev pub NodeAround : Node → Type 0
   NodeAround n = (DeclsAround (interface_of n) n.inputs × DeclsAround (interface_of n) n.outputs) × BlockAround (among (interface_of n) (controls_of n.contract)) n.body
+
+  -- a contract, which sees the inputs and outputs of its node
+  abbrev pub ContractAround : Around → Option Contract → Type 0
+  ContractAround G None = ⊤
+  ContractAround G (Some c) = BlockAround G c.body × (ConditionApart c.assume × ConditionApart c.enforce)
