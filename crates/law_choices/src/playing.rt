@@ -4,7 +4,7 @@
 #![tactic(auto)]
 
 ghost use Rattle.law_choices.specs.Playing.Drawn.{DrawnFlagsLaw};
-ghost use Rattle.law_choices.specs.Playing.Greatest.{GreatestLaw};
+ghost use Rattle.law_choices.specs.Playing.Greatest.{GreatestLaw, GreatestRunLaw};
 ghost use Rattle.law_choices.specs.Playing.Laws.{InputsChoiceLaw, PlayingLaw, SteeredChoiceLaw};
 ghost use Rattle.law_choices.specs.Playing.Worked.{SomeMirroredLaw};
 ghost use Rattle.law_choices.specs.Playing.Steering.{ControllerAnswersLaw, TypedAtLaw, WholeRunLaw};
@@ -62,9 +62,10 @@ pub fn controllers_answer()
     controllers_answer_with_the_choice();
 }
 
-/// In the nodes of a program that ask controllers of machines which mirror their contracts, and of which nothing is free but the inputs, the controllable variables have the greatest permitted values: at each instant of each reaction with which the nodes answer.
+/// In the nodes of a program that ask controllers of machines which mirror their contracts, and of which nothing is free but the inputs, the controllable variables have the greatest permitted values: at each instant of each reaction with which the nodes answer. What such a node answers are the outputs of a reaction of the program in which it has these values.
 pub fn nodes_that_know_all_choose_the_greatest()
-    ensures { GreatestLaw }
+    ensures greatest { GreatestLaw }
+    ensures runs { GreatestRunLaw }
 {
     callees_may_differ_elsewhere();
     equations_may_be_added();

@@ -51,7 +51,7 @@ use Rattle.law_choices.specs.Runs.Laws.{ChoosesValues}
 use Rattle.law_choices.specs.InTurn.Laws.{IsAllowed, IsChoosing, said_of}
 use Rattle.law_choices.specs.InTurn.Nodes.{AreAllMade, Contracted, IsMade, IsOwn, Made, all_nodes, contracted, loops, plain}
 use Rattle.law_choices.specs.Answered.Loops as loop
-use Rattle.law_choices.specs.Playing.Greatest.{AreMirrored, ChoosesGreatest, GreatestLaw, KnowsAll}
+use Rattle.law_choices.specs.Playing.Greatest.{AreMirrored, ChoosesGreatest, GreatestLaw, GreatestRunLaw, KnowsAll}
 use Rattle.law_choices.specs.Playing.Inputs.{HasInputsAlone}
 use Rattle.law_choices.specs.Playing.Mirrored.{IsMirrored}
 use Rattle.law_choices.proofs.AnsweredLemmas.Programs.{decls_kinds, takes_kinds}
@@ -60,6 +60,7 @@ use Rattle.law_choices.proofs.InTurnLemmas.Programs.{Grounded, TurnLaws, all_old
 use Rattle.law_choices.proofs.OnClocksLemmas.Programs.{some_of, types_low}
 use Rattle.law_choices.proofs.PlayingLemmas.Greatest.{ChoiceLaws, Known as KnownNode, node-greatest, range-long}
 use Rattle.law_choices.proofs.PlayingLemmas.Holding.{runs-of}
+use Rattle.law_choices.proofs.RunsLemmas.Chosen.{of_program}
 use Rattle.law_choices.proofs.RunsLemmas.Wholes.{typed-through}
 
 -- the laws that are joined here
@@ -311,3 +312,15 @@ greatest_law laws program after ranks observers ms order h mirrored allowed f n 
     by (inl none) own found r = nothing-through after n past none
     by (inr alone) own (inl none) r = nothing-through after n past (ap (λ (o : Option Contract). controls_of o) none)
     by (inr alone) own (inr found) r = greatest-of laws program after ranks observers ms order h allowed n own found alone inputs past kinds r
+
+pub greatest_run_law : GreatestLaws → GreatestRunLaw
+greatest_run_law laws program after ranks observers ms order h mirrored allowed f n inputs e knows kinds =
+    let choices = (allowed.allowed).choices in
+    let it = ((allowed.allowed).allowed).reactions f n inputs e kinds in
+    let before = (it.one).before in
+    record {
+      past = before.past;
+      reaction = of_program choices after f inputs before.past before.is_one;
+      greatest = greatest_law laws program after ranks observers ms order h mirrored allowed f n inputs before.past e knows kinds before.is_one;
+      outputs = it.outputs;
+    }

@@ -1,6 +1,6 @@
 -- In a node of which nothing is free but the inputs the controllable variables have the greatest permitted values, in each reaction that the nodes that choose answer with.
 -- Source: own; the controller of Delaval, Marchand and Rutten (LCTES 2010).
-use Rattle.std.specs.Prelude.{◌≡◌, ◌⊎◌, ⊤, ℕ, List, [], ◌∷◌, reverse, Some}
+use Rattle.std.specs.Prelude.{◌≡◌, ◌⊎◌, ⊤, ℕ, List, [], ◌∷◌, map, reverse, Some}
 use Rattle.std.specs.List.{AllByRecursion}
 use Rattle.hp_base.specs.Kinds.{AreOfKinds}
 use Rattle.hp_base.specs.declared.value.Value.{Value}
@@ -10,10 +10,11 @@ use Rattle.hp_tree.specs.declared.program.Item.TheVariants.{TypeItem, NodeItem}
 use Rattle.hp_tree.specs.Programs.{Node}
 use Rattle.hp_tree.specs.Instant.{Inputs, Instant, Past, part}
 use Rattle.hp_tree.specs.Meaning.{types_of, node_among, controls_of}
-use Rattle.hp_tree.specs.Reaction.{controls_at, row_of}
+use Rattle.hp_tree.specs.Reaction.{Reaction, controls_at, outputs_at, row_of}
 use Rattle.hp_meaning.specs.Contract.Forgetting.{erase}
 use Rattle.hp_meaning.specs.Contract.Game.{IsChosen}
 use Rattle.hp_meaning.specs.Contract.Guarantee.{Through}
+use Rattle.law_equations.specs.Followed.Programs.{all_answers}
 use Rattle.law_equations.specs.Made.Types.{obc_types}
 use Rattle.law_games.specs.ReadyGames.Laws.{IsInOrder}
 use Rattle.law_wellmade.specs.Timely.Kinds.{kinds_of_decls}
@@ -46,3 +47,17 @@ GreatestLaw =
     (program after : List Item) (ranks : List (List ℕ)) (observers : Observing) (ms : List Made) → IsInOrder program after ranks → IsChoosing program after observers ms → AreMirrored (obc_types (types_of after)) observers after [] after ms
     → (allowed : IsAllowed after ms) (f : List ℕ) (n : Node) (inputs : List (List Value)) (past : Past) → node_among (reverse after) f ≡ Some n → KnowsAll after n
     → AllByRecursion (AreOfKinds (kinds_of_decls (types_of after) n.inputs)) inputs → ChosenReaction (allowed.allowed).choices after f inputs past → Through (ChoosesGreatest after n) past
+
+-- What is said over inputs, newest first, are the outputs of a reaction of the program in which the node has the greatest permitted values at each instant.
+pub record IsGreatestRun (program : List Item) (f : List ℕ) (n : Node) (inputs said : List (List Value)) : Type 0 where
+  pub past : Past
+  pub reaction : Reaction program f inputs past past
+  pub greatest : Through (ChoosesGreatest program n) past
+  pub outputs : map (outputs_at program f) past ≡ said
+
+-- So it is of what each such node answers on inputs of its kinds.
+abbrev pub GreatestRunLaw : Type 0
+GreatestRunLaw =
+    (program after : List Item) (ranks : List (List ℕ)) (observers : Observing) (ms : List Made) → IsInOrder program after ranks → IsChoosing program after observers ms → AreMirrored (obc_types (types_of after)) observers after [] after ms
+    → (allowed : IsAllowed after ms) (f : List ℕ) (n : Node) (inputs : List (List Value)) → node_among (reverse after) f ≡ Some n → KnowsAll after n → AllByRecursion (AreOfKinds (kinds_of_decls (types_of after) n.inputs)) inputs
+    → IsGreatestRun after f n inputs (all_answers ((allowed.one).answers f) inputs)
