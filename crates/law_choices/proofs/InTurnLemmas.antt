@@ -1,6 +1,6 @@
 pub mod Allowed
 mod Calls
-mod Contracted
+pub mod Contracted
 mod Names
 pub mod Observed
 pub mod Observers

@@ -2,3 +2,11 @@ pub mod Playing
 pub mod Inputs
 pub mod Steering
 pub mod Controllers
+pub mod Flags
+pub mod Asking
+pub mod ControlBits
+pub mod Holding
+pub mod Greatest
+pub mod Programs
+pub mod WorkedMirror
+pub mod Drawn

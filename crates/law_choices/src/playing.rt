@@ -3,13 +3,27 @@
 //! The functions here do nothing: each is a law, which its contract states.
 #![tactic(auto)]
 
+ghost use Rattle.law_choices.specs.Playing.Drawn.{DrawnFlagsLaw};
+ghost use Rattle.law_choices.specs.Playing.Greatest.{GreatestLaw, GreatestRunLaw};
 ghost use Rattle.law_choices.specs.Playing.Laws.{InputsChoiceLaw, PlayingLaw, SteeredChoiceLaw};
+ghost use Rattle.law_choices.specs.Playing.Worked.{SomeMirroredLaw};
 ghost use Rattle.law_choices.specs.Playing.Steering.{ControllerAnswersLaw, TypedAtLaw, WholeRunLaw};
 
+use crate::adding::{
+    callees_may_differ_elsewhere, equations_may_be_added, made_nodes_may_be_added_to,
+    watched_nodes_choose,
+};
+use crate::answered::extended_nodes_close;
 use hp_controller::{
     added_equations_give_inputs, controlled_nodes_follow_their_controller,
-    controllers_answer_with_the_choice,
+    controllers_answer_with_the_choice, lines_give_their_functions,
 };
+use hp_meaning::contract::{
+    choices_are_values, codes_of_values, reactions_are_instants_of_the_game,
+};
+use law_drawing::mirrors::{drawn_nodes_are_mirrored, machine_choices_are_kept};
+use law_equations::fitting::{calls_are_kept, targets_differ};
+use law_equations::meaning::nodes_have_one_reaction;
 use law_games::forced::{machines_go_along, permitted_is_fitting};
 
 /// A machine that is asked at each instant plays along with the game of the contract that it mirrors, where both are given the same; so what it chooses is the greatest permitted choice.
@@ -46,4 +60,42 @@ pub fn controllers_answer()
     ensures { ControllerAnswersLaw }
 {
     controllers_answer_with_the_choice();
+}
+
+/// In the nodes of a program that ask controllers of machines which mirror their contracts, and of which nothing is free but the inputs, the controllable variables have the greatest permitted values: at each instant of each reaction with which the nodes answer. What such a node answers are the outputs of a reaction of the program in which it has these values.
+pub fn nodes_that_know_all_choose_the_greatest()
+    ensures greatest { GreatestLaw }
+    ensures runs { GreatestRunLaw }
+{
+    callees_may_differ_elsewhere();
+    equations_may_be_added();
+    made_nodes_may_be_added_to();
+    watched_nodes_choose();
+    extended_nodes_close();
+    targets_differ();
+    calls_are_kept();
+    nodes_have_one_reaction();
+    added_equations_give_inputs();
+    controlled_nodes_follow_their_controller();
+    controllers_answer_with_the_choice();
+    codes_of_values();
+    choices_are_values();
+    reactions_are_instants_of_the_game();
+    permitted_is_fitting();
+    machines_go_along();
+    machine_choices_are_kept();
+}
+
+/// A node with one controllable variable, whose contract asks for nothing, asks a machine that mirrors it.
+pub fn a_worked_mirror()
+    ensures { SomeMirroredLaw }
+{
+    lines_give_their_functions();
+}
+
+/// The machine of the circuit that is drawn of a node mirrors it, and of each input and free place it is told whether it is early as the mirror has it.
+pub fn drawn_machines_mirror()
+    ensures { DrawnFlagsLaw }
+{
+    drawn_nodes_are_mirrored();
 }

@@ -47,7 +47,7 @@ is_target (e ∷ es) x c = by (is_target es x) (Contains-append_cases e.targets 
 
 -- ---- lists of numbers that differ
 
-front : {A : Type 0} (P : A → Type 0) (xs ys : List A) → AllByRecursion P (xs ++ ys) → AllByRecursion P xs
+pub front : {A : Type 0} (P : A → Type 0) (xs ys : List A) → AllByRecursion P (xs ++ ys) → AllByRecursion P xs
 front P [] ys h = tt
 front P (x ∷ xs) ys h = (h.0, front P xs ys h.1)
 

@@ -18,7 +18,7 @@ use Rattle.law_choices.specs.Closed.Clocking.{IsCopy}
 use Rattle.law_choices.specs.Adding.Choosing.{IsOfNode, WatchingLaw, ChoosingLaw}
 use Rattle.law_choices.specs.Adding.Controls.{IsThereAlways, HaveControlKinds}
 use Rattle.law_choices.specs.Adding.Lifts.{HaveBytes, IsOn}
-use Rattle.law_choices.specs.Adding.Surveyed.{AllSuit, IsNoCopy, MayBeSurveyed}
+use Rattle.law_choices.specs.Adding.Surveyed.{AllSuit, IsNoCopy, IsSeen, MayBeSurveyed}
 use Rattle.law_choices.specs.Adding.Watched.{AreBitsOf, HasBits}
 use Rattle.law_choices.specs.Adding.Whole.{WholeLaw}
 use Rattle.law_choices.proofs.ClosedLemmas.ClosedLaws.{each_other}
@@ -81,13 +81,20 @@ module _ (types : List ObcType) (callees : Callees) (clock : ℕ → Clock) (obs
   order_free : AllByRecursion (IsNoCopy n) (walked node n)
   order_free = walk_keeps (IsNoCopy n) node.body (events_from 0 n.eqns) (events_are [] n.eqns)
 
+  -- it has observers, and its free places are free in it
+  pub seen_in : IsSeen types callees clock n (surveyed observers (is.fits).own (length node.inputs) (walked node n) n)
+  seen_in =
+      let fits = is.fits in
+      let own = fits.own in
+      let may : MayBeSurveyed types callees clock (length node.inputs) (walked node n) n = record { few = of_node.few; takes = of_node.takes; gives = of_node.gives; own = of_node.own; events = order_free } in
+      surveyed_law types callees clock observers own (length node.inputs) (walked node n) n bytes of_node.based may suit fits.has
+
   watched : HasBits types callees clock n w
   watched =
       let fits = is.fits in
       let own = fits.own in
       let s = surveyed observers own (length node.inputs) (walked node n) n in
-      let may : MayBeSurveyed types callees clock (length node.inputs) (walked node n) n = record { few = of_node.few; takes = of_node.takes; gives = of_node.gives; own = of_node.own; events = order_free } in
-      let seen = surveyed_law types callees clock observers own (length node.inputs) (walked node n) n bytes of_node.based may suit fits.has in
+      let seen = seen_in in
       let k = seen.keeps in
       let bits = watched_law types callees k.clocks s.node s.free is_early bytes k.built seen.free in
       let made = with_places types s.free is_early (unwatched s.node) in
@@ -98,7 +105,7 @@ watching_law types callees clock observers node is_early n w bytes of_node suit 
 
 -- ---- the node that chooses
 
-bits_there : (types : List ObcType) (callees : Callees) (n : FlatNode) (clock : ℕ → Clock) (xs : List ℕ) → AreBitsOf n clock xs → AllByRecursion (IsThereAlways types n clock Bools) xs
+pub bits_there : (types : List ObcType) (callees : Callees) (n : FlatNode) (clock : ℕ → Clock) (xs : List ℕ) → AreBitsOf n clock xs → AllByRecursion (IsThereAlways types n clock Bools) xs
 bits_there types callees n clock xs h = each_other (IsOn n clock [] Truth) (IsThereAlways types n clock Bools) (λ x i. record { variable = i.variable; there = i.there; kind = kind_on types callees n clock [] Truth x i }) xs h
 
 pub choosing_law : WholeLaw → ChoosingLaw

@@ -77,7 +77,7 @@ grows-length n m g = let v = g.variables in let e = ap length v.1 in let l = len
 
 -- ---- types and kinds
 
-type-more : (vs more : List Variable) (x : ℕ) → x < length vs → type_of (slice_get (vs ++ more) x) ≡ type_of (slice_get vs x)
+pub type-more : (vs more : List Variable) (x : ℕ) → x < length vs → type_of (slice_get (vs ++ more) x) ≡ type_of (slice_get vs x)
 type-more [] more x l = absurd (omega (arith, l))
 type-more (v ∷ vs) more zero l = refl
 type-more (v ∷ vs) more (suc x) l = type-more vs more x (omega (arith, l))

@@ -62,6 +62,10 @@ module _ (types : List ObcType) (callees : Callees) (clock : ℕ → Clock) (pla
   unfolding asking_clocks
   asking_based = (stays types callees n k.clocks m name early late controls k.built can may.asked may.early_there may.late_there may.kinds).built
 
+  pub asking_same : (x : ℕ) → x < length n.variables → asking_clocks x ≡ k.clocks x
+  unfolding asking_clocks
+  asking_same x l = (stays types callees n k.clocks m name early late controls k.built can may.asked may.early_there may.late_there may.kinds).same x l
+
   bit_on : (x : ℕ) → IsBit n m x → IsOn asking asking_clocks [] Truth x
   unfolding asking_clocks
   bit_on x h =
@@ -81,7 +85,7 @@ module _ (types : List ObcType) (callees : Callees) (clock : ℕ → Clock) (pla
 
   -- ---- the node is well made
 
-  other_based : IsBased types callees copies.clocks other
+  pub other_based : IsBased types callees copies.clocks other
   other_based = placed_law types callees copies.clocks closed other whole.placed copies.built
 
   well_made : OrderedLaw → IsWellMade types callees other

@@ -86,7 +86,7 @@ controls_some types low fs t f = by ((known_of low).nodes f) refl
     by (Some n) e = each_found (ControlsSome types (known_of low)) (reverse low) f n (each_reverse (ControlsSome types (known_of low)) low (turned_some types (known_of low) [] low fs t)) (sym (nodes-known low f) ∙ e)
 
 -- kinds by numbers of types are those by their names
-decls_kinds : (program after : List Item) → IsReady program after → TypesForm (obc_types_of program) → (ds : List Decl) → DeclsHaveFirsts (types_of after) ds
+pub decls_kinds : (program after : List Item) → IsReady program after → TypesForm (obc_types_of program) → (ds : List Decl) → DeclsHaveFirsts (types_of after) ds
     → kinds_of_decls (obc_types (types_of after)) (known_of (lowered_program after)) ds ≡ timely.kinds_of_decls (types_of after) ds
 decls_kinds program after r form ds h =
     let low = lowered_program after in

@@ -148,7 +148,7 @@ module _ (laws : NodeLaws) (types : List ObcType) (all : Callees) (observers : O
   abbrev pub controller_is : c.controller.name ≡ controller_name node.name
   controller_is = let k = is.controller in k.name ∙ ap (λ f. f ++ codes "$ctl") is.named
 
-  asked_for : IsAskedFor all m (controller_name node.name)
+  pub asked_for : IsAskedFor all m (controller_name node.name)
   asked_for =
       let k = is.controller in
       let within = k.within in
@@ -174,7 +174,7 @@ module _ (laws : NodeLaws) (types : List ObcType) (all : Callees) (observers : O
   target_is : c.plant.inputs - length controls ≡ length node.inputs
   target_is = let count = is.count in omega (arith, inputs, count)
 
-  kinds : HaveControlKinds types c.plant.variables (c.plant.inputs - length controls) controls
+  pub kinds : HaveControlKinds types c.plant.variables (c.plant.inputs - length controls) controls
   kinds =
       let b = of_node.based in
       let w = b.well in

@@ -1,9 +1,9 @@
 -- The nodes that are made of a program stand in turn, and mean what the program allows.
 use Rattle.std.proofs.Common.{◌≡◌, ℕ, zero, suc, ◌+◌, Bool, true, false, ◌||◌, List, [], ◌∷◌, ◌++◌, map, Option, None, Some, refl, sym, ap, ap₂, subst, ◌∙◌, arith}
-use Rattle.std.specs.Prelude.{⊤, length, Contains}
+use Rattle.std.specs.Prelude.{⊤, length, Contains, if◌then◌else◌, reverse}
 use Rattle.std.specs.List.{AllByRecursion, range_with_len, flat_map}
 use Rattle.std.specs.Str.{bytes_eq}
-use Rattle.std.proofs.lemmas.List.{length-map, map-append}
+use Rattle.std.proofs.lemmas.List.{length-map, map-append, reverse-reverse}
 use Rattle.std.proofs.lemmas.List.Elements.{Contains-append_right}
 use Rattle.hp_base.specs.Kinds.{KindData}
 use Rattle.hp_obc.specs.Form.{TypesForm, has_name}
@@ -12,7 +12,8 @@ use Rattle.hp_tree.specs.declared.program.Item.{Item}
 use Rattle.hp_tree.specs.declared.program.Item.TheVariants.{TypeItem, NodeItem}
 use Rattle.hp_tree.specs.Blocks.{Decl}
 use Rattle.hp_tree.specs.Programs.{TypeDecl, Contract, Node}
-use Rattle.hp_tree.specs.Meaning.{types_of, controls_of}
+use Rattle.hp_tree.specs.Meaning.{types_of, controls_of, node_among}
+use Rattle.hp_meaning.specs.Contract.ChosenRuns.{NamesApart}
 use Rattle.law_judged.specs.Named.Scoped.{EachNode}
 use Rattle.hp_automata.specs.Lowering as lowering
 use Rattle.hp_automata.specs.Lowering.{Enumerations, enumerations, lowered_item, lowered_node, lowered_program}
@@ -33,6 +34,8 @@ use Rattle.hp_complete.specs.Declaring.{known_of}
 use Rattle.hp_complete.specs.Made.{IsMadeOf, AreMadeOf}
 use Rattle.law_wellmade.specs.Regular.Kinds.{kinds_of_decls}
 use Rattle.hp_watch.specs.Watching.{Observing}
+use Rattle.law_automata.proofs.LowerableLemmas.Texts.{each_reverse}
+use Rattle.law_games.proofs.GuaranteedLemmas.Apart.{found_among, ready_apart}
 use Rattle.law_choices.proofs.ClosedLemmas.ClosedLaws.{each_other, first_one}
 use Rattle.law_choices.specs.OnClocks.Meaning.{AreInTurn, HasSome, MeaningLaw}
 use Rattle.law_choices.specs.OnClocks.WellMade.{given_to, calls_of, callees_of}
@@ -66,6 +69,25 @@ pub record TurnLaws : Type 0 where
   pub targets : TargetsLaw
   pub calls : CallsLaw
 
+-- ---- each node is found by its name
+
+each_node_map : (P Q : Node → Type 0) → ((n : Node) → P n → Q n) → (items : List Item) → EachNode P items → EachNode Q items
+each_node_map P Q f [] h = tt
+each_node_map P Q f (TypeItem t ∷ items) h = each_node_map P Q f items h
+each_node_map P Q f (NodeItem n ∷ items) h = (f n h.0, each_node_map P Q f items h.1)
+
+own_found : (items : List Item) → NamesApart items → EachNode (λ (n : Node). node_among items n.name ≡ Some n) items
+own_found [] a = tt
+own_found (TypeItem t ∷ items) a = own_found items a
+own_found (NodeItem n ∷ items) a = (
+  ap (λ b. if b then Some n else node_among items n.name) (bytes_same n.name),
+  each_node_map (λ (m : Node). node_among items m.name ≡ Some m) (λ (m : Node). node_among (NodeItem n ∷ items) m.name ≡ Some m) (λ m e. found_among (NodeItem n ∷ []) items m.name m a e) items (own_found items a.1),
+)
+
+pub all_own : (after : List Item) → NamesApart (reverse after) → EachNode (λ (n : Node). node_among (reverse after) n.name ≡ Some n) after
+all_own after a =
+    subst (EachNode (λ (n : Node). node_among (reverse after) n.name ≡ Some n)) (reverse-reverse after) (each_reverse (λ (n : Node). node_among (reverse after) n.name ≡ Some n) (reverse after) (own_found (reverse after) a))
+
 -- ---- kinds in a row
 
 front_row : (g : ℕ → KindData) (a n : ℕ) (ks js : List KindData) → ks ++ js ≡ map g (range_with_len a n) → map g (range_with_len a (length ks)) ≡ ks
@@ -83,7 +105,7 @@ neither false b h = (refl, h)
 -- ---- one node
 
 module _ (laws : TurnLaws) (types : List ObcType) (k : Known) (enums : Enumerations) (observers : Observing) (all : Callees) (bytes : HaveBytes types) (suit : AllSuit types all observers) (alone : CallNothing observers)
-    (old : (f : List ℕ) → is_new f ≡ false → SaySame (calls_of types k) all f) where
+    (old : (f : List ℕ) → is_new f ≡ false → SaySame (calls_of types k) all f) (IsThere : Node → Type 0) where
   abbrev callees : Callees
   callees = calls_of types k
 
@@ -119,6 +141,13 @@ module _ (laws : TurnLaws) (types : List ObcType) (k : Known) (enums : Enumerati
         ap (λ o. length (kinds_of_decls types k (steered_by o))) t.own
         ∙ length-map (controls_of (lowered_node enums n).contract) (λ (d : Decl). kind_of_type types (flat_type k.types d.ty))
         ∙ ap length controls_are
+
+    -- the inputs and the controllable variables, in a row
+    pub row_kinds : kinds_of_decls types k n.inputs ++ kinds_of_decls types k (controls_of n.contract) ≡ kinds_at types f (range_with_len 0 f.inputs)
+    row_kinds =
+        let kind = λ (d : Decl). kind_of_type types (flat_type k.types d.ty) in
+        let signed = t.signed in
+        ap (λ ds. kinds_of_decls types k n.inputs ++ kinds_of_decls types k ds) (sym controls_are) ∙ sym (map-append kind n.inputs (controls_of (lowered_node enums n).contract)) ∙ signed.takes
 
     inputs_kinds : kinds_at types f (range_with_len 0 (length n.inputs)) ≡ kinds_of_decls types k n.inputs
     inputs_kinds =
@@ -173,10 +202,13 @@ module _ (laws : TurnLaws) (types : List ObcType) (k : Known) (enums : Enumerati
   abbrev AllSame : List (List ℕ) → List Made → Type 0
   AllSame names ms = (f : List ℕ) → has_name names f ≡ false → SaySame (also_said types (flat_map besides ms) callees) all f
 
-  -- what is known of a node with a contract, and what is said of the node that tells it
-  abbrev Grounded : Made → Type 0
+  -- what is known of a node with a contract: what is said of the node that tells it, the kinds of its inputs and controllable variables in a row, how many these are, and that the node is one of the program
+  abbrev pub Grounded : Made → Type 0
   Grounded (plain f) = ⊤
-  Grounded (contracted c) = (n : Node) × Ground types all observers n c × IsHeaded types all (telling c.chosen)
+  Grounded (contracted c) =
+      (n : Node) × Ground types all observers n c × IsHeaded types all (telling c.chosen)
+      × (kinds_of_decls types k n.inputs ++ kinds_of_decls types k (controls_of n.contract) ≡ kinds_at types c.plant (range_with_len 0 c.plant.inputs))
+      × (length (controls c.plant.name) ≡ length (controls_of n.contract)) × IsThere n
 
   -- what is made of the rest of the nodes, behind nodes of some names
   abbrev Stand : List (List ℕ) → List Made → Type 0
@@ -214,7 +246,7 @@ module _ (laws : TurnLaws) (types : List ObcType) (k : Known) (enums : Enumerati
   -- ---- behind one with a contract
 
   module _ (names everything : List (List ℕ)) (a : AllNames names everything) (n : Node) (c : Contracted) (t : IsTurned types k names (lowered_node enums n) c.plant) (made : IsMadeOf k (lowered_node enums n) c.plant) (r : IsReadyMade types callees c.plant)
-      (sign : is_new n.name ≡ false) (is : IsContracted types observers n c) (ms : List Made) (same : AllSame everything (contracted c ∷ ms)) where
+      (sign : is_new n.name ≡ false) (there : IsThere n) (is : IsContracted types observers n c) (ms : List Made) (same : AllSame everything (contracted c ∷ ms)) where
     abbrev f : List ℕ
     f = c.plant.name
 
@@ -344,31 +376,31 @@ module _ (laws : TurnLaws) (types : List ObcType) (k : Known) (enums : Enumerati
             ),
           ),
           (controller_within, (own_within laws.nodes types all observers n c ground, (telling_within laws.nodes types all observers n c ground, behind.1))),
-          ((n, ground, tell_headed), behind.2),
+          ((n, ground, tell_headed, row_kinds names n c.plant t made r a.old plain_name, count_is names n c.plant t made r a.old plain_name, there), behind.2),
           λ answers. (closes answers, behind.3 answers),
         )
 
   -- ---- behind all nodes so far
 
   stands : (items : List Item) (ms : List Made) (names everything : List (List ℕ)) → AreTurned types k names (map (lowered_item enums) items) (plants (loops ms)) → AreMadeOf k (map (lowered_item enums) items) (plants (loops ms)) → AreAllMade types observers items ms
-      → EachNode (λ (n : Node). is_new n.name ≡ false) items → AllByRecursion (IsReadyMade types callees) (plants (loops ms)) → Rest names everything ms
-  stands [] [] names everything turned made is signs ready a same = (tt, tt, tt, λ answers. tt)
-  stands [] (m ∷ ms) names everything turned made is signs ready a same = absurd is
-  stands (TypeItem d ∷ items) ms names everything turned made is signs ready a same = stands items ms names everything turned made is signs ready a same
-  stands (NodeItem n ∷ items) [] names everything turned made is signs ready a same = absurd is
-  stands (NodeItem n ∷ items) (plain f ∷ ms) names everything turned made is signs ready a same =
-      by n.contract refl is.0 (stands items ms (f.name ∷ names) (f.name ∷ everything) turned.1 made.1 is.1 signs.1 ready.1)
+      → EachNode (λ (n : Node). is_new n.name ≡ false) items → EachNode IsThere items → AllByRecursion (IsReadyMade types callees) (plants (loops ms)) → Rest names everything ms
+  stands [] [] names everything turned made is signs there ready a same = (tt, tt, tt, λ answers. tt)
+  stands [] (m ∷ ms) names everything turned made is signs there ready a same = absurd is
+  stands (TypeItem d ∷ items) ms names everything turned made is signs there ready a same = stands items ms names everything turned made is signs there ready a same
+  stands (NodeItem n ∷ items) [] names everything turned made is signs there ready a same = absurd is
+  stands (NodeItem n ∷ items) (plain f ∷ ms) names everything turned made is signs there ready a same =
+      by n.contract refl is.0 (stands items ms (f.name ∷ names) (f.name ∷ everything) turned.1 made.1 is.1 signs.1 there.1 ready.1)
     where
       by : (o : Option Contract) → n.contract ≡ o → IsMade types observers n o (plain f) → Rest (f.name ∷ names) (f.name ∷ everything) ms → Stand everything (plain f ∷ ms)
       by None e i rest = stands_plain names everything a n f turned.0 made.0 ready.0 signs.0 ms e same rest
       by (Some o) e i rest = absurd i
-  stands (NodeItem n ∷ items) (contracted c ∷ ms) names everything turned made is signs ready a same =
+  stands (NodeItem n ∷ items) (contracted c ∷ ms) names everything turned made is signs there ready a same =
       let f = c.plant.name in
-      by n.contract is.0 (stands items ms (f ∷ names) (contract_name f ∷ f ∷ controller_name f ∷ everything) turned.1 made.1 is.1 signs.1 ready.1)
+      by n.contract is.0 (stands items ms (f ∷ names) (contract_name f ∷ f ∷ controller_name f ∷ everything) turned.1 made.1 is.1 signs.1 there.1 ready.1)
     where
       by : (o : Option Contract) → IsMade types observers n o (contracted c) → Rest (c.plant.name ∷ names) (contract_name c.plant.name ∷ c.plant.name ∷ controller_name c.plant.name ∷ everything) ms → Stand everything (contracted c ∷ ms)
       by None i rest = absurd i
-      by (Some o) i rest = stands_contracted names everything a n c turned.0 made.0 ready.0 signs.0 i ms same rest
+      by (Some o) i rest = stands_contracted names everything a n c turned.0 made.0 ready.0 signs.0 there.0 i ms same rest
 
   -- ---- contracts are told
 
@@ -426,17 +458,24 @@ module _ (laws : TurnLaws) (program after : List Item) (observers : Observing) (
   abbrev all : Callees
   all = said_of after ms
 
-  have_bytes : HaveBytes types
+  pub have_bytes : HaveBytes types
   have_bytes = laws.bytes types (subst (λ (ts : List TypeDecl). TypesForm (obc_types ts)) (sym (types_same program after h.ready)) h.form)
 
   pub all_old : (f : List ℕ) → is_new f ≡ false → SaySame (callees_of after) all f
   all_old f e = said_old types (callees_of after) (flat_map besides ms) f (besides_new types observers after ms h.made) e
 
-  all_stand : AreInTurn types all [] (all_nodes ms) × AllByRecursion IsWithin (all_nodes ms) × AllByRecursion (Grounded laws types (known_of low) (enumerations [] after) observers all have_bytes h.suit h.alone all_old) ms × ((answers : Answers) → AreClosed answers (controls_in after) (loops ms))
+  -- a node is the one that the program has by its name
+  abbrev pub IsOfProgram : Node → Type 0
+  IsOfProgram n = node_among (reverse after) n.name ≡ Some n
+
+  abbrev pub AllGrounded : Type 0
+  AllGrounded = AllByRecursion (Grounded laws types (known_of low) (enumerations [] after) observers all have_bytes h.suit h.alone all_old IsOfProgram) ms
+
+  pub all_stand : AreInTurn types all [] (all_nodes ms) × AllByRecursion IsWithin (all_nodes ms) × AllGrounded × ((answers : Answers) → AreClosed answers (controls_in after) (loops ms))
   all_stand =
       let nodes = ready_nodes laws.targets laws.calls program after h.ready h.removable h.form h.short (plants (loops ms)) h.equations in
       let made = laws.ready program after h.ready h.removable h.form h.short (plants (loops ms)) h.equations in
-      stands laws types (known_of low) (enumerations [] after) observers all have_bytes h.suit h.alone all_old after ms [] [] nodes.turned h.equations h.made h.names made no_names (λ f e. (refl, refl))
+      stands laws types (known_of low) (enumerations [] after) observers all have_bytes h.suit h.alone all_old IsOfProgram after ms [] [] nodes.turned h.equations h.made h.names (all_own after (ready_apart program after h.ready)) made no_names (λ f e. (refl, refl))
 
   -- the closed node of each closes its plant, whatever nodes answer
   pub loops_closed : (answers : Answers) → AreClosed answers (controls_in after) (loops ms)
@@ -465,4 +504,4 @@ pub telling_law : TurnLaws → OneReactionLaw → TellingLaw
 telling_law laws one_law program after observers ms h one =
     let stand = all_stand laws program after observers ms h in
     let low = lowered_program after in
-    tells laws (obc_types (types_of after)) (known_of low) (enumerations [] after) observers (said_of after ms) (have_bytes laws program after observers ms h) h.suit h.alone (all_old laws program after observers ms h) one_law one.answers one.typed ms one.answered stand.2
+    tells laws (obc_types (types_of after)) (known_of low) (enumerations [] after) observers (said_of after ms) (have_bytes laws program after observers ms h) h.suit h.alone (all_old laws program after observers ms h) (IsOfProgram laws program after observers ms h) one_law one.answers one.typed ms one.answered stand.2

@@ -39,7 +39,7 @@ choice r u = record { len = refl; best = λ d l p. (permitted r u (true ∷ []) 
 
 -- ---- the controller
 
-is_controller : WellMadeLaw → IsController free_machine free_controller
+pub is_controller : WellMadeLaw → IsController free_machine free_controller
 is_controller well_made = record {
   name = refl;
   bits = (refl, tt);
@@ -55,10 +55,10 @@ is_controller well_made = record {
 
 -- ---- all of it
 
-watched_as_well : IsWatched [] (λ f. Some one_observer) contract_tree [] free_node some_watched
+pub watched_as_well : IsWatched [] (λ f. Some one_observer) contract_tree [] free_node some_watched
 watched_as_well = record { fits = record { events = refl; own = one_observer; has = refl; places = refl }; is = refl }
 
-abbrev some_contracted : Contracted
+abbrev pub some_contracted : Contracted
 some_contracted = record { plant = free_node; controller = free_controller; own = watched_ranked; chosen = record { node = watched_ranked; assume = 6; enforce = 7 } }
 
 pub some_contracted_law : WellMadeLaw → SomeContractedLaw

@@ -39,18 +39,18 @@ use Rattle.law_choices.proofs.PlayingLemmas.Playing.{bits-given, steered_choice_
 -- ---- the slots of inputs, and those behind them
 
 -- as the slots of a node begin
-abbrev slot_of : (Place → Ty → Slot) → Place → Ty → List Slot
+abbrev pub slot_of : (Place → Ty → Slot) → Place → Ty → List Slot
 slot_of kind p ty.Int = []
 slot_of kind p t = kind p t ∷ []
 
-abbrev row_of_slots : (Place → Ty → Slot) → List Decl → (Place → Place) → List Slot
+abbrev pub row_of_slots : (Place → Ty → Slot) → List Decl → (Place → Place) → List Slot
 row_of_slots kind [] w = []
 row_of_slots kind (d ∷ ds) w = slot_of kind (w (Head ∷ [])) d.ty ++ row_of_slots kind ds (below Tail w)
 
-abbrev one_slot : Place → Ty → List Slot
+abbrev pub one_slot : Place → Ty → List Slot
 one_slot p t = slot_of input p t
 
-abbrev row : List Decl → (Place → Place) → List Slot
+abbrev pub row : List Decl → (Place → Place) → List Slot
 row ds w = row_of_slots input ds w
 
 one-free : (p : Place) (t : Ty) → free_among (one_slot p t) ≡ placed p t
@@ -58,14 +58,14 @@ one-free p ty.Bool = refl
 one-free p ty.Int = refl
 one-free p (ty.Enum x) = refl
 
-free-append : (ss rest : List Slot) → free_among (ss ++ rest) ≡ free_among ss ++ free_among rest
+pub free-append : (ss rest : List Slot) → free_among (ss ++ rest) ≡ free_among ss ++ free_among rest
 free-append [] rest = refl
 free-append (register p k ∷ ss) rest = free-append ss rest
 free-append (free p t ∷ ss) rest = ap (λ qs. (p, t) ∷ qs) (free-append ss rest)
 free-append (input p t ∷ ss) rest = ap (λ qs. (p, t) ∷ qs) (free-append ss rest)
 free-append (control p t ∷ ss) rest = free-append ss rest
 
-row-free : (ds : List Decl) (w : Place → Place) → free_among (row ds w) ≡ places_in_row ds w
+pub row-free : (ds : List Decl) (w : Place → Place) → free_among (row ds w) ≡ places_in_row ds w
 row-free [] w = refl
 row-free (d ∷ ds) w =
     free-append (one_slot (w (Head ∷ [])) d.ty) (row ds (below Tail w)) ∙ ap (λ qs. qs ++ free_among (row ds (below Tail w))) (one-free (w (Head ∷ [])) d.ty) ∙ ap (λ qs. placed (w (Head ∷ [])) d.ty ++ qs) (row-free ds (below Tail w))
@@ -83,7 +83,7 @@ module _ (is_early : Place → Bool) where
   early-append (input p t ∷ ss) rest = ap (λ qs. (p, t) ∷ qs) (early-append ss rest)
   early-append (control p t ∷ ss) rest = early-append ss rest
 
-  early-none : (ss : List Slot) → free_among ss ≡ [] → early_among is_early ss ≡ []
+  pub early-none : (ss : List Slot) → free_among ss ≡ [] → early_among is_early ss ≡ []
   early-none [] h = refl
   early-none (register p k ∷ ss) h = early-none ss h
   early-none (free p t ∷ ss) h = absurd cc
@@ -102,7 +102,7 @@ module _ (is_early : Place → Bool) where
   late-append (input p t ∷ ss) rest = late-append ss rest
   late-append (control p t ∷ ss) rest = late-append ss rest
 
-  late-none : (ss : List Slot) → free_among ss ≡ [] → late_among is_early ss ≡ []
+  pub late-none : (ss : List Slot) → free_among ss ≡ [] → late_among is_early ss ≡ []
   late-none [] h = refl
   late-none (register p k ∷ ss) h = late-none ss h
   late-none (free p t ∷ ss) h = absurd cc

@@ -41,7 +41,7 @@ one_law choices program f inputs r =
 -- ---- it is a reaction of the program
 
 -- what is given is what the instant holds
-abbrev Own : Instant → Instant → Instant → Type 0
+abbrev pub Own : Instant → Instant → Instant → Type 0
 Own free other now = (p : Place) → other p ≡ now p
 
 own_parts : OfParts Own
@@ -77,7 +77,7 @@ module _ (choices : Choices) (program : List Item) where
   abbrev types : List TypeDecl
   types = types_of program
 
-  chosen_real : (items : List Item) → AgreeWhere Own (chosen_nodes choices types real items).instant (nodes types real items).instant
+  pub chosen_real : (items : List Item) → AgreeWhere Own (chosen_nodes choices types real items).instant (nodes types real items).instant
   chosen_real [] f vs past free other now h met p = refl
   chosen_real (TypeItem t ∷ items) f vs past free other now h met p = chosen_real items f vs past free other now h met p
   chosen_real (NodeItem n ∷ items) f vs past free other now h met p =

@@ -42,7 +42,7 @@ module _ (types : List TypeDecl) where
   controls_given (d ∷ ds) [] h = absurd h
   controls_given (d ∷ ds) (v ∷ vs) h = (h.0, controls_given ds vs h.1)
 
-  given_fits : (choices : Choices) (s : Scope) (n : Node) → ChoosesValues types choices n → (inputs : List Value) (g : Given) → NodeGiven types true undefined Anything s n (chosen_given (choices n.name) n inputs g).free
+  pub given_fits : (choices : Choices) (s : Scope) (n : Node) → ChoosesValues types choices n → (inputs : List Value) (g : Given) → NodeGiven types true undefined Anything s n (chosen_given (choices n.name) n inputs g).free
   given_fits choices s n values inputs g =
       let free = (chosen_given (choices n.name) n inputs g).free in (
         (
