@@ -1,4 +1,4 @@
-//! Laws: each line that the machines of a program say whose nodes choose the values of their controllable variables is one that the program allows. Used by no command yet.
+//! Laws: each line that the machines of a program say whose nodes choose the values of their controllable variables is one that the program allows. `hp_driver` uses it for `run` and `compile`.
 //!
 //! The functions here do nothing: each is a law, which its contract states.
 #![tactic(auto)]
