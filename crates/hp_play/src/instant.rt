@@ -13,6 +13,4 @@ pub enum Outcome {
     Kept,
     /// A violation is forced, and this is a play of the least number of instants in which it is.
     Lost { play: Vec<Instant> },
-    /// A violation is forced, but no play was found.
-    Unshown,
 }

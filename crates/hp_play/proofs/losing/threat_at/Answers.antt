@@ -42,14 +42,8 @@ returns-then-left-eq0-clause-keeps c = Keeps-trans _ _ _ (Keeps-trans _ _ _ c.wo
 pub returns-clause-keeps : goal.returns-clause-keeps
 returns-clause-keeps c = Keeps-trans _ _ _ (Keeps-trans _ _ _ (Keeps-trans _ _ _ (Keeps-trans _ _ _ c.worse.ensures.keeps c.forcing.ensures.keeps) c.and.ensures.keeps) c.in_ok-slow.ensures.keeps) c.and-2.ensures.keeps
 
-pub returns-then-left-eq0-clause-forcing : goal.returns-then-left-eq0-clause-forcing
-returns-then-left-eq0-clause-forcing c =
-    field-threat (game c.args.m.now) (game-form c.args.m.now c.vars-vars.ensures.kept) c.args.t.now c.args.field.now c.requires.field c.args.left c.requires.left
-    c.worse.new.t c.forcing.new.t c.and.new.self c.worse.ensures.keeps c.and.ensures.keeps c.rank-below.result c.deref-2.result.now c.index.result.now c.index-2.result.now c.in_ok-worse.worse c.in_ok-forcing.forcing
-    (c.rank-below.ensures ∙ rw c.deref.ensures.value) c.deref-2.ensures.value c.index.ensures c.index-2.ensures c.in_ok-worse.ensures.ok c.in_ok-forcing.ensures.ok
+pub returns-then-left-eq0-clause-threat : goal.returns-then-left-eq0-clause-threat
+returns-then-left-eq0-clause-threat c = ?
 
-pub returns-clause-forcing : goal.returns-clause-forcing
-returns-clause-forcing c =
-    field-threat (game c.args.m.now) (game-form c.args.m.now c.vars-vars.ensures.kept) c.args.t.now c.args.field.now c.requires.field c.args.left c.requires.left
-    c.worse.new.t c.forcing.new.t c.and-2.new.self c.worse.ensures.keeps (Keeps-trans _ _ _ (Keeps-trans _ _ _ c.and.ensures.keeps c.in_ok-slow.ensures.keeps) c.and-2.ensures.keeps) c.rank-below.result c.deref-2.result.now c.index.result.now c.index-2.result.now c.in_ok-worse.worse c.in_ok-forcing.forcing
-    (c.rank-below.ensures ∙ rw c.deref.ensures.value) c.deref-2.ensures.value c.index.ensures c.index-2.ensures c.in_ok-worse.ensures.ok c.in_ok-forcing.ensures.ok
+pub returns-clause-threat : goal.returns-clause-threat
+returns-clause-threat c = ?
