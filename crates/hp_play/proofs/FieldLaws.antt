@@ -117,7 +117,7 @@ module _ (g : Game) (form : IsForm g) (t : Diagrams) (f : Field) (is : IsField g
 
   pub forcing-is : (t1 t2 : Diagrams) → Keeps t t1 → (choices earlies worse forcing : Ref) → choices ≡ slice_index_or f.roots.items 3 choices → earlies ≡ slice_index_or f.roots.items 4 earlies → IsWorse t1 worse
       → ((h : Game) (Y : Set) → IsCounts h f.layout.counts → Means t1 (over p (OfChoice h (valid_choice h))) choices → Means t1 (over p (OfEarly h (valid_early h))) earlies
-        → Means t1 (λ v. bad h Y (all h (through p v))) worse → Means t2 (over p (OfEarly h (λ r u. valid_early h r u && loses h Y r u))) forcing)
+      → Means t1 (λ v. bad h Y (all h (through p v))) worse → Means t2 (over p (OfEarly h (λ r u. valid_early h r u && loses h Y r u))) forcing)
       → IsForcing t2 forcing
   forcing-is t1 t2 k choices earlies worse forcing is_choices is_earlies of_worse ok =
       let many = field-many g t f is in

@@ -128,9 +128,9 @@ module _ (g : Game) where
   all-read n e v =
       read-parts 0 g.registers (g.early + (g.control + g.late)) n v (e ∙ omega arith)
       ∙ ap (λ q. states g v ++ q)
-          (ap (λ k. read k (g.early + (g.control + g.late)) v) (let z : 0 + g.registers ≡ g.registers = omega arith in z)
-          ∙ read-parts g.registers g.early (g.control + g.late) (g.early + (g.control + g.late)) v refl
-          ∙ ap (λ q. earlies g v ++ q) (read-parts (g.registers + g.early) g.control g.late (g.control + g.late) v refl))
+      (ap (λ k. read k (g.early + (g.control + g.late)) v) (let z : 0 + g.registers ≡ g.registers = omega arith in z)
+      ∙ read-parts g.registers g.early (g.control + g.late) (g.early + (g.control + g.late)) v refl
+      ∙ ap (λ q. earlies g v ++ q) (read-parts (g.registers + g.early) g.control g.late (g.control + g.late) v refl))
 
   module _ (r u c w : Bits) where
     -- one of these values
