@@ -1,6 +1,7 @@
 -- A lost machine in a table.
-use Rattle.std.proofs.Common.{◌≡◌, ◌↔◌, ℕ, zero, suc, ◌+◌, ◌<◌, ◌≤◌, Bool, false, not, ◌&&◌, IsTrue, List, [], ◌∷◌, length, map, slice_index_or, refl, sym, ap, ap₂, subst, ◌∙◌, arith}
+use Rattle.std.proofs.Common.{◌≡◌, ◌↔◌, ℕ, zero, suc, ◌+◌, ◌<◌, ◌≤◌, Bool, false, not, ◌&&◌, IsTrue, List, [], ◌∷◌, ◌++◌, length, map, take, drop, slice_index_or, refl, sym, ap, ap₂, subst, ◌∙◌, arith}
 use Rattle.std.proofs.lemmas.Bool.{and_parts, and_from}
+use Rattle.std.proofs.Math.Seq.{take-append_seam}
 use Rattle.hp_diagram.specs.declared.reference.Ref.{Ref}
 use Rattle.hp_diagram.specs.Diagrams.{Diagrams, path_end, function, valuation, Means, Keeps, zero_ref}
 use Rattle.hp_diagram.proofs.Choices.{Keeps-trans, Means-keeps}
@@ -14,17 +15,17 @@ use Rattle.hp_synth.specs.declared.layout.Layout.{Layout}
 use Rattle.hp_synth.specs.Layouts.{place, variable, IsLayout}
 use Rattle.hp_synth.specs.Sought.{base_at}
 use Rattle.hp_synth.specs.Rounds.{IsCounts}
-use Rattle.hp_synth.specs.Valued.{Fun, Valued, all, over, through, states, earlies as earlies-of, controls, lates, early_from, control_from, late_from, OfState, OfEarly, OfChoice}
+use Rattle.hp_synth.specs.Valued.{Fun, Valued, all, over, read, total, through, states, earlies as earlies-of, controls, lates, early_from, control_from, late_from, OfState, OfEarly, OfChoice}
 use Rattle.hp_synth.proofs.LayoutLaws.{seen}
 use Rattle.hp_synth.proofs.Ranges.{read-len}
 use Rattle.hp_synth.proofs.SearchSteps.{base_at-len}
 use Rattle.hp_synth.proofs.SoughtLaws.{all-has, all-keeps, all-len}
-use Rattle.hp_play.specs.Fields.{Exactly, IsField, IsThreat, rank_ref}
-use Rattle.hp_play.specs.Plays.{IsLoss, IsPlayFrom, LoseEach, LosesIn, valuations}
+use Rattle.hp_play.specs.Fields.{Exactly, IsField, IsThreat, Leads, rank_ref}
+use Rattle.hp_play.specs.Plays.{IsInstant, IsLoss, IsPlayFrom, LoseEach, LosesIn, early_in, state_in, valuations}
 use Rattle.hp_play.specs.declared.instant.Instant.{Instant}
 use Rattle.hp_play.specs.declared.losing.Field.{Field}
 use Rattle.hp_play.specs.declared.losing.Threat.{Threat}
-use Rattle.hp_play.proofs.MoveLaws.{HasLengths, MoveAt, forces-is, last-told, more-told, move-there, moves-valued, states-valued, valued}
+use Rattle.hp_play.proofs.MoveLaws.{HasLengths, MoveAt, forces-is, last-told, more-told, move-instant, move-loses, move-on, move-there, moves-valued, states-valued, valued}
 use Rattle.hp_play.proofs.PlayLaws.{valuations-len}
 
 zero-false : (t : Diagrams) (v : Valued) → function t zero_ref v ≡ false
@@ -194,6 +195,17 @@ module _ (g : Game) (form : IsForm g) (vars : ℕ) (layout : Layout) (ok : IsLay
       let is_state : states g (through (place layout) v) ≡ r = ap (states g) back ∙ states-valued g r m.0 m.1 m.2 s in
       let is_move : MoveAt g left (through (place layout) v) = subst (MoveAt g left) (sym back) (moves-valued g left r m.0 m.1 m.2 s m.3) in
       (v, means.value v ∙ and_from (function t1 here v) (function t1 threat.moves v) ((of_here v).1 is_state) ((is.leads v).1 is_move))
+
+  -- the values at a valuation that is such a move
+  pub instant-is : (d : Bits) → IsTrue (function t2 moves (valuation d)) → (n : ℕ) → n ≡ total g → (vs : Bits) → vs ≡ read 0 n (through (place layout) (valuation d))
+      → IsInstant g r vs × LosesIn g left (state_in g vs) (early_in g vs) × Leads g left vs
+  instant-is d h n e vs at =
+      let m = here-moves (valuation d) h in
+      let w = through (place layout) (valuation d) in
+      (move-instant g n e left w m.1 vs at r m.0, move-loses g n e left w m.1 vs at, move-on g n e left w m.1 vs at)
+
+pub put-back : (n : ℕ) (new old : Bits) → n ≡ length new → take n (new ++ drop (length new) old) ≡ new
+put-back n new old e = ap (λ k. take k (new ++ drop (length new) old)) e ∙ take-append_seam new (drop (length new) old)
 
 -- ---- a play that is found
 

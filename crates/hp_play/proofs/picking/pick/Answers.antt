@@ -1,4 +1,4 @@
-use Rattle.std.proofs.Common.{◌≡◌, ◌<◌, ◌+◌, ℕ, Bool, slice_set, if◌then◌else◌, length, refl, sym, ap, subst, ◌∙◌, arith, rules}
+use Rattle.std.proofs.Common.{◌≡◌, ◌<◌, ◌≤◌, ◌+◌, ℕ, Bool, slice_set, if◌then◌else◌, length, refl, sym, ap, subst, ◌∙◌, arith, rules}
 use Rattle.hp_diagram.specs.declared.reference.Ref.{Ref}
 use Rattle.hp_diagram.specs.Diagrams.{Has, function, level, valuation, zero_ref}
 use Rattle.hp_boolx.specs.Search.{Bits}
@@ -30,7 +30,7 @@ loop-y-preserved c =
     let before : y < length c.loop-y.values = let end = c.loop-y-test.true in let vars = c.vars-y-end.ensures.vars in omega (arith, end, vars, many) in
     record {
       has = subst (Has t) (sym is) (has-either t b high low kids.has_high kids.has_low);
-      later = subst (λ (r : Ref). y < level t r) (sym is) (later-either t b high low y kids.high_later kids.low_later);
+      later = subst (λ (r : Ref). y + 1 ≤ level t r) (sym is) (later-either t b high low y kids.high_later kids.low_later);
       len = set-len c.loop-y.values c.from-place.result b ∙ many;
       path = λ v agree. path-step t c.args.r c.loop-y.at low high y c.loop-y.values b before c.loop-y.invariant.path kids v (subst (λ (i : ℕ). (k : ℕ) → k < y + 1 → v k ≡ valuation (slice_set c.loop-y.values i b) k) at agree)
           ∙ ap (λ (r : Ref). function t r v) (sym is);
