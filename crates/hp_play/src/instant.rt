@@ -2,7 +2,7 @@
 #[derive(Debug, Drop)]
 pub struct Instant {
     pub values: Vec<bool>,
-    /// Of each early variable whether it may as well have the other value.
+    /// Of each early variable whether it may as well have the other value, with those before it that may. No clause promises this.
     pub free: Vec<bool>,
 }
 

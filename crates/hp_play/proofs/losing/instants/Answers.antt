@@ -4,7 +4,7 @@ use Rattle.hp_boolx.specs.Machine.{game}
 use Rattle.hp_boolx.specs.Search.{Bits}
 use Rattle.hp_boolx.proofs.GateLaws.{game-form}
 use Rattle.hp_play.specs.Fields.{Exactly, IsPlayTo, Leads}
-use Rattle.hp_play.specs.Plays.{IsPlayFrom, LoseEach, valuations}
+use Rattle.hp_play.specs.Plays.{IsInstant, IsPlayFrom, LoseEach, valuations}
 use Rattle.hp_play.specs.declared.instant.Instant.{Instant}
 use Rattle.hp_play.proofs.FieldLaws.{field-count, field-keeps}
 use Rattle.hp_play.proofs.MoveLaws.{exact-first}
@@ -40,7 +40,7 @@ instant_at-requires-clause-exactly c =
     let n = length c.args.field.now.ranks.items in
     let at : c.len.result ≡ n = search rules in
     let before : c.loop-i.i < n = search rules in
-    subst (λ k. Exactly g k c.loop-i.state.items) (let e : n - c.loop-i.i ≡ (c.len.result - 1 - c.loop-i.i) + 1 = omega (arith, at, before) in e) (c.loop-i.invariant.on before).0
+    subst (λ (s : Bits). Exactly g ((c.len.result - 1 - c.loop-i.i) + 1) s) (sym c.deref-in-loop-i.ensures.value) (subst (λ k. Exactly g k c.loop-i.state.items) (let e : n - c.loop-i.i ≡ (c.len.result - 1 - c.loop-i.i) + 1 = omega (arith, at, before) in e) (c.loop-i.invariant.on before).0)
 
 pub loop-i-preserved : goal.loop-i-preserved
 loop-i-preserved c =
@@ -56,16 +56,17 @@ loop-i-preserved c =
     let so_far : length (valuations play) ≡ i = valuations-len play ∙ c.loop-i.invariant.many in
     let now = c.in_ok-instant.ensures in
     let to = (c.loop-i.invariant.on before).1 in
+    let here : IsInstant g c.loop-i.state.items one.values.items = subst (λ (r : Bits). IsInstant g r one.values.items) c.deref-in-loop-i.ensures.value now.instant in
     let next : c.in_ok-state-2.state.items ≡ g.next one.values.items = search rules in
     record {
       many = search rules;
       state = ap (λ (q : Bits). length q) next ∙ (game-form c.args.m.now c.vars-2.ensures.kept).next one.values.items;
       on = λ more. subst (λ (is : List Instant). Exactly g (n - (i + 1)) c.in_ok-state-2.state.items × IsPlayTo g g.init (valuations is) c.in_ok-state-2.state.items) (sym c.in_ok-push.ensures.items)
           (subst (λ (vs : List Bits). Exactly g (n - (i + 1)) c.in_ok-state-2.state.items × IsPlayTo g g.init vs c.in_ok-state-2.state.items) (sym (valuations-push play one))
-          (next-on g n i left is_left before (valuations play) g.init c.loop-i.state.items one.values.items c.in_ok-state-2.state.items to now.instant now.leads next more));
+          (next-on g n i left is_left before (valuations play) g.init c.loop-i.state.items one.values.items c.in_ok-state-2.state.items to here now.leads next more));
       done = λ none. subst (λ (is : List Instant). IsPlayFrom g g.init (valuations is)) (sym c.in_ok-push.ensures.items)
           (subst (λ (vs : List Bits). IsPlayFrom g g.init vs) (sym (valuations-push play one))
-          (next-done g n i left is_left before (valuations play) g.init c.loop-i.state.items one.values.items to now.instant now.leads none));
+          (next-done g n i left is_left before (valuations play) g.init c.loop-i.state.items one.values.items to here now.leads none));
       loses = subst (λ (is : List Instant). LoseEach g n (valuations is)) (sym c.in_ok-push.ensures.items)
           (subst (λ (vs : List Bits). LoseEach g n vs) (sym (valuations-push play one)) (loses-push g n (valuations play) one.values.items left c.loop-i.invariant.loses (omega (arith, at, before, so_far)) now.loses));
       keeps = Keeps-trans _ _ _ c.loop-i.invariant.keeps now.keeps;
