@@ -1,11 +1,11 @@
 -- Moves of a lost game: one is there in each state from which a violation is forced, and it leads to such a state, or violates the duty.
-use Rattle.std.proofs.Common.{◌≡◌, ◌↔◌, ◌⊎◌, inl, inr, ℕ, zero, suc, ◌+◌, ◌<◌, ◌≤◌, Bool, true, false, not, ◌&&◌, IsTrue, IsFalse, List, [], ◌∷◌, ◌++◌, length, refl, sym, ap, ap₂, subst, ◌∙◌, arith, true≢false}
+use Rattle.std.proofs.Common.{◌≡◌, ◌↔◌, inl, inr, ℕ, zero, suc, ◌+◌, ◌≤◌, Bool, true, false, not, ◌&&◌, IsTrue, IsFalse, List, ◌++◌, length, refl, sym, ap, subst, ◌∙◌, arith, true≢false}
 use Rattle.std.proofs.lemmas.Bool.{and_parts, and_from}
-use Rattle.hp_boolx.specs.Game.{Game, IsForm, IsState, Forced, ValidEarly, ValidChoice, ValidLate, joined, bad, forced, loses, permitted, valid_choice, valid_early}
+use Rattle.hp_boolx.specs.Game.{Game, IsForm, IsState, Forced, ValidChoice, joined, bad, forced, loses, valid_choice, valid_early}
 use Rattle.hp_boolx.specs.Search.{Bits, Set, every_of}
 use Rattle.hp_boolx.specs.Solved.{IsLose}
 use Rattle.hp_boolx.proofs.GameLaws.{Tells, bad-from, bad-parts, choice-from, early-found, early-from, forced-told, loses-told}
-use Rattle.hp_boolx.proofs.SolvedLaws.{Permits, left-choice, permitted-told}
+use Rattle.hp_boolx.proofs.SolvedLaws.{left-choice, permitted-told}
 use Rattle.hp_synth.specs.Valued.{Valued, read, states, earlies, controls, lates, all, total, early_from, control_from, late_from}
 use Rattle.hp_synth.proofs.Ranges.{put, put-outside, put-read, read-len, read-parts, read-same}
 use Rattle.hp_play.specs.Fields.{Exactly, IsMove, IsSlow, Leads}

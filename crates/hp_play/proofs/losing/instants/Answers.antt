@@ -1,9 +1,9 @@
-use Rattle.std.proofs.Common.{◌≡◌, ◌+◌, ◌-◌, ◌<◌, ◌≤◌, ◌++◌, ◌∷◌, [], suc, List, length, sym, ap, subst, ◌∙◌, rules, arith}
+use Rattle.std.proofs.Common.{◌≡◌, ◌+◌, ◌-◌, ◌<◌, List, length, sym, ap, subst, ◌∙◌, rules, arith}
 use Rattle.hp_diagram.proofs.Choices.{Keeps-trans, Keeps-refl}
 use Rattle.hp_boolx.specs.Machine.{game}
 use Rattle.hp_boolx.specs.Search.{Bits}
 use Rattle.hp_boolx.proofs.GateLaws.{game-form}
-use Rattle.hp_play.specs.Fields.{Exactly, IsPlayTo, Leads}
+use Rattle.hp_play.specs.Fields.{Exactly, IsPlayTo}
 use Rattle.hp_play.specs.Plays.{IsInstant, IsPlayFrom, LoseEach, valuations}
 use Rattle.hp_play.specs.declared.instant.Instant.{Instant}
 use Rattle.hp_play.proofs.FieldLaws.{field-count, field-keeps}

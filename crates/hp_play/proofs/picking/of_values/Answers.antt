@@ -1,4 +1,4 @@
-use Rattle.std.proofs.Common.{◌≡◌, ◌+◌, ◌<◌, false, get_or, length, refl, rules}
+use Rattle.std.proofs.Common.{◌≡◌, ◌+◌, false, get_or, refl, rules}
 use Rattle.hp_diagram.proofs.Choices.{Keeps-trans, Keeps-refl}
 use Rattle.hp_synth.specs.Layouts.{place}
 use Rattle.hp_play.proofs.PickLaws.{more-values, no-values, one-true}

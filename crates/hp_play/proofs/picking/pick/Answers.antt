@@ -1,8 +1,6 @@
-use Rattle.std.proofs.Common.{◌≡◌, ◌<◌, ◌≤◌, ◌+◌, ℕ, Bool, slice_set, if◌then◌else◌, length, refl, sym, ap, subst, ◌∙◌, arith, rules}
+use Rattle.std.proofs.Common.{◌≡◌, ◌<◌, ◌≤◌, ◌+◌, ℕ, slice_set, if◌then◌else◌, length, refl, sym, ap, subst, ◌∙◌, arith}
 use Rattle.hp_diagram.specs.declared.reference.Ref.{Ref}
-use Rattle.hp_diagram.specs.Diagrams.{Has, function, level, valuation, zero_ref}
-use Rattle.hp_boolx.specs.Search.{Bits}
-use Rattle.hp_synth.specs.Valued.{Valued}
+use Rattle.hp_diagram.specs.Diagrams.{Has, function, level, valuation}
 use Rattle.hp_synth.proofs.LayoutLaws.{set-len}
 use Rattle.hp_play.proofs.PickLaws.{has-either, later-either, not-zero, path-step, some-child, true-behind}
 use Rattle.hp_play.proofs.picking.pick.Goals as goal
