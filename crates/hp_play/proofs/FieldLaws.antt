@@ -1,27 +1,32 @@
 -- A lost machine in a table.
-use Rattle.std.proofs.Common.{◌≡◌, ℕ, zero, suc, ◌+◌, ◌<◌, ◌≤◌, false, ◌&&◌, IsTrue, List, [], ◌∷◌, length, map, slice_index_or, refl, sym, ap, subst, ◌∙◌, arith}
+use Rattle.std.proofs.Common.{◌≡◌, ◌↔◌, ℕ, zero, suc, ◌+◌, ◌<◌, ◌≤◌, false, not, ◌&&◌, IsTrue, List, [], ◌∷◌, ◌++◌, length, map, take, drop, slice_index_or, refl, sym, ap, ap₂, subst, ◌∙◌, arith}
+use Rattle.std.proofs.lemmas.Bool.{and_parts, and_from}
+use Rattle.std.proofs.Math.Seq.{take-append_seam}
 use Rattle.hp_diagram.specs.declared.reference.Ref.{Ref}
 use Rattle.hp_diagram.specs.Diagrams.{Diagrams, path_end, function, valuation, Means, Keeps, zero_ref}
-use Rattle.hp_diagram.proofs.Choices.{Means-keeps}
-use Rattle.hp_boolx.specs.Game.{Game, IsForm, Forced, bad, loses, valid_choice, valid_early}
-use Rattle.hp_boolx.specs.Search.{Bits, Set}
+use Rattle.hp_diagram.proofs.Choices.{Keeps-trans, Means-keeps}
+use Rattle.hp_boolx.specs.Game.{Game, IsForm, IsState, Forced, bad, joined, loses, valid_choice, valid_early}
+use Rattle.hp_boolx.specs.Search.{Bits, Set, every_of}
 use Rattle.hp_boolx.specs.Solved.{rank}
 use Rattle.hp_boolx.proofs.GameLaws.{Tells}
 use Rattle.hp_synth.specs.Building.{HasEach}
 use Rattle.hp_synth.specs.Kept.{AllMean}
-use Rattle.hp_synth.specs.Layouts.{place, IsLayout}
+use Rattle.hp_synth.specs.declared.layout.Layout.{Layout}
+use Rattle.hp_synth.specs.Layouts.{place, variable, IsLayout}
 use Rattle.hp_synth.specs.Sought.{base_at}
 use Rattle.hp_synth.specs.Rounds.{IsCounts}
-use Rattle.hp_synth.specs.Valued.{Fun, Valued, all, over, read, through, total, states, earlies as earlies-of, OfState, OfEarly, OfChoice}
+use Rattle.hp_synth.specs.Valued.{Fun, Valued, all, over, read, total, through, states, earlies as earlies-of, controls, lates, early_from, control_from, late_from, OfState, OfEarly, OfChoice}
+use Rattle.hp_synth.proofs.LayoutLaws.{seen}
 use Rattle.hp_synth.proofs.Ranges.{read-len}
 use Rattle.hp_synth.proofs.SearchSteps.{base_at-len}
 use Rattle.hp_synth.proofs.SoughtLaws.{all-has, all-keeps, all-len}
-use Rattle.hp_play.specs.Fields.{IsField, IsThreat, rank_ref}
-use Rattle.hp_play.specs.Plays.{IsLoss, IsPlayFrom, LoseEach, LosesIn, early_in, state_in, valuations}
+use Rattle.hp_play.specs.Fields.{Exactly, IsField, IsThreat, Leads, rank_ref}
+use Rattle.hp_play.specs.Plays.{IsInstant, IsLoss, IsPlayFrom, LoseEach, LosesIn, early_in, state_in, valuations}
 use Rattle.hp_play.specs.declared.instant.Instant.{Instant}
-use Rattle.hp_play.proofs.ForcingLaws.{loses-in}
-use Rattle.hp_play.proofs.PlayLaws.{loses-read, valuations-len}
 use Rattle.hp_play.specs.declared.losing.Field.{Field}
+use Rattle.hp_play.specs.declared.losing.Threat.{Threat}
+use Rattle.hp_play.proofs.MoveLaws.{HasLengths, MoveAt, forces-is, last-told, more-told, move-instant, move-loses, move-on, move-there, moves-valued, states-valued, valued}
+use Rattle.hp_play.proofs.PlayLaws.{valuations-len}
 
 zero-false : (t : Diagrams) (v : Valued) → function t zero_ref v ≡ false
 unfolding path_end
@@ -87,27 +92,120 @@ mean-of t (f ∷ fs) [] k d D h l = absurd h
 mean-of t (f ∷ fs) (r ∷ rs) zero d D h l = h.0
 mean-of t (f ∷ fs) (r ∷ rs) (suc k) d D h l = mean-of t fs rs k d D h.1 (omega (arith, l))
 
-module _ (g : Game) (form : IsForm g) (t : Diagrams) (f : Field) (is : IsField g t f) where
-  -- the early values that force a violation, of the references that are read
-  pub field-threat : (left : ℕ) → left < length f.ranks.items → (t1 t2 t3 : Diagrams) → Keeps t t1 → Keeps t2 t3 → (below : Ref) (roots : List Ref) (choices earlies worse forcing : Ref)
-      → below ≡ rank_ref f.ranks.items left → roots ≡ f.roots.items → choices ≡ slice_index_or f.roots.items 3 choices → earlies ≡ slice_index_or f.roots.items 4 earlies
-      → ((h : Game) (X : Set) → IsForm h → IsCounts h f.layout.counts → AllMean t (base_at (place f.layout) h) roots → Means t (over (place f.layout) (OfState h X)) below → Means t1 (λ v. bad h X (all h (through (place f.layout) v))) worse)
-      → ((h : Game) (X : Set) → IsCounts h f.layout.counts → Means t1 (over (place f.layout) (OfChoice h (valid_choice h))) choices → Means t1 (over (place f.layout) (OfEarly h (valid_early h))) earlies
-      → Means t1 (λ v. bad h X (all h (through (place f.layout) v))) worse → Means t2 (over (place f.layout) (OfEarly h (λ r u. valid_early h r u && loses h X r u))) forcing)
-      → IsThreat g (place f.layout) left t3 forcing
-  field-threat left l t1 t2 t3 k1 k3 below roots choices earlies worse forcing is_below is_roots is_choices is_earlies worse_is forcing_is =
-      let p = place f.layout in
-      let X = rank is.sets left in
+module _ (g : Game) (form : IsForm g) (t : Diagrams) (f : Field) (is : IsField g t f) (left : ℕ) (l : left < length f.ranks.items) where
+  abbrev p : ℕ → ℕ
+  p = place f.layout
+
+  abbrev X : Set
+  X = rank is.sets left
+
+  tells : Tells g X (Forced g left)
+  tells = rank-tells g t f is left (omega (arith, l))
+
+  -- the valuations by which a violation comes at once or is forced in so many instants
+  abbrev IsWorse : Diagrams → Ref → Type 0
+  IsWorse u r = Means u (λ v. bad g X (all g (through p v))) r
+
+  abbrev IsForcing : Diagrams → Ref → Type 0
+  IsForcing u r = Means u (over p (OfEarly g (λ r u. valid_early g r u && loses g X r u))) r
+
+  pub worse-means : (t1 : Diagrams) (below : Ref) (roots : List Ref) (worse : Ref) → below ≡ rank_ref f.ranks.items left → roots ≡ f.roots.items
+      → ((h : Game) (Y : Set) → IsForm h → IsCounts h f.layout.counts → AllMean t (base_at p h) roots → Means t (over p (OfState h Y)) below → Means t1 (λ v. bad h Y (all h (through p v))) worse)
+      → IsWorse t1 worse
+  worse-means t1 below roots worse is_below is_roots ok =
+      ok g X form is.counts (subst (λ (rs : List Ref). AllMean t (base_at p g) rs) (sym is_roots) is.roots)
+      (subst (λ (r : Ref). Means t (over p (OfState g X)) r) (sym is_below) (rank-means g t f is left (omega (arith, l))))
+
+  pub forcing-is : (t1 t2 : Diagrams) → Keeps t t1 → (choices earlies worse forcing : Ref) → choices ≡ slice_index_or f.roots.items 3 choices → earlies ≡ slice_index_or f.roots.items 4 earlies → IsWorse t1 worse
+      → ((h : Game) (Y : Set) → IsCounts h f.layout.counts → Means t1 (over p (OfChoice h (valid_choice h))) choices → Means t1 (over p (OfEarly h (valid_early h))) earlies
+      → Means t1 (λ v. bad h Y (all h (through p v))) worse → Means t2 (over p (OfEarly h (λ r u. valid_early h r u && loses h Y r u))) forcing)
+      → IsForcing t2 forcing
+  forcing-is t1 t2 k choices earlies worse forcing is_choices is_earlies of_worse ok =
       let many = field-many g t f is in
-      let of_below = subst (λ (r : Ref). Means t (over p (OfState g X)) r) (sym is_below) (rank-means g t f is left (omega (arith, l))) in
-      let of_worse = worse_is g X form is.counts (subst (λ (rs : List Ref). AllMean t (base_at p g) rs) (sym is_roots) is.roots) of_below in
       let of_choices = subst (λ (r : Ref). Means t (over p (OfChoice g (valid_choice g))) r) (sym is_choices) (mean-of t (base_at p g) f.roots.items 3 choices (λ v. false) is.roots (omega (arith, many))) in
       let of_earlies = subst (λ (r : Ref). Means t (over p (OfEarly g (valid_early g))) r) (sym is_earlies) (mean-of t (base_at p g) f.roots.items 4 earlies (λ v. false) is.roots (omega (arith, many))) in
-      let meant = Means-keeps t2 t3 k3 _ forcing (forcing_is g X is.counts (Means-keeps t t1 k1 _ choices of_choices) (Means-keeps t t1 k1 _ earlies of_earlies) of_worse) in
-      record {
-        has = meant.has;
-        loses = λ v h. loses-in g form left X (rank-tells g t f is left (omega (arith, l))) (states g (through p v)) (earlies-of g (through p v)) (read-len g.registers g.early (through p v)) (sym (meant.value v) ∙ h);
-      }
+      ok g X is.counts (Means-keeps t t1 k _ choices of_choices) (Means-keeps t t1 k _ earlies of_earlies) of_worse
+
+  lengths : (v : Valued) → HasLengths g form (earlies-of g (through p v)) (controls g (through p v)) (lates g (through p v))
+  lengths v = (read-len (early_from g) g.early (through p v), read-len (control_from g) g.control (through p v), read-len (late_from g) g.late (through p v))
+
+  forces : (u : Diagrams) (forcing : Ref) → IsForcing u forcing → (v : Valued) → IsTrue (function u forcing v) ↔ LosesIn g left (states g (through p v)) (earlies-of g (through p v))
+  forces u forcing m v =
+      let told = forces-is g form left X tells (states g (through p v)) (earlies-of g (through p v)) (lengths v).0 in
+      (λ h. told.0 (sym (m.value v) ∙ h), λ h. m.value v ∙ told.1 h)
+
+  -- what threatens at the last instant,
+  pub last-threat : left ≡ 0 → (t1 t2 t3 : Diagrams) → Keeps t1 t2 → Keeps t2 t3 → (worse forcing moves : Ref) → IsWorse t1 worse → IsForcing t2 forcing → Means t3 (λ v. function t2 forcing v && function t2 worse v) moves
+      → IsThreat g p left t3 (record { forcing = forcing; moves = moves })
+  last-threat z t1 t2 t3 k2 k3 worse forcing moves mw mf mm = record {
+    forcing = k3.has forcing mf.has;
+    moves = mm.has;
+    forces = forces t3 forcing (Means-keeps t2 t3 k3 _ forcing mf);
+    leads = λ v.
+        let w = through p v in
+        let same = mm.value v ∙ ap₂ (λ a b. a && b) (mf.value v) (k2.functions worse mw.has v ∙ mw.value v) in
+        let told = last-told g form left z X tells (states g w) (earlies-of g w) (controls g w) (lates g w) (lengths v) in
+        (λ h. told.0 (sym same ∙ h), λ m. same ∙ told.1 m);
+  }
+
+  -- and before it
+  pub more-threat : (k : ℕ) → left ≡ suc k → (t1 t2 t3 t4 t5 : Diagrams) → Keeps t1 t2 → Keeps t2 t3 → Keeps t3 t4 → Keeps t4 t5 → (worse forcing either slow moves : Ref) → IsWorse t1 worse → IsForcing t2 forcing
+      → Means t3 (λ v. function t2 forcing v && function t2 worse v) either → Means t4 (over p (OfChoice g (λ r u c. every_of g.late (λ w. not (bad g (rank is.sets k) (joined r u c w)))))) slow
+      → Means t5 (λ v. function t4 either v && function t4 slow v) moves → IsThreat g p left t5 (record { forcing = forcing; moves = moves })
+  more-threat k z t1 t2 t3 t4 t5 k2 k3 k4 k5 worse forcing either slow moves mw mf me ms mm = record {
+    forcing = to_5.has forcing mf.has;
+    moves = mm.has;
+    forces = forces t5 forcing (Means-keeps t2 t5 to_5 _ forcing mf);
+    leads = λ v.
+        let w = through p v in
+        let both = me.value v ∙ ap₂ (λ a b. a && b) (mf.value v) (k2.functions worse mw.has v ∙ mw.value v) in
+        let same = mm.value v ∙ ap₂ (λ a b. a && b) (k4.functions either me.has v ∙ both) (ms.value v) in
+        let told = more-told g form left k z X (rank is.sets k) tells (rank-tells g t f is k (omega (arith, l, z))) (states g w) (earlies-of g w) (controls g w) (lates g w) (lengths v) in
+        (λ h. told.0 (sym same ∙ h), λ m. same ∙ told.1 m);
+  }
+    where
+      to_5 : Keeps t2 t5
+      to_5 = Keeps-trans t2 t4 t5 (Keeps-trans t2 t3 t4 k3 k4) k5
+
+pub threat-keeps : (g : Game) (p : ℕ → ℕ) (left : ℕ) (t u : Diagrams) (threat : Threat) → Keeps t u → IsThreat g p left t threat → IsThreat g p left u threat
+threat-keeps g p left t u threat k is = record {
+  forcing = k.has threat.forcing is.forcing;
+  moves = k.has threat.moves is.moves;
+  forces = λ v. let same = k.functions threat.forcing is.forcing v in (λ h. (is.forces v).0 (sym same ∙ h), λ h. same ∙ (is.forces v).1 h);
+  leads = λ v. let same = k.functions threat.moves is.moves v in (λ h. (is.leads v).0 (sym same ∙ h), λ h. same ∙ (is.leads v).1 h);
+}
+
+-- ---- an instant
+
+-- the valuations here that are moves
+module _ (g : Game) (form : IsForm g) (vars : ℕ) (layout : Layout) (ok : IsLayout vars layout) (left : ℕ) (t1 t2 : Diagrams) (threat : Threat) (is : IsThreat g (place layout) left t1 threat) (here moves : Ref) (r : Bits)
+    (of_here : (v : Valued) → IsTrue (function t1 here v) ↔ (states g (through (place layout) v) ≡ r)) (means : Means t2 (λ v. function t1 here v && function t1 threat.moves v) moves) where
+  pub here-moves : (v : Valued) → IsTrue (function t2 moves v) → (states g (through (place layout) v) ≡ r) × MoveAt g left (through (place layout) v)
+  here-moves v h =
+      let both = and_parts (function t1 here v) (function t1 threat.moves v) (sym (means.value v) ∙ h) in
+      ((of_here v).0 both.0, (is.leads v).0 both.1)
+
+  -- there is one
+  pub some-here : IsState g r → Exactly g (suc left) r → (v : Valued) × IsTrue (function t2 moves v)
+  some-here s e =
+      let m = move-there g form left r s e in
+      let own = valued g r m.0 m.1 m.2 in
+      let v = through (variable layout) own in
+      let back : through (place layout) v ≡ own = seen vars layout ok own in
+      let is_state : states g (through (place layout) v) ≡ r = ap (states g) back ∙ states-valued g r m.0 m.1 m.2 s in
+      let is_move : MoveAt g left (through (place layout) v) = subst (MoveAt g left) (sym back) (moves-valued g left r m.0 m.1 m.2 s m.3) in
+      (v, means.value v ∙ and_from (function t1 here v) (function t1 threat.moves v) ((of_here v).1 is_state) ((is.leads v).1 is_move))
+
+  -- the values at a valuation that is such a move
+  pub instant-is : (d : Bits) → IsTrue (function t2 moves (valuation d)) → (n : ℕ) → n ≡ total g → (vs : Bits) → vs ≡ read 0 n (through (place layout) (valuation d))
+      → IsInstant g r vs × LosesIn g left (state_in g vs) (early_in g vs) × Leads g left vs
+  instant-is d h n e vs at =
+      let m = here-moves (valuation d) h in
+      let w = through (place layout) (valuation d) in
+      (move-instant g n e left w m.1 vs at r m.0, move-loses g n e left w m.1 vs at, move-on g n e left w m.1 vs at)
+
+pub put-back : (n : ℕ) (new old : Bits) → n ≡ length new → take n (new ++ drop (length new) old) ≡ new
+put-back n new old e = ap (λ k. take k (new ++ drop (length new) old)) e ∙ take-append_seam new (drop (length new) old)
 
 -- ---- a play that is found
 
@@ -122,8 +220,3 @@ module _ (g : Game) (t : Diagrams) (f : Field) (is : IsField g t f) where
         forced = subst (λ k. Forced g k g.init) same is.lose.init;
         least = λ fewer h. subst (λ k. k ≤ fewer) same (is.lose.least fewer h);
       }
-
-pub threat-loses : (g : Game) (p : ℕ → ℕ) (left : ℕ) (t u : Diagrams) (r : Ref) → IsThreat g p left t r → Keeps t u → (d : Bits) → IsTrue (function u r (valuation d)) → (n : ℕ) → n ≡ total g → (vs : Bits) → vs ≡ read 0 n (through p (valuation d)) → LosesIn g left (state_in g vs) (early_in g vs)
-threat-loses g p left t u r is k d h n e vs same =
-    subst (λ (x : Bits). LosesIn g left (state_in g x) (early_in g x)) (sym same)
-    (loses-read g (through p (valuation d)) n e left (is.loses (valuation d) (sym (k.functions r is.has (valuation d)) ∙ h)))

@@ -1,5 +1,7 @@
 mod Failing
 mod ListLaws
 mod ForcingLaws
+mod PickLaws
+mod MoveLaws
 mod FieldLaws
 mod PlayLaws

@@ -1,5 +1,5 @@
 -- Plays, instant by instant.
-use Rattle.std.proofs.Common.{◌≡◌, ◌≢◌, ◌↔◌, inl, inr, ℕ, zero, suc, ◌+◌, ◌-◌, ◌<◌, Bool, false, not, ◌&&◌, IsTrue, IsFalse, List, [], ◌∷◌, ◌++◌, get_or, length, take, drop, refl, sym, ap, subst, ◌∙◌, arith, zero-add, true≢false}
+use Rattle.std.proofs.Common.{◌≡◌, ◌≢◌, ◌↔◌, inl, inr, ℕ, zero, suc, ◌+◌, ◌-◌, ◌<◌, ◌≤◌, Bool, false, not, ◌&&◌, IsTrue, IsFalse, List, [], ◌∷◌, ◌++◌, get_or, length, take, drop, refl, sym, ap, subst, ◌∙◌, arith, zero-add, true≢false}
 use Rattle.std.proofs.Math.Seq.{take-append_seam, drop-append_seam}
 use Rattle.hp_boolx.specs.Game.{Game}
 use Rattle.std.proofs.lemmas.Bool.{and_parts, and_from, cases_lt, not-true, not_from_false}
@@ -8,6 +8,7 @@ use Rattle.hp_boolx.specs.Machine.{Machine, at_gate, game, variables}
 use Rattle.hp_boolx.specs.Search.{Bits}
 use Rattle.hp_synth.specs.Valued.{Valued, read, states, earlies, total}
 use Rattle.hp_synth.proofs.Ranges.{read-len, read-parts}
+use Rattle.hp_play.specs.Fields.{Exactly, IsPlayTo, Leads}
 use Rattle.hp_play.specs.Plays.{state_in, early_in, IsInstant, IsPlayFrom, LosesIn, LoseEach, valuations}
 use Rattle.hp_play.specs.declared.instant.Instant.{Instant}
 use Rattle.hp_play.proofs.ListLaws.{drop-next, drop-end}
@@ -135,3 +136,27 @@ module _ (g : Game) (play : List Instant) (i : ℕ) (one : Instant) (before : i 
             let q = subst (λ (vs : List Bits). IsPlayFrom g r vs) ends (plays.0 p) in
             not_from_false b (duty ∙ q.1),
       )
+
+-- ---- a play that grows
+
+module _ (g : Game) where
+  play-more : (vs : List Bits) (r s v q : Bits) → IsPlayTo g r vs s → IsInstant g s v → IsTrue (g.duty v) → q ≡ g.next v → IsPlayTo g r (vs ++ v ∷ []) q
+  play-more [] r s v q p is kept next = (subst (λ (z : Bits). IsInstant g z v) p is, kept, next)
+  play-more (w ∷ ws) r s v q p is kept next = (p.0, p.1, play-more ws (g.next w) s v q p.2 is kept next)
+
+  play-end : (vs : List Bits) (r s v : Bits) → IsPlayTo g r vs s → IsInstant g s v → IsFalse (g.duty v) → IsPlayFrom g r (vs ++ v ∷ [])
+  play-end [] r s v p is fails = (subst (λ (z : Bits). IsInstant g z v) p is, fails)
+  play-end (w ∷ []) r s v p is fails = (p.0, p.1, play-end [] (g.next w) s v p.2 is fails)
+  play-end (w ∷ x ∷ ws) r s v p is fails = (p.0, p.1, play-end (x ∷ ws) (g.next w) s v p.2 is fails)
+
+  -- with an instant more, where some are left, and where none is
+  pub next-on : (n i k : ℕ) → k ≡ n - 1 - i → i < n → (vs : List Bits) (r s v q : Bits) → IsPlayTo g r vs s → IsInstant g s v → Leads g k v → q ≡ g.next v
+      → i + 1 < n → Exactly g (n - (i + 1)) q × IsPlayTo g r (vs ++ v ∷ []) q
+  next-on n i zero e l vs r s v q p is leads next more = absurd (omega (arith, e, l, more))
+  next-on n i (suc k) e l vs r s v q p is leads next more =
+      let left : suc k ≡ n - (i + 1) = omega (arith, e, l, more) in
+      (subst (λ m. Exactly g m q) left (subst (Exactly g (suc k)) (sym next) leads.1), play-more vs r s v q p is leads.0 next)
+
+  pub next-done : (n i k : ℕ) → k ≡ n - 1 - i → i < n → (vs : List Bits) (r s v : Bits) → IsPlayTo g r vs s → IsInstant g s v → Leads g k v → n ≤ i + 1 → IsPlayFrom g r (vs ++ v ∷ [])
+  next-done n i zero e l vs r s v p is leads none = play-end vs r s v p is leads
+  next-done n i (suc k) e l vs r s v p is leads none = absurd (omega (arith, e, l, none))

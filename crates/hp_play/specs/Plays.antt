@@ -5,7 +5,7 @@ use Rattle.hp_boolx.specs.Game.{Game, Forced, Safe, ValidEarly, ValidChoice, Val
 use Rattle.hp_boolx.specs.Search.{Bits}
 use Rattle.hp_play.specs.declared.instant.Instant.{Instant}
 use Rattle.hp_play.specs.declared.instant.Outcome.{Outcome}
-use Rattle.hp_play.specs.declared.instant.Outcome.TheVariants.{Kept, Lost, Unshown}
+use Rattle.hp_play.specs.declared.instant.Outcome.TheVariants.{Kept, Lost}
 
 -- the valuations of a play, one for each instant
 abbrev pub valuations : List Instant → List Bits
@@ -54,4 +54,3 @@ module _ (g : Game) where
   abbrev pub IsOutcome : Outcome → Type 0
   IsOutcome Kept = Safe g g.init
   IsOutcome (Lost play) = IsLoss (valuations play.items)
-  IsOutcome Unshown = (n : ℕ) × Forced g n g.init

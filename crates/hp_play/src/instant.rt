@@ -2,7 +2,7 @@
 #[derive(Debug, Drop)]
 pub struct Instant {
     pub values: Vec<bool>,
-    /// Of each early variable whether it may as well have the other value.
+    /// Of each early variable whether it may as well have the other value, with those before it that may. No clause promises this.
     pub free: Vec<bool>,
 }
 
@@ -13,6 +13,4 @@ pub enum Outcome {
     Kept,
     /// A violation is forced, and this is a play of the least number of instants in which it is.
     Lost { play: Vec<Instant> },
-    /// A violation is forced, but no play was found.
-    Unshown,
 }

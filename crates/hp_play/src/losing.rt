@@ -1,16 +1,22 @@
 //! Losing plays.
-ghost use Rattle.std.specs.Prelude.{◌≡◌, ◌+◌, ◌<◌, ◌≤◌, length, IfOk, IfSome, OnOk};
-ghost use Rattle.hp_diagram.specs.Diagrams.{Has, Keeps};
+ghost use Rattle.std.specs.Prelude.{◌≡◌, ◌+◌, ◌<◌, ◌≤◌, not, length, IfOk, OnOk};
+ghost use Rattle.hp_diagram.specs.Diagrams.{Has, Keeps, Means};
+ghost use Rattle.hp_boolx.specs.Game.{Game, IsForm, bad, joined};
 ghost use Rattle.hp_boolx.specs.Machine.{game, variables};
+ghost use Rattle.hp_boolx.specs.Search.{Set, every_of};
 ghost use Rattle.hp_synth.specs.Building.{HasEach};
+ghost use Rattle.hp_synth.specs.Kept.{AllMean};
 ghost use Rattle.hp_synth.specs.Layouts.{place, IsLayout};
-ghost use Rattle.hp_play.specs.Fields.{AreRanks, IsField, IsThreat, rank_ref};
-ghost use Rattle.hp_play.specs.Plays.{IsOutcome, LoseEach, LosesIn, early_in, state_in, valuations};
+ghost use Rattle.hp_synth.specs.Rounds.{IsCounts};
+ghost use Rattle.hp_synth.specs.Sought.{base_at};
+ghost use Rattle.hp_synth.specs.Valued.{over, OfChoice, OfState};
+ghost use Rattle.hp_play.specs.Fields.{AreRanks, Exactly, IsField, IsThreat, Leads, rank_ref};
+ghost use Rattle.hp_play.specs.Plays.{IsInstant, IsOutcome, IsPlayFrom, LoseEach, LosesIn, early_in, state_in, valuations};
 
 use crate::forcing::{forcing, worse};
 use crate::instant::{Instant, Outcome};
-use crate::picking::{early_values, free_values, of_values, own_values, pick};
-use crate::replaying::{next_state, replay};
+use crate::picking::{free_values, of_values, own_values, pick};
+use crate::replaying::next_state;
 use hp_boolx::BoolMachine;
 use hp_diagram::{Ref, Table, zero};
 use hp_synth::{Layout, Verdict, all_in, layout_of, placed, prepare, solve};
@@ -31,13 +37,6 @@ struct Threat {
     moves: Ref,
 }
 
-/// The valuations of an instant's state and early values, and which of these are free.
-#[derive(Drop)]
-struct Begun {
-    given: Ref,
-    free: Vec<bool>,
-}
-
 /// The states from which a violation is forced within so many instants.
 fn rank(ranks: &[Ref], k: usize) -> Ref
     requires { k ≤ length ranks.now }
@@ -53,6 +52,8 @@ fn slow(alloc: Global, t: &mut Table, field: &Field, x: Ref) -> Result<Ref, Allo
     requires x { Has t.old x }
     requires roots { 5 + field.now.layout.counts.registers ≤ length field.now.roots.items }
     ensures has { IfOk result (Has t.new) }
+    ensures ok { IfOk result (λ r. (g : Game) (X : Set) → IsForm g → IsCounts g field.now.layout.counts → AllMean t.old (base_at (place field.now.layout) g) field.now.roots.items
+        → Means t.old (over (place field.now.layout) (OfState g X)) x → Means t.new (over (place field.now.layout) (OfChoice g (λ r u c. every_of g.late (λ w. not (bad g X (joined r u c w)))))) r) }
     ensures keeps { OnOk result (Keeps t.old t.new) }
 {
     let to = t.vars();
@@ -72,8 +73,7 @@ fn threat_at(
 ) -> Result<Threat, AllocError>
     requires field { IsField (game m.now) t.old field.now }
     requires left { left < length field.now.ranks.items }
-    ensures forcing { IfOk result (λ threat. IsThreat (game m.now) (place field.now.layout) left t.new threat.forcing) }
-    ensures moves { IfOk result (λ threat. Has t.new threat.moves) }
+    ensures threat { IfOk result (IsThreat (game m.now) (place field.now.layout) left t.new) }
     ensures keeps { OnOk result (Keeps t.old t.new) }
 {
     // The proof wants the machine's form.
@@ -129,36 +129,7 @@ fn free_early(
     free_values(alloc, t, &field.layout, serve, placed)
 }
 
-/// The early values of an instant here: they force a violation, and where they are free they are false. The values at their places are changed to some of this kind.
-fn begin(
-    alloc: Global,
-    t: &mut Table,
-    field: &Field,
-    forcing: Ref,
-    here: Ref,
-    placed: &mut [bool],
-) -> Result<Begun, AllocError>
-    requires layout { IsLayout t.old.vars field.now.layout }
-    requires roots { 5 ≤ length field.now.roots.items }
-    requires has { HasEach t.old field.now.roots.items }
-    requires forcing { Has t.old forcing }
-    requires here { Has t.old here }
-    requires placed { length placed.old ≡ t.old.vars }
-    ensures given { IfOk result (λ begun. Has t.new begun.given) }
-    ensures len { length placed.new ≡ length placed.old }
-    ensures keeps { OnOk result (Keeps t.old t.new) }
-{
-    let layout = &field.layout;
-    let lost = t.and(here, forcing)?;
-    pick(t, lost, placed);
-    let free = free_early(alloc, t, field, forcing, here, placed)?;
-    let early = early_values(alloc, t.vars(), layout, placed, &free)?;
-    let these = of_values(t, layout, layout.counts.registers, &early)?;
-    let given = t.and(here, these)?;
-    Ok(Begun { given, free })
-}
-
-/// An instant in this state, behind which so many are left, if one is found.
+/// An instant of a shortest play in this state, behind which so many are left.
 fn instant_at(
     alloc: Global,
     m: &BoolMachine,
@@ -166,39 +137,39 @@ fn instant_at(
     field: &Field,
     left: usize,
     state: &[bool],
-) -> Result<Option<Instant>, AllocError>
+) -> Result<Instant, AllocError>
     requires vars { t.old.vars ≡ variables m.now }
     requires field { IsField (game m.now) t.old field.now }
     requires left { left < length field.now.ranks.items }
     requires state { length state.now ≡ m.now.registers }
-    ensures many { IfOk result (λ found. IfSome found (λ i. length i.values.items ≡ variables m.now)) }
-    ensures loses { IfOk result (λ found. IfSome found (λ i. LosesIn (game m.now) left (state_in (game m.now) i.values.items) (early_in (game m.now) i.values.items))) }
+    requires exactly { Exactly (game m.now) (left + 1) state.now }
+    ensures instant { IfOk result (λ i. IsInstant (game m.now) state.now i.values.items) }
+    ensures loses { IfOk result (λ i. LosesIn (game m.now) left (state_in (game m.now) i.values.items) (early_in (game m.now) i.values.items)) }
+    ensures leads { IfOk result (λ i. Leads (game m.now) left i.values.items) }
     ensures keeps { OnOk result (Keeps t.old t.new) }
 {
     let threat = threat_at(alloc, m, t, field, left)?;
     let here = of_values(t, &field.layout, 0, state)?;
+    let moves = t.and(here, threat.moves)?;
     let mut placed = preferred(alloc, m, &field.layout)?;
-    let Begun { given, free } = begin(alloc, t, field, threat.forcing, here, &mut placed)?;
-    let moves = t.and(given, threat.moves)?;
     pick(t, moves, &mut placed);
-    if !t.value(threat.forcing, &placed) {
-        return Ok(None);
-    }
     let values = own_values(alloc, m.vars(), &field.layout, &placed)?;
-    Ok(Some(Instant { values, free }))
+    let free = free_early(alloc, t, field, threat.forcing, here, &placed)?;
+    Ok(Instant { values, free })
 }
 
-/// An instant after the other, if they are found.
+/// The instants of a shortest play, one after the other.
 fn instants(
     alloc: Global,
     m: &BoolMachine,
     t: &mut Table,
     field: &Field,
-) -> Result<Option<Vec<Instant>>, AllocError>
+) -> Result<Vec<Instant>, AllocError>
     requires vars { t.old.vars ≡ variables m.now }
     requires field { IsField (game m.now) t.old field.now }
-    ensures many { IfOk result (λ found. IfSome found (λ play. length play.items ≡ length field.now.ranks.items)) }
-    ensures loses { IfOk result (λ found. IfSome found (λ play. LoseEach (game m.now) (length field.now.ranks.items) (valuations play.items))) }
+    ensures many { IfOk result (λ play. length play.items ≡ length field.now.ranks.items) }
+    ensures play { IfOk result (λ play. IsPlayFrom (game m.now) (game m.now).init (valuations play.items)) }
+    ensures loses { IfOk result (λ play. LoseEach (game m.now) (length field.now.ranks.items) (valuations play.items)) }
 {
     // The proof wants the table's rules, and the machine's form.
     let _vars = (t.vars(), m.vars());
@@ -206,13 +177,11 @@ fn instants(
     let mut play = Vec::new(alloc);
     for i in 0..field.ranks.len() {
         let left = field.ranks.len() - 1 - i;
-        let Some(instant) = instant_at(alloc, m, t, field, left, &state)? else {
-            return Ok(None);
-        };
+        let instant = instant_at(alloc, m, t, field, left, &state)?;
         state = next_state(alloc, m, &instant.values)?;
         play.push(instant)?;
     }
-    Ok(Some(play))
+    Ok(play)
 }
 
 /// The field of a lost machine, where these are the states from which a violation is forced, each variable at the place of its own number.
@@ -244,13 +213,7 @@ fn lost(alloc: Global, m: &BoolMachine, t: &mut Table, ranks: &[Ref]) -> Result<
     ensures { IfOk result (IsOutcome (game m.now)) }
 {
     let field = field_of(alloc, m, t, ranks)?;
-    let Some(play) = instants(alloc, m, t, &field)? else {
-        return Ok(Outcome::Unshown);
-    };
-    let is_play = replay(alloc, m, &play)?;
-    if !is_play {
-        return Ok(Outcome::Unshown);
-    }
+    let play = instants(alloc, m, t, &field)?;
     Ok(Outcome::Lost { play })
 }
 

@@ -1,8 +1,9 @@
 //! One valuation of a diagram, and what of it does not matter.
-ghost use Rattle.std.specs.Prelude.{◌≡◌, ◌+◌, ◌<◌, ◌≤◌, length, IfOk, OnOk};
-ghost use Rattle.hp_diagram.specs.Diagrams.{Diagrams, valuation, Has, Keeps};
+ghost use Rattle.std.specs.Prelude.{◌≡◌, ◌≢◌, ◌+◌, ◌<◌, ◌≤◌, if◌then◌else◌, length, IsTrue, IfOk, OnOk};
+ghost use Rattle.hp_diagram.specs.Diagrams.{function, valuation, zero_ref, Has, Keeps};
 ghost use Rattle.hp_synth.specs.Layouts.{place, IsLayout};
-ghost use Rattle.hp_synth.specs.Valued.{read, through};
+ghost use Rattle.hp_synth.specs.Valued.{Valued, read, through};
+ghost use Rattle.hp_play.specs.Fields.{AreValues, IsLiteral};
 
 use hp_diagram::{Ref, Table, one, zero};
 use hp_synth::{Layout, all_in};
@@ -11,7 +12,7 @@ use std::alloc::{AllocError, Global};
 /// The valuations in which the variable at a place has this value.
 fn literal(t: &mut Table, y: u16, value: bool) -> Result<Ref, AllocError>
     requires { y < t.old.vars }
-    ensures has { IfOk result (Has t.new) }
+    ensures ok { IfOk result (IsLiteral t.new y value) }
     ensures keeps { OnOk result (Keeps t.old t.new) }
 {
     let variable = t.var(y)?;
@@ -30,7 +31,7 @@ pub fn of_values(
 ) -> Result<Ref, AllocError>
     requires layout { IsLayout t.old.vars layout.now }
     requires within { from + length values.now ≤ t.old.vars }
-    ensures has { IfOk result (Has t.new) }
+    ensures ok { IfOk result (AreValues (place layout.now) t.new from values.now) }
     ensures keeps { OnOk result (Keeps t.old t.new) }
 {
     let _vars = t.vars();
@@ -42,22 +43,37 @@ pub fn of_values(
     Ok(all)
 }
 
+fn either(is_first: bool, first: Ref, second: Ref) -> Ref
+    ensures { result ≡ (if is_first then first else second) }
+{
+    if is_first { first } else { second }
+}
+
+/// The value that is wanted of a variable, where the function is not false there, and else the other one.
+fn value_of(low: Ref, high: Ref, wanted: bool) -> bool
+    ensures { (low ≡ zero_ref → high ≢ zero_ref) → (if result then high else low) ≢ zero_ref }
+{
+    if wanted {
+        high != zero()
+    } else {
+        low == zero()
+    }
+}
+
 /// Changes the values to ones at which the function is true, if there are some; of two that differ first at a place, those that have the value from before there.
 pub fn pick(t: &Table, r: Ref, values: &mut [bool])
     requires has { Has t.now r }
     requires values { length values.old ≡ t.now.vars }
-    ensures { length values.new ≡ length values.old }
+    ensures len { length values.new ≡ length values.old }
+    ensures found { (v : Valued) → IsTrue (function t.now r v) → IsTrue (function t.now r (valuation values.new)) }
 {
     let mut at = r;
     for y in 0..t.vars() {
         let (low, high) = t.children(at, y);
         let place = usize::from(y);
-        if values[place] && high == zero() {
-            values[place] = false;
-        } else if !values[place] && low == zero() {
-            values[place] = true;
-        }
-        at = if values[place] { high } else { low };
+        let value = value_of(low, high, values[place]);
+        values[place] = value;
+        at = either(value, high, low);
     }
 }
 
@@ -77,12 +93,6 @@ pub fn own_values(
         values.push(placed[usize::from(layout.place(x))])?;
     }
     Ok(values)
-}
-
-fn either(is_first: bool, first: Ref, second: Ref) -> Ref
-    ensures { (t : Diagrams) → Has t first → Has t second → Has t result }
-{
-    if is_first { first } else { second }
 }
 
 /// Of each early variable whether it may have the other value too, with those before it that may, where these are the valuations that serve.
@@ -110,25 +120,4 @@ pub fn free_values(
         free.push(serves)?;
     }
     Ok(free)
-}
-
-/// The early values at their places, false where they are free.
-pub fn early_values(
-    alloc: Global,
-    vars: u16,
-    layout: &Layout,
-    placed: &[bool],
-    free: &[bool],
-) -> Result<Vec<bool>, AllocError>
-    requires layout { IsLayout vars layout.now }
-    requires placed { length placed.now ≡ vars }
-    requires free { length free.now ≡ layout.now.counts.early }
-    ensures { IfOk result (λ values. length values.items ≡ layout.now.counts.early) }
-{
-    let mut values = Vec::new(alloc);
-    for k in 0..layout.counts.early {
-        let at = usize::from(layout.place(layout.counts.registers + k));
-        values.push(!free[usize::from(k)] && placed[at])?;
-    }
-    Ok(values)
 }
