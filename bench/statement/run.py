@@ -206,7 +206,7 @@ def tables(lines, types):
     yield ''
     yield '## What shows it besides'
     yield ''
-    yield 'Rows are calls with all that they have to do (`crates/hp_rows/data`; some show two claims). Wrong bodies are changes of the sources that the prover has to refuse: those of the gate (`must-fail/`), and those that are too dear for it (`docs/edits`, tried by `bench/edits/run.py`).'
+    yield 'Rows are calls with all that they have to do (`crates/hp_rows/data`; some show two claims). Wrong bodies are changes of the sources that the prover has to refuse: those of the gate (`must-fail/`), and those that are too dear for it (`docs/edits`, tried by `bench/edits/run.py`; its README names those that were not tried yet).'
     yield ''
     yield '| claim | rows | wrong bodies in the gate | by hand |'
     yield '|---|---|---|---|'
