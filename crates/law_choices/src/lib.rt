@@ -1,4 +1,4 @@
-//! Used by no command yet. Laws: with the values of controllable variables given, one reaction and one meaning, and the choice is the machine's. They are for programs with controllable variables.
+//! Laws of programs with controllable variables: with their values given there is one reaction and one meaning, and the choice is the machine's.
 #![tactic(auto)]
 
 pub mod adding;
