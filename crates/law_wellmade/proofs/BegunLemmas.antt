@@ -8,5 +8,6 @@ pub mod Numbers
 pub mod Grounds
 pub mod NamesApart
 pub mod LoweredFirsts
+pub mod Items
 pub mod Beginning
 pub mod BegunLaws

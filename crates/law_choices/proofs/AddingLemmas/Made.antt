@@ -22,7 +22,8 @@ use Rattle.law_choices.specs.Adding.Base.{based}
 use Rattle.law_choices.specs.Adding.Lifts.{HaveBytes}
 use Rattle.law_choices.specs.Adding.Made.{IsReadyMade, CompiledMadeLaw, ReadyMadeLaw, BytesLaw}
 use Rattle.law_choices.proofs.ClosedLemmas.ClosedLaws.{each_both}
-use Rattle.law_choices.proofs.OnClocksLemmas.Programs.{types_low, all_clocked, compiled_clocked, compilable_law}
+use Rattle.law_wellmade.proofs.BegunLemmas.Items.{types_low}
+use Rattle.law_choices.proofs.OnClocksLemmas.Programs.{all_clocked, compiled_clocked, compilable_law}
 use Rattle.law_choices.proofs.OnClocksLemmas.WellMade.{IsKnown, compiled_within, compiled_known}
 use Rattle.law_choices.proofs.AddingLemmas.Steps.{based_law, own_same}
 

@@ -40,7 +40,8 @@ use Rattle.law_choices.specs.OnClocks.WellMade.{given_to, callees_of}
 use Rattle.law_choices.proofs.OnClocksLemmas.ArmNumbers.{AreFew}
 use Rattle.law_choices.proofs.OnClocksLemmas.Meanings.{kinds_some}
 use Rattle.law_choices.proofs.OnClocksLemmas.OneMeaning.{AreTurned, ready_nodes}
-use Rattle.law_choices.proofs.OnClocksLemmas.Programs.{few_of, some_of, number_of, types_low, names_of_types}
+use Rattle.law_wellmade.proofs.BegunLemmas.Items.{types_low, names_of_types}
+use Rattle.law_choices.proofs.OnClocksLemmas.Programs.{few_of, some_of, number_of}
 use Rattle.law_choices.proofs.OnClocksLemmas.Texts.{when_accepted}
 use Rattle.law_choices.specs.Choosing.Choices.{Choices}
 use Rattle.law_choices.specs.Choosing.Programs.{steered_by, controls_in, AreChoices, ReadyLaw}

@@ -4,7 +4,7 @@ use Rattle.std.specs.Prelude.{slice_get, Contains}
 use Rattle.std.specs.List.{AllByRecursion, flat_map}
 use Rattle.std.proofs.lemmas.Bool.{cases_lt}
 use Rattle.std.proofs.lemmas.Bool.Decides.{Decides-eqb}
-use Rattle.std.proofs.lemmas.List.{append_assoc, reverse-append}
+use Rattle.std.proofs.lemmas.List.{append_assoc, reverse-reverse}
 use Rattle.std.proofs.lemmas.List.Elements.{Contains-append_left, Contains-append_right, Contains-push}
 use Rattle.hp_obc.specs.Machines.{ObcType}
 use Rattle.hp_tree.specs.Blocks.{Decl}
@@ -29,7 +29,7 @@ use Rattle.law_equations.specs.Made.Laws.{unplaced}
 use Rattle.law_equations.specs.Made.Making.{Known, Sketch, next, numbers_from, sketch_node}
 use Rattle.law_equations.specs.Made.Types.{obc_types}
 use Rattle.law_automata.specs.Readied.Laws.{IsWhole}
-use Rattle.law_automata.specs.Readied.Sound.{HasOne, HaveConstructors, SoundBehind}
+use Rattle.law_automata.specs.Readied.Sound.{SoundBehind}
 use Rattle.law_automata.proofs.ReadiedLemmas.SoundPrograms.{ready_sound_law}
 use Rattle.law_automata.proofs.ReadiedLemmas.Whole.{whole_law}
 use Rattle.law_values.specs.Accepted.Laws.{IsReady}
@@ -46,6 +46,7 @@ use Rattle.law_wellmade.proofs.BegunLemmas.NamesApart.{lowered_apart}
 use Rattle.law_wellmade.proofs.BegunLemmas.Grounds.{grounded}
 use Rattle.law_wellmade.proofs.RegularLemmas.Good.{each_append, types_of_decls, inputs_of, HaveTypes, RestartGood, ClockGood, ArgsTyped, RightTyped, EqnGood}
 use Rattle.law_wellmade.proofs.RegularLemmas.GoodPrograms.{NodeGood, ready_good}
+use Rattle.law_wellmade.proofs.BegunLemmas.Items.{no_variables, some_constructors}
 use Rattle.law_choices.specs.Closed.Closed.{IsTarget, IsGiven, variables_in, IsClosed, ClosedLaw, WithinLaw}
 use Rattle.law_choices.proofs.ClosedLemmas.Filling.{is_target}
 use Rattle.law_choices.proofs.ClosedLemmas.Nodes.{NodeFills, node_fills}
@@ -71,10 +72,6 @@ module _ {A : Type 0} where
 
   pub later_one : (y x : A) (xs : List A) → Contains xs x → Contains (y ∷ xs) x
   later_one y x xs h = Contains-append_right (y ∷ []) xs x h
-
-  pub twice : (xs : List A) → reverse (reverse xs) ≡ xs
-  twice [] = refl
-  twice (x ∷ xs) = ap reverse (reverse-append (x ∷ []) xs) ∙ reverse-append (reverse xs) (x ∷ []) ∙ ap (λ r. x ∷ r) (twice xs)
 
 -- ---- targets
 
@@ -199,20 +196,6 @@ in_range types k f good h =
 
 -- ---- programs
 
-no_variables : (items : List Item) → (scope_behind items).variables ≡ []
-no_variables [] = refl
-no_variables (TypeItem t ∷ items) = no_variables items
-no_variables (NodeItem n ∷ items) = no_variables items
-
-some_one : (cs : List (List ℕ)) → (cs ≡ [] → ⊥) → HasOne cs
-some_one [] f = absurd (f refl)
-some_one (c ∷ cs) f = tt
-
-some_constructors : (items : List Item) → TypesHaveConstructors (types_of items) → HaveConstructors items
-some_constructors [] h = tt
-some_constructors (TypeItem t ∷ items) h = (some_one t.cons h.0, some_constructors items h.1)
-some_constructors (NodeItem n ∷ items) h = some_constructors items h
-
 module _ (program : List Item) (types : List TypeDecl) (apart : AreApart (reverse program)) where
   filled_behind : (later earlier : List Item) → reverse program ≡ later ++ earlier → SoundBehind types earlier → EachNode IsWhole earlier → AreTested types earlier → EachNode (NodeFills (known_of program)) earlier
   filled_behind later [] e sound whole tested = tt
@@ -224,7 +207,7 @@ module _ (program : List Item) (types : List TypeDecl) (apart : AreApart (revers
 
   pub nodes_filled : SoundBehind types (reverse program) → EachNode IsWhole program → AreTested types (reverse program) → EachNode (NodeFills (known_of program)) program
   nodes_filled sound whole tested =
-      subst (λ xs. EachNode (NodeFills (known_of program)) xs) (twice program)
+      subst (λ xs. EachNode (NodeFills (known_of program)) xs) (reverse-reverse program)
       (each_reverse (NodeFills (known_of program)) (reverse program) (filled_behind [] (reverse program) refl sound (each_reverse IsWhole program whole) tested))
 
 -- what is known of the nodes of a ready program

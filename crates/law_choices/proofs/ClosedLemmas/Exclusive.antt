@@ -2,6 +2,7 @@
 use Rattle.std.proofs.Common.{◌≡◌, ◌⊎◌, inl, inr, ℕ, Bool, true, false, nat_eq, ◌&&◌, List, [], ◌∷◌, reverse, refl, sym, subst, arith}
 use Rattle.std.specs.List.{AllByRecursion}
 use Rattle.std.proofs.lemmas.Bool.Decides.{nat_tests}
+use Rattle.std.proofs.lemmas.List.{reverse-reverse}
 use Rattle.hp_base.specs.declared.value.Value.{Value}
 use Rattle.hp_base.specs.declared.value.Value.TheVariants.{Absent, Nil, B, E, I, Star}
 use Rattle.hp_tree.specs.declared.program.Item.{Item}
@@ -26,7 +27,6 @@ use Rattle.law_wellmade.proofs.PartedLemmas.Adding.{Differ, Parted}
 use Rattle.law_wellmade.proofs.PartedLemmas.Expressions.{has-first, has-more}
 use Rattle.law_wellmade.proofs.PartedLemmas.Nodes.{parted-alike, node-parted}
 use Rattle.law_choices.specs.Closed.Exclusive.{IsAlwaysExclusive, ExclusiveLaw}
-use Rattle.law_choices.proofs.ClosedLemmas.ClosedLaws.{twice}
 
 -- ---- clocks that part
 
@@ -101,4 +101,4 @@ module _ (types : List TypeDecl) (outputs : List ℕ → List (List ℕ)) (k : K
 pub exclusive_law : ExclusiveLaw
 exclusive_law types outputs k program fs knows differ plain tested made =
     all_exclusive types outputs k knows differ program fs plain
-    (subst (λ xs. EachNode (HasTested types) xs) (twice program) (each_reverse (HasTested types) (reverse program) (each_tested types (reverse program) tested))) made
+    (subst (λ xs. EachNode (HasTested types) xs) (reverse-reverse program) (each_reverse (HasTested types) (reverse program) (each_tested types (reverse program) tested))) made

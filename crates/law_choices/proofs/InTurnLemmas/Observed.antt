@@ -34,7 +34,8 @@ use Rattle.law_history.proofs.StreamsLemmas.Shapes.{Fresh, all_fresh}
 use Rattle.hp_watch.specs.Observing.{inputs_for, observer_of, observer_if, observers}
 use Rattle.law_choices.specs.Closed.Compilable.{HasTypesOf}
 use Rattle.law_choices.specs.OnClocks.WellMade.{given_to, calls_of, callees_of}
-use Rattle.law_choices.proofs.OnClocksLemmas.Programs.{Clocked, types_low, names_of_types, compiled_clocked}
+use Rattle.law_wellmade.proofs.BegunLemmas.Items.{types_low, names_of_types}
+use Rattle.law_choices.proofs.OnClocksLemmas.Programs.{Clocked, compiled_clocked}
 use Rattle.law_choices.specs.Adding.Called.{SaysSame, CalledLaw}
 use Rattle.law_choices.specs.Adding.Made.{IsReadyMade, CompiledMadeLaw}
 use Rattle.law_choices.specs.InTurn.Laws.{said_of}

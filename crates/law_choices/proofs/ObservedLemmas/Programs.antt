@@ -53,7 +53,8 @@ use Rattle.law_history.proofs.StreamsLemmas.Shapes.{Fresh, all_fresh}
 use Rattle.law_drawing.proofs.SteeredLemmas.NothingCalled.{contracts-none}
 use Rattle.law_drawing.proofs.SteeredLemmas.Uncalled.{ContractCallsNothing}
 use Rattle.hp_watch.specs.Observing.{observers}
-use Rattle.law_choices.proofs.OnClocksLemmas.Programs.{some_of, some_constructors, to_all, from_all, ready_clocks}
+use Rattle.law_wellmade.proofs.BegunLemmas.Items.{some_constructors}
+use Rattle.law_choices.proofs.OnClocksLemmas.Programs.{some_of, to_all, from_all, ready_clocks}
 use Rattle.law_choices.specs.InTurn.Observed.{CallsNone}
 use Rattle.law_choices.proofs.InTurnLemmas.Observed.{types_watched}
 use Rattle.law_choices.proofs.InTurnLemmas.Types.{types_same}

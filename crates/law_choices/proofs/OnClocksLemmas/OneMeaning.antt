@@ -41,7 +41,8 @@ use Rattle.law_history.proofs.StreamsLemmas.Texts.{none_controlled}
 use Rattle.law_choices.specs.OnClocks.Meaning.{AreInTurn, HasSome}
 use Rattle.law_choices.specs.OnClocks.Programs.{ReadyLaw, TextMeaningLaw}
 use Rattle.law_choices.specs.OnClocks.WellMade.{given_to, calls_of, callees_of, CalleesLaw}
-use Rattle.law_choices.proofs.OnClocksLemmas.Programs.{Clocked, some_of, some_constructors, ready_clocked}
+use Rattle.law_wellmade.proofs.BegunLemmas.Items.{some_constructors}
+use Rattle.law_choices.proofs.OnClocksLemmas.Programs.{Clocked, some_of, ready_clocked}
 use Rattle.law_choices.proofs.OnClocksLemmas.CallKinds.{uncontrolled_callees}
 use Rattle.law_choices.proofs.OnClocksLemmas.Headed.{KindsSigned}
 use Rattle.law_choices.proofs.OnClocksLemmas.WellMade.{made_law}

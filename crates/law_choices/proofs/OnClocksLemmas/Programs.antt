@@ -1,8 +1,7 @@
 -- The variables of the equations that are made of a ready program without its automata have clocks.
-use Rattle.std.proofs.Common.{◌≡◌, ℕ, ◌≤◌, Bool, true, false, if◌then◌else◌, List, [], ◌∷◌, ◌++◌, length, map, reverse, Some, refl, sym, ap, subst, ◌∙◌, arith}
+use Rattle.std.proofs.Common.{◌≡◌, ℕ, ◌≤◌, List, [], ◌∷◌, ◌++◌, length, map, reverse, refl, sym, ap, subst, ◌∙◌, arith}
 use Rattle.std.specs.List.{All, AllByRecursion}
-use Rattle.std.specs.Str.{bytes_eq}
-use Rattle.std.proofs.lemmas.List.{append_assoc, length-map}
+use Rattle.std.proofs.lemmas.List.{append_assoc, length-map, reverse-reverse}
 use Rattle.std.proofs.lemmas.List.Elements.{All-head, All-tail}
 use Rattle.hp_base.specs.declared.ty.Ty.{Ty}
 use Rattle.hp_obc.specs.Form.{HasConstructors, TypesForm}
@@ -20,7 +19,7 @@ use Rattle.law_values.specs.Valued.Values.{Classing, class_behind, AreAccepted, 
 use Rattle.law_values.specs.Accepted.Laws.{IsReady}
 use Rattle.law_values.proofs.AcceptedLemmas.Assembled.{types_replaced, types_clocked}
 use Rattle.law_values.proofs.AcceptedLemmas.Laws.{accepted}
-use Rattle.hp_automata.specs.Lowering.{Enumerations, enumerations, lowered_item, lowered_program}
+use Rattle.hp_automata.specs.Lowering.{enumerations, lowered_program}
 use Rattle.law_automata.specs.Lowered.Laws.{AllClocksRight}
 use Rattle.law_automata.specs.Lowered.Removable.{IsRemovable}
 use Rattle.law_automata.proofs.LoweredLemmas.RightSteps.{all_right_law}
@@ -29,11 +28,10 @@ use Rattle.hp_flat.specs.Nodes.{FlatNode}
 use Rattle.law_equations.specs.Made.Blocks.{IsPlain}
 use Rattle.law_equations.specs.Made.Making.{Known, flat_type, first_value}
 use Rattle.law_equations.specs.Made.Types.{obc_type_of, obc_types, obc_types_of}
-use Rattle.law_automata.specs.Readied.Laws.{IsWhole}
-use Rattle.law_automata.specs.Readied.Sound.{HasOne, HaveConstructors, SoundBehind}
+use Rattle.law_automata.specs.Readied.Sound.{SoundBehind}
 use Rattle.law_automata.proofs.ReadiedLemmas.SoundPrograms.{ready_sound_law}
 use Rattle.law_automata.proofs.ReadiedLemmas.Whole.{whole_law}
-use Rattle.law_values.specs.Filled.Firsts.{HasFirst, TypesHaveConstructors, DeclsHaveFirsts, NodeHasFirsts}
+use Rattle.law_values.specs.Filled.Firsts.{HasFirst, TypesHaveConstructors, NodeHasFirsts}
 use Rattle.law_values.proofs.FilledLemmas.Ready.{ready_firsts}
 use Rattle.hp_complete.specs.Declaring.{known_of}
 use Rattle.hp_complete.specs.Made.{IsMadeOf, AreMadeOf}
@@ -49,9 +47,10 @@ use Rattle.law_wellmade.proofs.BegunLemmas.NamesApart.{lowered_apart}
 use Rattle.law_wellmade.proofs.BegunLemmas.Grounds.{grounded}
 use Rattle.law_wellmade.proofs.RegularLemmas.Expressions.{TypeFacts}
 use Rattle.law_wellmade.proofs.RegularLemmas.TypeLaws.{AreNumbered, OwnNumbers, own_numbers, are_numbered, type_facts}
+use Rattle.law_wellmade.proofs.BegunLemmas.Items.{no_variables, outputs_first, each_plain, types_low, names_of_types, some_constructors}
 use Rattle.law_choices.specs.Closed.Clocking.{HasClocks, HasOwnClocks}
 use Rattle.law_choices.specs.Closed.Compilable.{HasTypesOf, IsCompilable, CompilableLaw}
-use Rattle.law_choices.proofs.ClosedLemmas.ClosedLaws.{each_other, twice}
+use Rattle.law_choices.proofs.ClosedLemmas.ClosedLaws.{each_other}
 use Rattle.law_choices.specs.OnClocks.Clocks.{ClocksLaw, OwnClocksLaw}
 use Rattle.law_choices.proofs.OnClocksLemmas.Arms.{ArmFacts}
 use Rattle.law_choices.proofs.OnClocksLemmas.Nodes.{node_step}
@@ -72,25 +71,6 @@ all_clocked obc k (TypeItem t ∷ items) fs made h = all_clocked obc k items fs 
 all_clocked obc k (NodeItem n ∷ items) [] made h = absurd made
 all_clocked obc k (NodeItem n ∷ items) (f ∷ fs) made h = ((h.0 f made.0).0, all_clocked obc k items fs made.1 h.1)
 
-pub no_variables : (items : List Item) → (scope_behind items).variables ≡ []
-no_variables [] = refl
-no_variables (TypeItem t ∷ items) = no_variables items
-no_variables (NodeItem n ∷ items) = no_variables items
-
-pub outputs_first : (types : List TypeDecl) (items : List Item) → EachNode (NodeHasFirsts types) items → (f : List ℕ) (n : Node) → node_among items f ≡ Some n → DeclsHaveFirsts types n.outputs
-outputs_first types [] h f n e = absurd (cc)
-outputs_first types (TypeItem t ∷ items) h f n e = outputs_first types items h f n e
-outputs_first types (NodeItem m ∷ items) h f n e = by (bytes_eq m.name f) e (outputs_first types items h.1 f n)
-  where
-    by : (b : Bool) → (if b then Some m else node_among items f) ≡ Some n → (node_among items f ≡ Some n → DeclsHaveFirsts types n.outputs) → DeclsHaveFirsts types n.outputs
-    by true e g = let same : m ≡ n = cc in subst (λ (z : Node). DeclsHaveFirsts types z.outputs) same h.0.outputs
-    by false e g = g e
-
-pub each_plain : (items : List Item) → EachNode IsWhole items → EachNode (λ n. IsPlain n.body) items
-each_plain [] h = tt
-each_plain (TypeItem t ∷ items) h = each_plain items h
-each_plain (NodeItem n ∷ items) h = (h.0.plain, each_plain items h.1)
-
 module _ (obc : List ObcType) (program : List Item) (types : List TypeDecl) (arms : ArmFacts obc (known_of program) types) (facts : TypeFacts obc (known_of program) types) (apart : AreApart (reverse program)) where
   clocked_behind : (later earlier : List Item) → reverse program ≡ later ++ earlier → SoundBehind types earlier → EachNode (NodeHasFirsts types) earlier → EachNode (λ n. IsPlain n.body) earlier → AreTested types earlier → EachNode ClocksRight earlier
       → EachNode (Clocked obc (known_of program)) earlier
@@ -107,7 +87,7 @@ module _ (obc : List ObcType) (program : List Item) (types : List TypeDecl) (arm
   nodes_clocked : SoundBehind types (reverse program) → EachNode (NodeHasFirsts types) (reverse program) → EachNode (λ n. IsPlain n.body) (reverse program) → AreTested types (reverse program) → EachNode ClocksRight (reverse program)
       → EachNode (Clocked obc (known_of program)) program
   nodes_clocked sound firsts plain tested right =
-      subst (λ xs. EachNode (Clocked obc (known_of program)) xs) (twice program) (each_reverse (Clocked obc (known_of program)) (reverse program) (clocked_behind [] (reverse program) refl sound firsts plain tested right))
+      subst (λ xs. EachNode (Clocked obc (known_of program)) xs) (reverse-reverse program) (each_reverse (Clocked obc (known_of program)) (reverse program) (clocked_behind [] (reverse program) refl sound firsts plain tested right))
 
 -- ---- the clocks of the program
 
@@ -130,7 +110,7 @@ from_all (NodeItem n ∷ items) h = (h.0, from_all items h.1)
 pub ready_clocks : (program after : List Item) → IsReady program after → EachNode ClocksRight after
 ready_clocks program after r =
     let a = accepted program after r in
-    subst (EachNode ClocksRight) (twice after) (each_reverse ClocksRight (reverse after) (accepted_right (types_of after) a.0 (reverse after) a.1))
+    subst (EachNode ClocksRight) (reverse-reverse after) (each_reverse ClocksRight (reverse after) (accepted_right (types_of after) a.0 (reverse after) a.1))
 
 ready_right : (program after : List Item) → IsReady program after → IsRemovable after → EachNode ClocksRight (lowered_program after)
 ready_right program after r ok = from_all (lowered_program after) (all_right_law after ok (to_all after (ready_clocks program after r)))
@@ -151,25 +131,6 @@ pub number_of : (types : List TypeDecl) → length (obc_types types) ≤ 1000 �
 number_of types l = let same = length-map types obc_type_of in omega (arith, l, same)
 
 -- ---- ready programs
-
-pub types_low : (enums : Enumerations) (items : List Item) → types_of (map (lowered_item enums) items) ≡ types_of items
-types_low enums [] = refl
-types_low enums (TypeItem t ∷ items) = ap (λ ts. t ∷ ts) (types_low enums items)
-types_low enums (NodeItem n ∷ items) = types_low enums items
-
-pub names_of_types : (items : List Item) → type_names items ≡ map (λ (t : TypeDecl). t.name) (types_of items)
-names_of_types [] = refl
-names_of_types (TypeItem t ∷ items) = ap (λ xs. t.name ∷ xs) (names_of_types items)
-names_of_types (NodeItem n ∷ items) = names_of_types items
-
-some_one : (cs : List (List ℕ)) → (cs ≡ [] → ⊥) → HasOne cs
-some_one [] f = absurd (f refl)
-some_one (c ∷ cs) f = tt
-
-pub some_constructors : (items : List Item) → TypesHaveConstructors (types_of items) → HaveConstructors items
-some_constructors [] h = tt
-some_constructors (TypeItem t ∷ items) h = (some_one t.cons h.0, some_constructors items h.1)
-some_constructors (NodeItem n ∷ items) h = some_constructors items h
 
 abbrev AreGood : List TypeDecl → List (List ℕ) → Type 0
 AreGood types names = (t : Ty) → HasFirst types t → IsOf types t (first_value (flat_type (numbered 0 names) t))

@@ -57,7 +57,8 @@ use Rattle.law_history.proofs.StreamsLemmas.NamesApart.{name_found, each_found}
 use Rattle.law_choices.specs.OnClocks.Programs.{StreamLaw}
 use Rattle.law_choices.specs.OnClocks.WellMade.{given_to, callees_of}
 use Rattle.law_choices.proofs.OnClocksLemmas.ArmNumbers.{AreFew, numbered_type}
-use Rattle.law_choices.proofs.OnClocksLemmas.Programs.{few_of, some_of, number_of, types_low, names_of_types, some_constructors}
+use Rattle.law_wellmade.proofs.BegunLemmas.Items.{types_low, names_of_types, some_constructors}
+use Rattle.law_choices.proofs.OnClocksLemmas.Programs.{few_of, some_of, number_of}
 use Rattle.law_choices.proofs.OnClocksLemmas.WellMade.{ready_knows}
 
 -- ---- without the equations that define nothing

@@ -2,7 +2,7 @@
 use Rattle.std.proofs.Common.{◌≡◌, ℕ, Bool, true, false, nat_eq, ◌||◌, List, [], ◌∷◌, ◌++◌, map, reverse, refl, sym, ap, subst, ◌∙◌, arith}
 use Rattle.std.specs.List.{All, AllByRecursion, IsDistinct}
 use Rattle.std.specs.Str.{bytes_eq}
-use Rattle.std.proofs.lemmas.List.{append_assoc}
+use Rattle.std.proofs.lemmas.List.{append_assoc, reverse-reverse}
 use Rattle.std.proofs.lemmas.List.Elements.{All-head, All-tail}
 use Rattle.std.proofs.lemmas.Slice.Eq.{bytes_eq-Decides}
 use Rattle.hp_base.specs.declared.value.Value.{Value}
@@ -46,12 +46,13 @@ use Rattle.law_wellmade.specs.Spelled.Integers.{NodeShort}
 use Rattle.law_choices.specs.Closed.Closed.{IsClosed}
 use Rattle.law_choices.specs.Closed.Clocking.{HasClocks}
 use Rattle.law_choices.specs.Closed.Exclusive.{IsAlwaysExclusive}
-use Rattle.law_choices.proofs.ClosedLemmas.ClosedLaws.{each_other, each_both, twice, NodeFilled, closed, in_range}
+use Rattle.law_choices.proofs.ClosedLemmas.ClosedLaws.{each_other, each_both, NodeFilled, closed, in_range}
 use Rattle.law_choices.proofs.ClosedLemmas.Clocking.{fit_law}
 use Rattle.law_choices.proofs.ClosedLemmas.Exclusive.{exclusive_law}
 use Rattle.law_choices.specs.OnClocks.WellMade.{calls_of, callees_of, MadeLaw, ReactionsLaw}
 use Rattle.law_choices.specs.Closed.Compilable.{HasTypesOf, IsCompilable}
-use Rattle.law_choices.proofs.OnClocksLemmas.Programs.{each_plain, types_low, names_of_types, many_types, constructors_differ, compilable_law, clocks_law}
+use Rattle.law_wellmade.proofs.BegunLemmas.Items.{each_plain, types_low, names_of_types}
+use Rattle.law_choices.proofs.OnClocksLemmas.Programs.{many_types, constructors_differ, compilable_law, clocks_law}
 use Rattle.law_choices.proofs.OnClocksLemmas.Compilable.{compiled_good, compiled_filled, compiled_begun}
 use Rattle.law_choices.proofs.OnClocksLemmas.CallKinds.{compiled_kinds}
 
@@ -205,7 +206,7 @@ module _ (law : TargetsLaw) (program low : List Item) (t : HasTypesOf program lo
   compiled_inputs =
       let outputs = (nodes (types_of low) filled (reverse low)).outputs in
       let behind = no_inputs_behind low outputs (compiled_knows program low t c) [] (reverse low) refl (compiled_begun program low t c) (each_reverse IsWhole low c.whole) in
-      all_where k DefinesNoInput low fs made (subst (λ xs. EachNode (WhereMade k DefinesNoInput) xs) (twice low) (each_reverse (WhereMade k DefinesNoInput) (reverse low) behind))
+      all_where k DefinesNoInput low fs made (subst (λ xs. EachNode (WhereMade k DefinesNoInput) xs) (reverse-reverse low) (each_reverse (WhereMade k DefinesNoInput) (reverse low) behind))
 
   compiled_sound : AllByRecursion (IsSound types (calls_of types k)) fs
   compiled_sound =

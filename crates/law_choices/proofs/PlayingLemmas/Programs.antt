@@ -1,7 +1,7 @@
 -- In the nodes of a program of which nothing is free but the inputs the controllable variables have the greatest permitted values.
 use Rattle.std.proofs.Common.{◌≡◌, ◌⊎◌, inl, inr, ℕ, ◌+◌, List, [], ◌∷◌, ◌++◌, length, map, reverse, Option, None, Some, refl, sym, ap, ap₂, subst, ◌∙◌, arith}
 use Rattle.std.specs.List.{AllByRecursion, range_with_len}
-use Rattle.std.proofs.lemmas.List.{append_assoc, append-nil, length-append, length-map, reverse-append}
+use Rattle.std.proofs.lemmas.List.{append_assoc, append-nil, length-map, reverse-append}
 use Rattle.std.specs.Prelude.{zero, suc}
 use Rattle.hp_base.specs.Kinds.{KindData, AreOfKinds}
 use Rattle.hp_base.specs.declared.value.Value.{Value}
@@ -15,7 +15,7 @@ use Rattle.hp_tree.specs.Meaning.{types_of, node_among, controls_of}
 use Rattle.hp_tree.specs.Reaction.{controls_at, row_of}
 use Rattle.hp_tree.specs.Values.{AreOf}
 use Rattle.hp_meaning.specs.Contract.Forgetting.{erase}
-use Rattle.hp_meaning.specs.Contract.Game.{AreChoices, AtMost, Choice, IsChosen, Permitted, choices_of, first_of}
+use Rattle.hp_meaning.specs.Contract.Game.{AreChoices, AtMost, Choice, Permitted, choices_of, first_of}
 use Rattle.hp_meaning.specs.Contract.Guarantee.{Through}
 use Rattle.law_judged.specs.Named.Scoped.{EachNode}
 use Rattle.law_values.specs.Filled.Firsts.{NodeHasFirsts}
@@ -46,7 +46,7 @@ use Rattle.law_choices.specs.Choosing.Choices.{Choices}
 use Rattle.law_choices.specs.Choosing.Programs.{controls_in}
 use Rattle.law_choices.specs.OnClocks.Meaning.{GivesAnswers}
 use Rattle.law_choices.specs.OnClocks.WellMade.{callees_of}
-use Rattle.law_choices.specs.Runs.Chosen.{ChosenReaction, chosen_meaning}
+use Rattle.law_choices.specs.Runs.Chosen.{ChosenReaction}
 use Rattle.law_choices.specs.Runs.Laws.{ChoosesValues}
 use Rattle.law_choices.specs.InTurn.Laws.{IsAllowed, IsChoosing, said_of}
 use Rattle.law_choices.specs.InTurn.Nodes.{AreAllMade, Contracted, IsMade, IsOwn, Made, all_nodes, contracted, loops, plain}
@@ -57,7 +57,8 @@ use Rattle.law_choices.specs.Playing.Mirrored.{IsMirrored}
 use Rattle.law_choices.proofs.AnsweredLemmas.Programs.{decls_kinds, takes_kinds}
 use Rattle.law_choices.proofs.InTurnLemmas.Contracted.{Ground}
 use Rattle.law_choices.proofs.InTurnLemmas.Programs.{Grounded, TurnLaws, all_old, all_own, all_stand, have_bytes}
-use Rattle.law_choices.proofs.OnClocksLemmas.Programs.{some_of, types_low}
+use Rattle.law_wellmade.proofs.BegunLemmas.Items.{types_low}
+use Rattle.law_choices.proofs.OnClocksLemmas.Programs.{some_of}
 use Rattle.law_choices.proofs.PlayingLemmas.Greatest.{ChoiceLaws, Known as KnownNode, node-greatest, range-long}
 use Rattle.law_choices.proofs.PlayingLemmas.Holding.{runs-of}
 use Rattle.law_choices.proofs.RunsLemmas.Chosen.{of_program}

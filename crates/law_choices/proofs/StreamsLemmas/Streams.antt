@@ -70,7 +70,8 @@ use Rattle.law_choices.specs.OnClocks.Meaning.{AnswersAlike}
 use Rattle.law_choices.specs.OnClocks.WellMade.{given_to, calls_of, callees_of}
 use Rattle.law_choices.proofs.OnClocksLemmas.ArmNumbers.{AreFew}
 use Rattle.law_choices.proofs.OnClocksLemmas.OneMeaning.{AreTurned, ready_nodes}
-use Rattle.law_choices.proofs.OnClocksLemmas.Programs.{few_of, some_of, number_of, types_low, names_of_types, some_constructors}
+use Rattle.law_wellmade.proofs.BegunLemmas.Items.{types_low, names_of_types, some_constructors}
+use Rattle.law_choices.proofs.OnClocksLemmas.Programs.{few_of, some_of, number_of}
 use Rattle.law_choices.proofs.OnClocksLemmas.Texts.{when_accepted}
 use Rattle.law_choices.proofs.OnClocksLemmas.WellMade.{ready_knows}
 use Rattle.law_choices.specs.Choosing.Choices.{Choices, OneReactionLaw}

@@ -1,5 +1,5 @@
 -- The registers of a sound program begin, where the types of its names have first values.
-use Rattle.std.proofs.Common.{◌≡◌, ℕ, Bool, true, false, if◌then◌else◌, List, [], ◌∷◌, ◌++◌, reverse, Some, refl, sym, ap, subst, ◌∙◌}
+use Rattle.std.proofs.Common.{◌≡◌, ℕ, Bool, true, false, if◌then◌else◌, List, [], ◌∷◌, ◌++◌, reverse, refl, sym, ap, subst, ◌∙◌}
 use Rattle.std.specs.Prelude.{IsTrue, IsFalse}
 use Rattle.std.specs.Str.{bytes_eq}
 use Rattle.std.proofs.lemmas.Slice.Eq.{bytes_eq-Decides}
@@ -20,7 +20,7 @@ use Rattle.law_equations.specs.Flattened.Lifted.{in_body}
 use Rattle.law_equations.specs.Made.Making.{Known, Body as BodyStanding, base_site, unknown, over, flat_type, first_value}
 use Rattle.law_equations.specs.Made.Blocks.{ReadyBlock}
 use Rattle.law_equations.specs.Made.Laws.{around_body}
-use Rattle.law_values.specs.Filled.Firsts.{HasFirst, DeclsHaveFirsts, NodeHasFirsts}
+use Rattle.law_values.specs.Filled.Firsts.{HasFirst, NodeHasFirsts}
 use Rattle.hp_complete.specs.Declaring.{known_of}
 use Rattle.law_automata.specs.Readied.Sound.{SoundBehind}
 use Rattle.law_equations.specs.Answered.Answering.{has_node, AreApart, IsCalled}
@@ -31,11 +31,7 @@ use Rattle.law_wellmade.proofs.BegunLemmas.BlockRegisters.{body_ready}
 use Rattle.law_wellmade.proofs.BegunLemmas.CallsBegun.{in_scope}
 use Rattle.law_wellmade.proofs.BegunLemmas.FillsFit.{node_fits}
 use Rattle.law_wellmade.proofs.BegunLemmas.Grounds.{grounded}
-
-no_variables : (items : List Item) → (scope_behind items).variables ≡ []
-no_variables [] = refl
-no_variables (TypeItem t ∷ items) = no_variables items
-no_variables (NodeItem n ∷ items) = no_variables items
+use Rattle.law_wellmade.proofs.BegunLemmas.Items.{no_variables, outputs_first}
 
 sound_at : (types : List TypeDecl) (later earlier : List Item) (n : Node) → SoundBehind types (later ++ NodeItem n ∷ earlier) → NodeSound types (node_among earlier) (scope_behind earlier) n
 sound_at types [] earlier n h = h.0
@@ -43,15 +39,6 @@ sound_at types (TypeItem t ∷ later) earlier n h = sound_at types later earlier
 sound_at types (NodeItem m ∷ later) earlier n h = sound_at types later earlier n h.1
 
 -- ---- what is given fits
-
-outputs_first : (types : List TypeDecl) (items : List Item) → EachNode (NodeHasFirsts types) items → (f : List ℕ) (n : Node) → node_among items f ≡ Some n → DeclsHaveFirsts types n.outputs
-outputs_first types [] h f n e = absurd (cc)
-outputs_first types (TypeItem t ∷ items) h f n e = outputs_first types items h f n e
-outputs_first types (NodeItem m ∷ items) h f n e = by (bytes_eq m.name f) e (outputs_first types items h.1 f n)
-  where
-    by : (b : Bool) → (if b then Some m else node_among items f) ≡ Some n → (node_among items f ≡ Some n → DeclsHaveFirsts types n.outputs) → DeclsHaveFirsts types n.outputs
-    by true e g = let same : m ≡ n = cc in subst (λ (z : Node). DeclsHaveFirsts types z.outputs) same h.0.outputs
-    by false e g = g e
 
 module _ (k : Known) (types : List TypeDecl) (good : (t : Ty) → HasFirst types t → IsOf types t (first_value (flat_type k.types t))) where
   pub all_fit : (items : List Item) → SoundBehind types items → EachNode (NodeHasFirsts types) items → (f : List ℕ) → GivenFits types false (λ given. given) items f (firsts_among k items f)

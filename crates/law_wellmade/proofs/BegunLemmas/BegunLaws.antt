@@ -12,12 +12,12 @@ use Rattle.law_judged.proofs.PlainLemmas.Spelled.{found_of}
 use Rattle.law_judged.specs.Named.Scoped.{EachNode}
 use Rattle.hp_expand.specs.Numbering.{no_node, replaced}
 use Rattle.law_values.proofs.AcceptedLemmas.Assembled.{types_replaced, types_clocked}
-use Rattle.hp_automata.specs.Lowering.{Enumerations, enumerations, lowered_item, lowered_program}
+use Rattle.hp_automata.specs.Lowering.{enumerations, lowered_program}
 use Rattle.law_automata.proofs.LowerableLemmas.Texts.{clocked_of, each_reverse}
 use Rattle.law_equations.specs.Made.Making.{flat_type, first_value}
-use Rattle.law_automata.specs.Readied.Sound.{HasOne, HaveConstructors, SoundBehind}
+use Rattle.law_automata.specs.Readied.Sound.{SoundBehind}
 use Rattle.law_automata.proofs.ReadiedLemmas.SoundPrograms.{ready_sound_law}
-use Rattle.law_values.specs.Filled.Firsts.{HasFirst, TypesHaveConstructors, NodeHasFirsts}
+use Rattle.law_values.specs.Filled.Firsts.{HasFirst, NodeHasFirsts}
 use Rattle.law_values.proofs.FilledLemmas.Ready.{ready_firsts}
 use Rattle.hp_complete.specs.Declaring.{known_of}
 use Rattle.hp_complete.specs.Signatures.{numbered, type_names}
@@ -27,27 +27,9 @@ use Rattle.law_wellmade.proofs.BegunLemmas.Numbers.{first_good}
 use Rattle.law_wellmade.proofs.BegunLemmas.LoweredFirsts.{lowered_firsts}
 use Rattle.law_wellmade.proofs.BegunLemmas.NamesApart.{lowered_apart}
 use Rattle.law_wellmade.proofs.BegunLemmas.Beginning.{all_fit, calls_begun, bodies_ready}
+use Rattle.law_wellmade.proofs.BegunLemmas.Items.{types_low, names_of_types, some_constructors}
 
 -- ---- types
-
-types_low : (enums : Enumerations) (items : List Item) → types_of (map (lowered_item enums) items) ≡ types_of items
-types_low enums [] = refl
-types_low enums (TypeItem t ∷ items) = ap (λ ts. t ∷ ts) (types_low enums items)
-types_low enums (NodeItem n ∷ items) = types_low enums items
-
-names_of_types : (items : List Item) → type_names items ≡ map (λ (t : TypeDecl). t.name) (types_of items)
-names_of_types [] = refl
-names_of_types (TypeItem t ∷ items) = ap (λ xs. t.name ∷ xs) (names_of_types items)
-names_of_types (NodeItem n ∷ items) = names_of_types items
-
-some_one : (cs : List (List ℕ)) → (cs ≡ [] → ⊥) → HasOne cs
-some_one [] f = absurd (f refl)
-some_one (c ∷ cs) f = tt
-
-some_constructors : (items : List Item) → TypesHaveConstructors (types_of items) → HaveConstructors items
-some_constructors [] h = tt
-some_constructors (TypeItem t ∷ items) h = (some_one t.cons h.0, some_constructors items h.1)
-some_constructors (NodeItem n ∷ items) h = some_constructors items h
 
 -- a type with a first value has that of its number
 abbrev AreGood : List TypeDecl → List (List ℕ) → Type 0

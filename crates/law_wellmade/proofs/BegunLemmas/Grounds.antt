@@ -2,14 +2,13 @@
 use Rattle.std.proofs.Common.{◌≡◌, ℕ, zero, suc, ◌+◌, ◌<◌, Bool, true, false, if◌then◌else◌, List, [], ◌∷◌, ◌++◌, reverse, length, Option, None, Some, refl, sym, ap, subst, ◌∙◌, arith}
 use Rattle.std.specs.Prelude.{min, ◌||◌, IsFalse, Contains}
 use Rattle.std.specs.Str.{bytes_eq}
-use Rattle.std.proofs.lemmas.List.{append_assoc, reverse-append}
+use Rattle.std.proofs.lemmas.List.{append_assoc, reverse-append, reverse-reverse}
 use Rattle.hp_tree.specs.declared.program.Item.{Item}
 use Rattle.hp_tree.specs.declared.program.Item.TheVariants.{TypeItem, NodeItem}
 use Rattle.hp_tree.specs.Programs.{Node}
 use Rattle.hp_tree.specs.Meaning.{node_among}
 use Rattle.hp_base.specs.Known.Known.{lookup, with_entry}
 use Rattle.hp_typing.specs.Scopes as typing
-use Rattle.hp_typing.specs.Scopes.{behind}
 use Rattle.law_values.specs.Valued.Values.{scope_behind}
 use Rattle.law_judged.proofs.NamedLemmas.Sets.{same_name, name_same}
 use Rattle.law_values.proofs.AcceptedLemmas.Views.{entry_new, entry_kept, entry_cases}
@@ -25,12 +24,8 @@ use Rattle.law_wellmade.proofs.BegunLemmas.Typing.{Grounded}
 pub turned : {A : Type 0} (x : A) (xs rest : List A) → reverse (x ∷ xs) ++ rest ≡ reverse xs ++ (x ∷ rest)
 turned x xs rest = ap (λ r. r ++ rest) (reverse-append (x ∷ []) xs) ∙ append_assoc (reverse xs) (x ∷ []) rest
 
-twice : {A : Type 0} (xs : List A) → reverse (reverse xs) ≡ xs
-twice [] = refl
-twice (x ∷ xs) = ap reverse (reverse-append (x ∷ []) xs) ∙ reverse-append (reverse xs) (x ∷ []) ∙ ap (λ r. x ∷ r) (twice xs)
-
 split_back : {A : Type 0} (xs later earlier : List A) (x : A) → reverse xs ≡ later ++ x ∷ earlier → xs ≡ reverse earlier ++ (x ∷ reverse later)
-split_back xs later earlier x e = sym (twice xs) ∙ ap reverse e ∙ reverse-append later (x ∷ earlier) ∙ turned x earlier (reverse later)
+split_back xs later earlier x e = sym (reverse-reverse xs) ∙ ap reverse e ∙ reverse-append later (x ∷ earlier) ∙ turned x earlier (reverse later)
 
 -- ---- constructors of a type that is declared
 

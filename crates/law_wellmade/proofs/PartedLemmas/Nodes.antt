@@ -1,7 +1,7 @@
 -- The equations of a node define apart, and so do those that stand in their places.
-use Rattle.std.proofs.Common.{◌≡◌, ◌⊎◌, inl, inr, ℕ, ◌<◌, ◌≤◌, true, List, [], ◌∷◌, ◌++◌, map, reverse, None, Some, refl, sym, ap, subst, ◌∙◌, arith}
+use Rattle.std.proofs.Common.{◌≡◌, ◌⊎◌, inl, inr, ℕ, ◌<◌, ◌≤◌, true, List, [], ◌∷◌, ◌++◌, map, reverse, None, Some, refl, sym, subst, ◌∙◌, arith}
 use Rattle.std.specs.List.{AllByRecursion}
-use Rattle.std.proofs.lemmas.List.{reverse-append}
+use Rattle.std.proofs.lemmas.List.{reverse-append, reverse-reverse}
 use Rattle.hp_tree.specs.declared.program.Item.{Item}
 use Rattle.hp_tree.specs.declared.program.Item.TheVariants.{TypeItem, NodeItem}
 use Rattle.hp_tree.specs.Blocks.{Decl, Block, block}
@@ -139,16 +139,12 @@ each_behind P (TypeItem t ∷ xs) ys a b = each_behind P xs ys a b
 each_behind P (NodeItem n ∷ xs) ys a b = (a.0, each_behind P xs ys a.1 b)
 
 each_turned : (P : Node → Type 0) (items : List Item) → EachNode P (reverse items) → EachNode P items
-each_turned P items h = subst (EachNode P) (twice items) (turned (reverse items) h)
+each_turned P items h = subst (EachNode P) (reverse-reverse items) (turned (reverse items) h)
   where
     turned : (xs : List Item) → EachNode P xs → EachNode P (reverse xs)
     turned [] a = tt
     turned (TypeItem t ∷ xs) a = subst (EachNode P) (sym (reverse-append (TypeItem t ∷ []) xs)) (each_behind P (reverse xs) (TypeItem t ∷ []) (turned xs a) tt)
     turned (NodeItem n ∷ xs) a = subst (EachNode P) (sym (reverse-append (NodeItem n ∷ []) xs)) (each_behind P (reverse xs) (NodeItem n ∷ []) (turned xs a.1) (a.0, tt))
-
-    twice : (xs : List Item) → reverse (reverse xs) ≡ xs
-    twice [] = refl
-    twice (x ∷ xs) = ap reverse (reverse-append (x ∷ []) xs) ∙ reverse-append (reverse xs) (x ∷ []) ∙ ap (λ r. x ∷ r) (twice xs)
 
 all_nodes : (types : List TypeDecl) (outputs : List ℕ → List (List ℕ)) (k : Known) → Knows types outputs k → ConstructorsDiffer types → (program : List Item) (fs : List FlatNode)
     → EachNode (λ (n : Node). IsPlain n.body) program → EachNode (HasTested types) program → AreMadeOf k program fs → AllByRecursion (λ (f : FlatNode). DefineApart f.eqns) fs

@@ -1,8 +1,7 @@
 -- The equations that are made of a ready program without its automata are good.
-use Rattle.std.proofs.Common.{◌≡◌, ℕ, ◌≤◌, Bool, true, false, if◌then◌else◌, List, [], ◌∷◌, ◌++◌, length, map, reverse, Some, refl, sym, ap, subst, ◌∙◌}
+use Rattle.std.proofs.Common.{◌≡◌, ℕ, ◌≤◌, List, [], ◌∷◌, ◌++◌, length, map, reverse, refl, sym, ap, subst, ◌∙◌}
 use Rattle.std.specs.List.{AllByRecursion}
-use Rattle.std.specs.Str.{bytes_eq}
-use Rattle.std.proofs.lemmas.List.{append_assoc, reverse-append}
+use Rattle.std.proofs.lemmas.List.{append_assoc, reverse-reverse}
 use Rattle.hp_base.specs.declared.ty.Ty.{Ty}
 use Rattle.hp_obc.specs.Machines.{ObcType}
 use Rattle.hp_tree.specs.declared.program.Item.{Item}
@@ -16,7 +15,7 @@ use Rattle.hp_expand.specs.Numbering.{no_node, replaced}
 use Rattle.law_values.specs.Valued.Values.{scope_behind}
 use Rattle.law_values.specs.Accepted.Laws.{IsReady}
 use Rattle.law_values.proofs.AcceptedLemmas.Assembled.{types_replaced, types_clocked}
-use Rattle.hp_automata.specs.Lowering.{Enumerations, enumerations, lowered_item, lowered_program}
+use Rattle.hp_automata.specs.Lowering.{enumerations, lowered_program}
 use Rattle.law_automata.specs.Lowered.Removable.{IsRemovable}
 use Rattle.law_automata.proofs.LowerableLemmas.Texts.{clocked_of, each_reverse}
 use Rattle.hp_flat.specs.declared.node.Variable.{Variable}
@@ -27,11 +26,10 @@ use Rattle.law_equations.specs.Made.Blocks.{IsPlain}
 use Rattle.law_equations.specs.Made.Laws.{unplaced}
 use Rattle.law_equations.specs.Made.Making.{Known, Sketch, flat_type, first_value, sketch_node}
 use Rattle.law_equations.specs.Made.Types.{obc_types}
-use Rattle.law_automata.specs.Readied.Laws.{IsWhole}
-use Rattle.law_automata.specs.Readied.Sound.{HasOne, HaveConstructors, SoundBehind}
+use Rattle.law_automata.specs.Readied.Sound.{SoundBehind}
 use Rattle.law_automata.proofs.ReadiedLemmas.SoundPrograms.{ready_sound_law}
 use Rattle.law_automata.proofs.ReadiedLemmas.Whole.{whole_law}
-use Rattle.law_values.specs.Filled.Firsts.{HasFirst, TypesHaveConstructors, DeclsHaveFirsts, NodeHasFirsts}
+use Rattle.law_values.specs.Filled.Firsts.{HasFirst, TypesHaveConstructors, NodeHasFirsts}
 use Rattle.law_values.proofs.FilledLemmas.Ready.{ready_firsts}
 use Rattle.hp_complete.specs.Declaring.{known_of}
 use Rattle.hp_complete.specs.Made.{IsMadeOf, AreMadeOf}
@@ -47,6 +45,7 @@ use Rattle.law_wellmade.proofs.RegularLemmas.Good.{EqnGood, Good}
 use Rattle.law_wellmade.proofs.RegularLemmas.Expressions.{TypeFacts}
 use Rattle.law_wellmade.proofs.RegularLemmas.TypeLaws.{AreNumbered, OwnNumbers, own_numbers, are_numbered, type_facts}
 use Rattle.law_wellmade.proofs.RegularLemmas.Nodes.{node_good}
+use Rattle.law_wellmade.proofs.BegunLemmas.Items.{no_variables, outputs_first, each_plain, types_low, names_of_types, some_constructors}
 
 -- ---- nodes that are made
 
@@ -77,7 +76,7 @@ module _ (obc : List ObcType) (k : Known) where
         values = subst (λ vs. AllByRecursion (λ (v : Variable). HasValue obc v.ty) vs) (sym made.variables) good.values;
       }
 
-  all_made_good : (items : List Item) (fs : List FlatNode) → AreMadeOf k items fs → EachNode (λ n. Good obc k (sketch_node k n)) items → AllByRecursion (NodeGood obc k) fs
+  pub all_made_good : (items : List Item) (fs : List FlatNode) → AreMadeOf k items fs → EachNode (λ n. Good obc k (sketch_node k n)) items → AllByRecursion (NodeGood obc k) fs
   all_made_good [] [] made good = tt
   all_made_good [] (f ∷ fs) made good = absurd made
   all_made_good (TypeItem t ∷ items) fs made good = all_made_good items fs made good
@@ -85,29 +84,6 @@ module _ (obc : List ObcType) (k : Known) where
   all_made_good (NodeItem n ∷ items) (f ∷ fs) made good = (made_good n f made.0 good.0, all_made_good items fs made.1 good.1)
 
 -- ---- programs
-
-no_variables : (items : List Item) → (scope_behind items).variables ≡ []
-no_variables [] = refl
-no_variables (TypeItem t ∷ items) = no_variables items
-no_variables (NodeItem n ∷ items) = no_variables items
-
-outputs_first : (types : List TypeDecl) (items : List Item) → EachNode (NodeHasFirsts types) items → (f : List ℕ) (n : Node) → node_among items f ≡ Some n → DeclsHaveFirsts types n.outputs
-outputs_first types [] h f n e = absurd (cc)
-outputs_first types (TypeItem t ∷ items) h f n e = outputs_first types items h f n e
-outputs_first types (NodeItem m ∷ items) h f n e = by (bytes_eq m.name f) e (outputs_first types items h.1 f n)
-  where
-    by : (b : Bool) → (if b then Some m else node_among items f) ≡ Some n → (node_among items f ≡ Some n → DeclsHaveFirsts types n.outputs) → DeclsHaveFirsts types n.outputs
-    by true e g = let same : m ≡ n = cc in subst (λ (z : Node). DeclsHaveFirsts types z.outputs) same h.0.outputs
-    by false e g = g e
-
-each_plain : (items : List Item) → EachNode IsWhole items → EachNode (λ n. IsPlain n.body) items
-each_plain [] h = tt
-each_plain (TypeItem t ∷ items) h = each_plain items h
-each_plain (NodeItem n ∷ items) h = (h.0.plain, each_plain items h.1)
-
-twice : {A : Type 0} (xs : List A) → reverse (reverse xs) ≡ xs
-twice [] = refl
-twice (x ∷ xs) = ap reverse (reverse-append (x ∷ []) xs) ∙ reverse-append (reverse xs) (x ∷ []) ∙ ap (λ r. x ∷ r) (twice xs)
 
 module _ (obc : List ObcType) (program : List Item) (types : List TypeDecl) (facts : TypeFacts obc (known_of program) types) (apart : AreApart (reverse program)) where
   good_behind : (later earlier : List Item) → reverse program ≡ later ++ earlier → SoundBehind types earlier → EachNode (NodeHasFirsts types) earlier → EachNode (λ n. IsPlain n.body) earlier → AreTested types earlier
@@ -119,32 +95,13 @@ module _ (obc : List ObcType) (program : List Item) (types : List TypeDecl) (fac
     good_behind (later ++ NodeItem n ∷ []) earlier (e ∙ sym (append_assoc later (NodeItem n ∷ []) earlier)) sound.1 firsts.1 plain.1 tested.1,
   )
 
-  nodes_good : SoundBehind types (reverse program) → EachNode (NodeHasFirsts types) (reverse program) → EachNode (λ n. IsPlain n.body) (reverse program) → AreTested types (reverse program)
+  pub nodes_good : SoundBehind types (reverse program) → EachNode (NodeHasFirsts types) (reverse program) → EachNode (λ n. IsPlain n.body) (reverse program) → AreTested types (reverse program)
       → EachNode (λ n. Good obc (known_of program) (sketch_node (known_of program) n)) program
   nodes_good sound firsts plain tested =
-      subst (λ xs. EachNode (λ n. Good obc (known_of program) (sketch_node (known_of program) n)) xs) (twice program)
+      subst (λ xs. EachNode (λ n. Good obc (known_of program) (sketch_node (known_of program) n)) xs) (reverse-reverse program)
       (each_reverse (λ n. Good obc (known_of program) (sketch_node (known_of program) n)) (reverse program) (good_behind [] (reverse program) refl sound firsts plain tested))
 
 -- ---- ready programs
-
-types_low : (enums : Enumerations) (items : List Item) → types_of (map (lowered_item enums) items) ≡ types_of items
-types_low enums [] = refl
-types_low enums (TypeItem t ∷ items) = ap (λ ts. t ∷ ts) (types_low enums items)
-types_low enums (NodeItem n ∷ items) = types_low enums items
-
-names_of_types : (items : List Item) → type_names items ≡ map (λ (t : TypeDecl). t.name) (types_of items)
-names_of_types [] = refl
-names_of_types (TypeItem t ∷ items) = ap (λ xs. t.name ∷ xs) (names_of_types items)
-names_of_types (NodeItem n ∷ items) = names_of_types items
-
-some_one : (cs : List (List ℕ)) → (cs ≡ [] → ⊥) → HasOne cs
-some_one [] f = absurd (f refl)
-some_one (c ∷ cs) f = tt
-
-some_constructors : (items : List Item) → TypesHaveConstructors (types_of items) → HaveConstructors items
-some_constructors [] h = tt
-some_constructors (TypeItem t ∷ items) h = (some_one t.cons h.0, some_constructors items h.1)
-some_constructors (NodeItem n ∷ items) h = some_constructors items h
 
 abbrev AreGood : List TypeDecl → List (List ℕ) → Type 0
 AreGood types names = (t : Ty) → HasFirst types t → IsOf types t (first_value (flat_type (numbered 0 names) t))
