@@ -4,7 +4,7 @@
 #![tactic(auto)]
 
 ghost use Rattle.law_games.specs.Forced.Twins.{AlongLaw, FirstLaw, LongerLaw, PlayedChoiceLaw, PlaysLaw, SomeTwinLaw, TwinChoicesLaw, TwinsLaw};
-ghost use Rattle.law_games.specs.Forced.Laws.{ChoicesLaw, ForcedAtFirstLaw, ForcedLaw, GameLaw, GrantedLaw, HistoriesLaw, InstantsLaw, LaterLaw, MachineChoicesLaw, NextLaw, PermittedLaw, SafeAtFirstLaw, SafeGameLaw, SafeLaw};
+ghost use Rattle.law_games.specs.Forced.Laws.{ChoicesLaw, ForcedAtFirstLaw, ForcedLaw, GameLaw, GrantedLaw, HistoriesLaw, InstantsLaw, LaterLaw, MachineChoicesLaw, NextLaw, PermittedLaw, SafeAtFirstLaw, SafeGameLaw, SafeLaw, SomeChoiceLaw};
 
 use crate::mirror::choices_are_kept;
 
@@ -33,9 +33,10 @@ pub fn choices_are_on_memories()
     ensures { ChoicesLaw }
 {}
 
-/// And what a machine that mirrors the node may choose, whose choice is the greatest permitted one.
+/// And what a machine that mirrors the node may choose, whose choice is the greatest permitted one. After a history after which nothing is ever forced some choice is permitted.
 pub fn choices_are_on_machines()
-    ensures { MachineChoicesLaw }
+    ensures choices { MachineChoicesLaw }
+    ensures some { SomeChoiceLaw }
 {
     choices_are_kept();
 }

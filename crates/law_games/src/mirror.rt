@@ -3,7 +3,7 @@
 //! The functions here do nothing: each is a law, which its contract states.
 #![tactic(auto)]
 
-ghost use Rattle.law_games.specs.Mirror.Choices.{SameMemoryChoiceLaw, SameMemoryPermittedLaw};
+ghost use Rattle.law_games.specs.Mirror.Choices.{SameMemoryChoiceLaw, SameMemoryPermittedLaw, SomeMemoryChoiceLaw};
 ghost use Rattle.law_games.specs.Mirror.FilledHistories.{SameFilledGameLaw, SameFilledSafeLaw};
 ghost use Rattle.law_games.specs.Mirror.Histories.{SameAtFirstLaw, SameChoiceLaw, SameGameLaw, SamePermittedLaw, SameSafeLaw};
 ghost use Rattle.law_games.specs.Mirror.Memories.{SameMemoryAtFirstLaw, SameMemoryGameLaw, SameMemorySafeLaw};
@@ -15,10 +15,11 @@ pub fn memories_are_kept()
     ensures at_first { SameMemoryAtFirstLaw }
 {}
 
-/// What may be chosen at a memory is what the machine may choose at its bits, and where these are preferred as values are, the machine's choice is the greatest permitted one.
+/// What may be chosen at a memory is what the machine may choose at its bits, and where these are preferred as values are, the machine's choice is the greatest permitted one. Some choice is permitted wherever nothing is ever forced.
 pub fn choices_are_kept()
     ensures permitted { SameMemoryPermittedLaw }
     ensures chosen { SameMemoryChoiceLaw }
+    ensures some { SomeMemoryChoiceLaw }
 {}
 
 /// So it has the game on the node's histories without Nil: what is forced after one is forced from the bits that it leaves, and nothing is ever forced at first exactly where the machine is safe.

@@ -16,7 +16,7 @@ use Rattle.hp_meaning.proofs.CausalLemmas.AbstractOne.{abstract_one}
 use Rattle.hp_meaning.proofs.CausalLemmas.Ranking.{all_ranks_enough}
 use Rattle.hp_boolx.specs.Machine.{Machine}
 use Rattle.hp_meaning.specs.Contract.Duties.{hypothesis, duty}
-use Rattle.hp_meaning.specs.Contract.Game.{Choice, IsChoiceOf, at_controls, Permitted, IsChosen}
+use Rattle.hp_meaning.specs.Contract.Game.{Choice, IsChoiceOf, at_controls, Safe, Permitted, IsChosen}
 use Rattle.hp_meaning.specs.Contract.Memory.{memory}
 use Rattle.hp_meaning.specs.Contract.Slots.{registers, zero_at}
 use Rattle.law_games.specs.Wires.WiredNodes.{remembers_in, FillsNode}
@@ -28,7 +28,7 @@ use Rattle.law_games.specs.Wiretyped.Laws.{InShape, GivenFits}
 use Rattle.law_games.proofs.WiretypedLemmas.Programs.{wiring as is_wiring}
 use Rattle.law_games.proofs.WiretypedLemmas.SameMemory.{memory_same}
 use Rattle.law_games.specs.Mirror.Mirrored.{read_with, Mirrors}
-use Rattle.law_games.specs.Mirror.Memories.{IsInstant, leaves, ForcedFrom}
+use Rattle.law_games.specs.Mirror.Memories.{IsInstant, leaves, ForcedFrom, SafeFrom}
 use Rattle.law_games.specs.Mirror.Choices.{PermittedFrom, IsChosenFrom}
 use Rattle.law_games.specs.Mirror.FilledHistories.{filled_instant, IsFilled, AllFilled, FilledForced, FilledSafe}
 use Rattle.law_games.proofs.MirrorLemmas.FilledOne.{filled_one}
@@ -47,7 +47,7 @@ use Rattle.law_games.proofs.ReadyGamesLemmas.Histories.{Twins as HistoryTwins, a
 use Rattle.law_games.specs.ReadyGames.FittingHistories.{AllFitting}
 use Rattle.law_games.specs.Forced.Laws.{FittingPermitted, ChoicesLaw}
 use Rattle.law_games.specs.Forced.Twins.{ChoosesAsMemory}
-use Rattle.law_games.proofs.ForcedLemmas.Games.{may_choose}
+use Rattle.law_games.proofs.ForcedLemmas.Games.{forced, may_choose}
 
 -- The same of histories without Nil.
 abbrev FilledPermitted : List Item → List Item → Node → Past → List Value → Instant → Choice → Type 0
@@ -177,6 +177,10 @@ module _ (program after : List Item) (ranks : List (List ℕ)) (o : IsInOrder pr
         let e = same_filled_game after cl.0 earlier n m S M (shaped program after ranks o earlier n st) k h a in
         let g = same_memory_game after cl.0 earlier n m S M k (memory after n h) (memory_shaped h a) in
         ((λ f. subst (ForcedFrom after earlier n k) (sym (memory_is h)) (g.1 (e.0 f))), (λ f. e.1 (g.0 (subst (ForcedFrom after earlier n k) (memory_is h) f))))
+
+    pub safe_memory : (h h' : Past) → AllFitting after earlier n h → AllFilled after earlier n h' → Twins h h' → Safe after n h → SafeFrom after earlier n (memory after n h')
+    safe_memory h h' a u t s k f =
+        s k ((forced program after ranks o earlier n st k h a).1 (back program after ranks o earlier n st k h h' t ((forced_same k h' u).1 (subst (ForcedFrom after earlier n k) (sym (memory_is h')) f))))
 
     to_memory : (h : Past) (inputs : List Value) (early : Instant) (c : Choice) → AllFilled after earlier n h → IsChoiceOf after n c → FilledPermitted after earlier n h inputs early c → PermittedFrom after earlier n (left h) inputs early c
     to_memory h inputs early c a is P others W I hyp =

@@ -18,16 +18,17 @@ use Rattle.hp_meaning.specs.Contract.Game.{Choice}
 use Rattle.hp_boolx.specs.Machine.{Machine}
 use Rattle.hp_meaning.specs.Contract.Memory.{memory}
 use Rattle.hp_meaning.specs.Contract.Slots.{Slot, register, free, input, control, free_among, slots_of_node}
-use Rattle.law_games.specs.Mirror.Choices.{BitsInOrder, SameMemoryPermittedLaw, SameMemoryChoiceLaw}
+use Rattle.law_games.specs.Mirror.Choices.{BitsInOrder, SameMemoryPermittedLaw, SameMemoryChoiceLaw, SomeMemoryChoiceLaw}
 use Rattle.law_games.specs.Mirror.FilledHistories.{AllFilled}
 use Rattle.law_games.specs.Mirror.Histories.{EarlyFits}
 use Rattle.law_games.specs.Mirror.Mirrored.{given_with, Mirrors}
 use Rattle.law_games.specs.Mirror.Memories.{SlotsFit}
 use Rattle.law_games.proofs.ReadyGamesLemmas.Settled.{class, settled}
 use Rattle.law_games.specs.ReadyGames.Laws.{Stands, IsInOrder}
-use Rattle.law_games.specs.Forced.Laws.{MachineChoicesLaw}
+use Rattle.law_games.specs.Forced.Laws.{MachineChoicesLaw, SomeChoiceLaw}
 use Rattle.law_games.specs.Forced.Twins.{ChoosesAsMemory, ChoosesAsMachine}
-use Rattle.law_games.proofs.ForcedLemmas.Choices.{memory_shaped, choices}
+use Rattle.law_games.proofs.ReadyGamesLemmas.Histories.{twin}
+use Rattle.law_games.proofs.ForcedLemmas.Choices.{memory_shaped, safe_memory, each_choice, choices}
 
 -- ---- early places
 
@@ -68,7 +69,23 @@ module _ (types : List TypeDecl) (P : Place → Type 0) (root early : Instant) (
   early_fits (input p t ∷ ss) h = All-cons (λ q. P q.0 → IsAbstractOf types q.1 (early q.0)) (p, t) (free_among ss) (one_fits p t h.0) (early_fits ss h.1)
   early_fits (free p t ∷ ss) h = All-cons (λ q. P q.0 → IsAbstractOf types q.1 (early q.0)) (p, t) (free_among ss) (one_fits p t h.0) (early_fits ss h.1)
 
--- ---- the law
+module _ (after : List Item) (n : Node) (inputs : List Value) (early : Instant) (slots : (d : Choice) → SlotsFit (types_of after) (slots_of_node after n) (given_with (map marked inputs) early d)) where
+  early_typed : (c : Choice) → EarlyFits after n early
+  early_typed c = early_fits (types_of after) (IsEarly after n) (given_with (map marked inputs) early c) early (early_given after n (map marked inputs) early c) (slots_of_node after n) (slots c)
+
+-- ---- the laws
+
+-- Where nothing is ever forced from the memory that a history leaves, some choice is permitted after it.
+pub some_choice : SomeMemoryChoiceLaw → SomeChoiceLaw
+some_choice some program after ranks o earlier n st m form M h a s inputs early fit slots =
+    let S = settled program after ranks o earlier n st in
+    let cl = class program after ranks o earlier n st in
+    let b = twin program after ranks o earlier n st h a in
+    let shape = memory_shaped program after ranks o earlier n st m M b.0 b.1.0 in
+    let safe = safe_memory program after ranks o earlier n st m M h b.0 a b.1.0 b.1.1 s in
+    let c = some after cl.0 earlier n m form S M (memory after n b.0) (map marked inputs) early shape slots safe in
+    let both = each_choice program after ranks o earlier n st m M h b.0 a b.1.0 b.1.1 inputs early fit (early_typed after n inputs early slots c.0) in
+    (c.0, c.1, (both.0 c.0 c.1).1 c.2)
 
 -- What may be chosen at the memory that a history leaves is what the machine may choose at its bits.
 pub machine_choices : SameMemoryPermittedLaw → SameMemoryChoiceLaw → (program after : List Item) (ranks : List (List ℕ)) (o : IsInOrder program after ranks) (earlier : List Item) (n : Node) (st : Stands after earlier n) (m : Machine) (M : Mirrors after earlier n m)
@@ -76,9 +93,7 @@ pub machine_choices : SameMemoryPermittedLaw → SameMemoryChoiceLaw → (progra
 machine_choices permitted chosen program after ranks o earlier n st m M O long h h' u memories inputs early fit slots c is =
     let S = settled program after ranks o earlier n st in
     let cl = class program after ranks o earlier n st in
-    let typed : EarlyFits after n early =
-    early_fits (types_of after) (IsEarly after n) (given_with (map marked inputs) early c) early (early_given after n (map marked inputs) early c) (slots_of_node after n) (slots c) in
-    let both = memories inputs early fit typed in
+    let both = memories inputs early fit (early_typed after n inputs early slots c) in
     let shape = memory_shaped program after ranks o earlier n st m M h' u in
     let wires = inputs_fit (types_of after) n.inputs inputs fit in
     let p = permitted after cl.0 earlier n m S M (memory after n h') (map marked inputs) early c shape wires (slots c) is in

@@ -6,9 +6,10 @@ use Rattle.hp_tree.specs.declared.program.Item.{Item}
 use Rattle.hp_tree.specs.Programs.{TypeDecl, Node}
 use Rattle.hp_tree.specs.Instant.{Place, Instant, nothing}
 use Rattle.hp_boolx.specs.Search.{Bits}
-use Rattle.hp_boolx.specs.Game.{joined, Before, Safe as SafeOn, Permitted as PermittedOn}
+use Rattle.hp_boolx.specs.Game.{IsForm, ValidEarly, joined, Before, Safe as SafeOn, Permitted as PermittedOn}
 use Rattle.hp_boolx.specs.Machine.{Machine, game}
 use Rattle.hp_boolx.specs.Solved.{IsChoice}
+use Rattle.hp_boolx.proofs.SolvedLaws.{some-permitted}
 use Rattle.hp_meaning.specs.Contract.FreePlaces.{IsEarly}
 use Rattle.hp_meaning.specs.Contract.Game.{Choice, IsChoiceOf, preferred}
 use Rattle.hp_meaning.specs.Contract.Slots.{FreePlace, slots_of_node}
@@ -16,10 +17,10 @@ use Rattle.law_values.specs.Valued.Values.{Classing}
 use Rattle.law_games.specs.Wiretyped.Typed.{AreWires}
 use Rattle.law_games.specs.Mirror.Mirrored.{codes_at, AreCodes, given_with, valuation, Mirrors}
 use Rattle.law_games.specs.Mirror.Memories.{SlotsFit, IsInstant, supposes, owes, leaves, SafeFrom, IsSettled}
-use Rattle.law_games.specs.Mirror.Choices.{PermittedFrom, IsChosenFrom, choice_bits, BitsInOrder, SameMemoryPermittedLaw, SameMemoryChoiceLaw}
+use Rattle.law_games.specs.Mirror.Choices.{PermittedFrom, IsChosenFrom, choice_bits, BitsInOrder, SameMemoryPermittedLaw, SameMemoryChoiceLaw, SomeMemoryChoiceLaw}
 use Rattle.law_games.proofs.MirrorLemmas.SlotLists.{values_at, AreValues, codes_of, codes_of_values, values_of_codes, early_values, slots_fit, early_same}
 use Rattle.law_games.proofs.MirrorLemmas.NodeGiven.{fits, fills, beside, same_values, same_choice}
-use Rattle.law_games.proofs.MirrorLemmas.SameMemories.{types, earlies, controls, lates, Shaped, state, early_long, control_long, late_long, same_codes, left_shaped, at_hypothesis, at_duty, wiring, decoded, coded, given_codes, chosen, plain, truth_moved, same_memory_safe}
+use Rattle.law_games.proofs.MirrorLemmas.SameMemories.{types, earlies, controls, lates, Shaped, state, state_long, early_long, control_long, late_long, same_codes, left_shaped, at_hypothesis, at_duty, wiring, decoded, coded, given_codes, chosen, plain, truth_moved, same_memory_safe}
 
 module _ (program : List Item) (class : Classing) (earlier : List Item) (n : Node) (m : Machine) (S : IsSettled program class earlier n) (M : Mirrors program earlier n m) where
   abbrev tys : List TypeDecl
@@ -164,6 +165,29 @@ module _ (program : List Item) (class : Classing) (earlier : List Item) (n : Nod
         alike_safe (leaves program earlier n mem inputs c others now) ((game m).next (At mem inputs firsts c w)) (left_shaped program class earlier n m S M mem inputs others c now I.wires) a.2 q.1,
       )
 
+  -- ---- something is permitted
+
+  module _ (form : IsForm (game m)) (mem : Instant) (inputs : List Value) (firsts : Instant) (sh : InShaped mem) (f : (d : Choice) → Fit inputs firsts d) where
+    abbrev first_bits : Bits
+    first_bits = codes_at tys first_places (given_with inputs firsts (preferred program n))
+
+    -- the early bits are valid, by the preferred choice and the late values that are given with them
+    valid_first : ValidEarly (game m) (mine mem) first_bits
+    valid_first =
+        let c = preferred program n in
+        let w : Bits = codes_at tys late_places (given_with inputs firsts c) in
+        let lw = late_long program class earlier n m S M (given_with inputs firsts c) in
+        (first_long inputs firsts c, (choice_bits program n c, (choice_long c, (w, (lw, valid_at mem inputs firsts c w (f c) S.some_choice lw (given_codes program class earlier n m S M inputs firsts c S.some_choice (f c)).2)))))
+
+    pub permits_some : SafeFrom program earlier n mem → (d : Choice) × IsChoiceOf program n d × PermittedFrom program earlier n mem inputs firsts d
+    permits_some s =
+        let b = some-permitted (game m) form (mine mem) first_bits (state_long program class earlier n m S M mem) (safe_alike mem (mine mem) sh refl s) valid_first in
+        let d = chosen program class earlier n m S M mem first_bits b.0 (first_long inputs firsts (preferred program n)) b.1.0 in
+        let e : choice_bits program n d.0 ≡ b.0 = d.2 [] nothing in
+        let early = same_firsts inputs firsts firsts (preferred program n) d.0 (λ p e. refl) in
+        let p : PermittedOn (game m) (mine mem) first_bits (choice_bits program n d.0) = subst (PermittedOn (game m) (mine mem) first_bits) (sym e) b.1 in
+        (d.0, d.1, back mem inputs firsts d.0 sh (f d.0) d.1 (subst (λ u. PermittedOn (game m) (mine mem) u (choice_bits program n d.0)) early p))
+
   -- ---- what is chosen
 
   module _ (O : BitsInOrder program n m.prefer) (many : length m.prefer ≡ m.control) (mem : Instant) (inputs : List Value) (firsts : Instant) (sh : InShaped mem) (vals : AreWires tys n.inputs inputs) (f : (d : Choice) → Fit inputs firsts d) where
@@ -209,3 +233,6 @@ same_memory_permitted program class earlier n m S M mem inputs firsts c sh vals 
 
 pub same_memory_choice : SameMemoryChoiceLaw
 same_memory_choice program class earlier n m S M O many mem inputs firsts c sh vals f is = (chosen_onto program class earlier n m S M O many mem inputs firsts sh vals f c is, chosen_back program class earlier n m S M O many mem inputs firsts sh vals f c is)
+
+pub some_memory_choice : SomeMemoryChoiceLaw
+some_memory_choice program class earlier n m form S M mem inputs firsts sh f s = permits_some program class earlier n m S M form mem inputs firsts sh f s

@@ -112,7 +112,7 @@ module _ (program : List Item) (class : Classing) (earlier : List Item) (n : Nod
   abbrev pub state : Instant → Bits
   state mem = bits_in (registers program n) mem
 
-  state_long : (mem : Instant) → length (state mem) ≡ m.registers
+  pub state_long : (mem : Instant) → length (state mem) ≡ m.registers
   state_long mem = length_registers (registers program n) mem ∙ sym M.registers_are
 
   pub early_long : (i : Instant) → length (codes_at types earlies i) ≡ m.early

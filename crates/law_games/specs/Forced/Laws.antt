@@ -7,7 +7,7 @@ use Rattle.hp_tree.specs.Programs.{Node}
 use Rattle.hp_tree.specs.Operators.{marked}
 use Rattle.hp_tree.specs.Instant.{Instant, Past}
 use Rattle.hp_tree.specs.Meaning.{types_of}
-use Rattle.hp_boolx.specs.Game.{Forced as ForcedOn, Safe as SafeOn, Permitted as PermittedOn}
+use Rattle.hp_boolx.specs.Game.{IsForm, Forced as ForcedOn, Safe as SafeOn, Permitted as PermittedOn}
 use Rattle.hp_boolx.specs.Solved.{IsChoice}
 use Rattle.hp_boolx.specs.Machine.{Machine, game}
 use Rattle.hp_meaning.specs.Contract.Duties.{hypothesis, duty}
@@ -119,6 +119,15 @@ ChoicesLaw =
     × ((inputs : List Value) (early : Instant) → InputsFit (types_of after) n.inputs inputs → EarlyFits after n early
     → ((c : Choice) → IsChoiceOf after n c → Permitted after n history inputs early c ↔ PermittedFrom after earlier n (memory after n other) (map marked inputs) early c)
     × ((c : Choice) → IsChoiceOf after n c → IsChosen after n history inputs early c ↔ IsChosenFrom after earlier n (memory after n other) (map marked inputs) early c)))))
+
+-- So where nothing is ever forced after a history, some choice is permitted after it, whatever the inputs and early values of their types are.
+abbrev pub SomeChoiceLaw : Type 0
+SomeChoiceLaw =
+    OfReadyNodes
+    (λ after earlier n.
+    (m : Machine) → IsForm (game m) → Mirrors after earlier n m → (history : Past) → AllFitting after earlier n history → Safe after n history
+    → (inputs : List Value) (early : Instant) → InputsFit (types_of after) n.inputs inputs → ((d : Choice) → SlotsFit (types_of after) (slots_of_node after n) (given_with (map marked inputs) early d))
+    → (c : Choice) × IsChoiceOf after n c × Permitted after n history inputs early c)
 
 -- So on a machine that mirrors the node, and prefers what is preferred of choices: a choice is permitted after a history exactly where its bits are, and it is the greatest permitted one exactly where they are the machine's choice.
 abbrev pub MachineChoicesLaw : Type 0

@@ -7,7 +7,7 @@ use Rattle.hp_tree.specs.Programs.{Node}
 use Rattle.hp_tree.specs.Instant.{Instant, nothing}
 use Rattle.hp_tree.specs.Meaning.{types_of, controls_of}
 use Rattle.hp_boolx.specs.Search.{Bits}
-use Rattle.hp_boolx.specs.Game.{Before, Permitted as PermittedOn}
+use Rattle.hp_boolx.specs.Game.{IsForm, Before, Permitted as PermittedOn}
 use Rattle.hp_boolx.specs.Machine.{Machine, game}
 use Rattle.hp_boolx.specs.Solved.{IsChoice}
 use Rattle.hp_meaning.specs.Contract.Game.{Choice, IsChoiceOf, AtMost, preferred}
@@ -59,3 +59,11 @@ SameMemoryChoiceLaw =
     → ((d : Choice) → SlotsFit (types_of program) (slots_of_node program n) (given_with inputs early d)) → IsChoiceOf program n c
     → IsChosenFrom program earlier n memory inputs early c
     ↔ IsChoice (game m) (bits_in (registers program n) memory) (codes_at (types_of program) (early_among M.is_early (slots_of_node program n)) (given_with inputs early c)) (choice_bits program n c)
+
+-- From a memory from which nothing is ever forced some choice is permitted.
+abbrev pub SomeMemoryChoiceLaw : Type 0
+SomeMemoryChoiceLaw =
+    (program : List Item) (class : Classing) (earlier : List Item) (n : Node) (m : Machine) → IsForm (game m) → IsSettled program class earlier n → Mirrors program earlier n m
+    → (memory : Instant) (inputs : List Value) (early : Instant) → InShape (types_of program) earlier n (zero_at (registers program n)) memory
+    → ((d : Choice) → SlotsFit (types_of program) (slots_of_node program n) (given_with inputs early d)) → SafeFrom program earlier n memory
+    → (c : Choice) × IsChoiceOf program n c × PermittedFrom program earlier n memory inputs early c

@@ -5,4 +5,4 @@ pub returns-clause-preferred : goal.returns-clause-preferred
 returns-clause-preferred c = preferred_is
 
 pub returns-clause-chosen : goal.returns-clause-chosen
-returns-clause-chosen c = chosen c.choices_are_on_machines.ensures
+returns-clause-chosen c = chosen c.choices_are_on_machines.ensures.choices
