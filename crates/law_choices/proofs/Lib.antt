@@ -19,4 +19,4 @@ mod AddingLemmas
 mod CodedLemmas
 mod InTurnLemmas
 mod ObservedLemmas
-mod PlayingLemmas
+pub mod PlayingLemmas
