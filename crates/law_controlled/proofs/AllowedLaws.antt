@@ -21,6 +21,7 @@ use Rattle.hp_controlled.specs.Compiled.{AreNodes, HaveMachines}
 use Rattle.law_controlled.specs.Machines.{AnswerAsWhole, IsWritable, TurnMachinesLaw}
 use Rattle.law_controlled.specs.Names.{HasFreeNames}
 use Rattle.law_controlled.specs.Program.{HaveMade, MadeNamesLaw, MadeNodesLaw}
+use Rattle.law_controlled.specs.Mirrored.{MirroredLaw}
 use Rattle.law_controlled.specs.Observers.{ObserversSuitLaw}
 use Rattle.law_controlled.specs.Allowed.{AllowedLaw}
 
@@ -30,8 +31,8 @@ writable (n ∷ ns) h k =
     let names = k.0 in
     (record { within = h.0; names_differ = names.differ; names_own = names.own }, writable ns h.1 k.1)
 
-pub allowed_law : CanBeObservedLaw → TestedObserversLaw → ReadyContractsLaw → ObserversSuitLaw → MadeNodesLaw → MadeNamesLaw → TurnMachinesLaw → turn.TurnLaw → turn.WithinLaw → turn.ChoosingProgramLaw → StandsLaw → AllowedLaw
-allowed_law can_law tested_law contracts_law observers_law made_law names_law machines_law in_turn within means standing program after ranks o order removable form short names observable machines =
+pub allowed_law : CanBeObservedLaw → TestedObserversLaw → ReadyContractsLaw → ObserversSuitLaw → MadeNodesLaw → MirroredLaw → MadeNamesLaw → TurnMachinesLaw → turn.TurnLaw → turn.WithinLaw → turn.ChoosingProgramLaw → StandsLaw → AllowedLaw
+allowed_law can_law tested_law contracts_law observers_law made_law mirrored_law names_law machines_law in_turn within means standing program after ranks o order removable form short names observable machines =
     let ready = order.ready in
     let c = machines.machines in
     let equations = c.equations in
@@ -60,7 +61,10 @@ allowed_law can_law tested_law contracts_law observers_law made_law names_law ma
     let runs = machines_law types (turn.said_of after made.all) (all_nodes made.all) have.nodes o.machines its_form (in_turn program after c.observers made.all chooses)
     (writable (all_nodes made.all) (within program after c.observers made.all chooses) free) made.from its_machines allowed.one in
     record {
+      observers = c.observers;
       all = made.all;
+      chooses = chooses;
+      mirrored = mirrored_law program after ranks types c.observers made.all order made.ask;
       allowed = allowed;
       runs = subst (λ (ts : List ObcType). AnswerAsWhole ts o.machines allowed.one.answers (turn.said_of after made.all).takes (all_nodes made.all)) (sym machines.types) runs;
       stands = standing program after c.observers made.all chooses;

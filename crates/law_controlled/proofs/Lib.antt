@@ -1,8 +1,11 @@
 pub mod AddedLaws
 pub mod AllowedLaws
+pub mod GreatestLaws
+pub mod KeepingLaws
 pub mod MachineLaws
 pub mod MadeLaws
 pub mod MadeNamesLaws
+pub mod MirrorLaws
 pub mod NameLaws
 pub mod ObserverLaws
 pub mod PartLaws

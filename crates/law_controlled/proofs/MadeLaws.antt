@@ -44,7 +44,7 @@ use Rattle.law_controlled.specs.Parts.{with_outputs}
 use Rattle.law_controlled.specs.Machines.{AreMadeFrom, IsMadeFrom}
 use Rattle.law_controlled.specs.Machines.IsMadeFrom.{itself, a_part}
 use Rattle.law_controlled.specs.Names.{Adds}
-use Rattle.law_controlled.specs.Program.{HasAdded, HaveMade, MadeNodesLaw}
+use Rattle.law_controlled.specs.Program.{AsksIfContracted, AsksItsMachine, HasAdded, HaveMade, MadeNodesLaw}
 use Rattle.law_controlled.proofs.AddedLaws.{choosing_adds}
 
 -- ---- controllable variables
@@ -121,6 +121,16 @@ widths_are types (v ∷ vs) (w ∷ ws) (c ∷ cs) are =
       (λ j. one.width j + rest.1 j) ∙ sum-more w ws,
       (subst (HasBits c.kind) (sym one.width) one.has, rest.2),
     )
+
+-- each control has its width
+each_width : (types : List ObcType) (vs : List Variable) (ws : List ℕ) (cs : List Control) → AreControls types vs ws cs → map (λ (c : Control). c.width) cs ≡ ws
+each_width types vs [] [] are = refl
+each_width types vs [] (c ∷ cs) are = absurd are
+each_width types [] (w ∷ ws) cs are = absurd are
+each_width types (v ∷ vs) (w ∷ ws) [] are = absurd are
+each_width types (v ∷ vs) (w ∷ ws) (c ∷ cs) are =
+    let one = are.0 in
+    λ j. one.width j ∷ each_width types vs ws cs are.1 j
 
 -- ---- the node that chooses
 
@@ -221,16 +231,17 @@ contract_made types observers node None c some is = absurd cc
 contract_made types observers node (Some k) c some is = is
 
 -- what is made of one node
-pub record OneMade (types : List ObcType) (observers : Observing) (node : Node) (n : FlatNode) (these : List FlatNode) : Type 0 where
+pub record OneMade (program : List Item) (types : List ObcType) (observers : Observing) (node : Node) (n : FlatNode) (these : List FlatNode) : Type 0 where
   pub made : Made
   pub is : IsMade types observers node node.contract made
+  pub asks : AsksIfContracted program types observers node made
   pub plant : (turn.loop_of made).plant ≡ n
   pub from : AreMadeFrom (nodes_of made) these
   pub added : HasAdded made
   pub few : AllByRecursion HasFew these → AllByRecursion HasFew (nodes_of made)
 
-one_made : (program : List Item) (types : List ObcType) (observers : Observing) (node : Node) (n : FlatNode) (these : List FlatNode) → n.name ≡ node.name → AreNodesOf program types observers node n these → OneMade types observers node n these
-one_made program types observers node n these named (without_contract none) = record { made = plain n; is = subst (λ k. IsMade types observers node k (plain n)) (sym none) tt; plant = refl; from = (itself, tt); added = tt; few = λ h. h }
+one_made : (program : List Item) (types : List ObcType) (observers : Observing) (node : Node) (n : FlatNode) (these : List FlatNode) → n.name ≡ node.name → AreNodesOf program types observers node n these → OneMade program types observers node n these
+one_made program types observers node n these named (without_contract none) = record { made = plain n; is = subst (λ k. IsMade types observers node k (plain n)) (sym none) tt; asks = tt; plant = refl; from = (itself, tt); added = tt; few = λ h. h }
 one_made program types observers node n these named (with_contract controller own told some are) =
     let a = are.abstraction in
     let chosen = are.chosen in
@@ -269,12 +280,21 @@ one_made program types observers node n these named (with_contract controller ow
       enforce = after.1;
       own = own_is.1;
     } in
+    let asks : AsksItsMachine program types observers node it = record {
+      is = is;
+      abstraction = a;
+      is_abstraction = drawn;
+      machine = refl;
+      flags = refl;
+      widths = each_width types (drop (length node.inputs) n.variables) a.machine.widths s.controls s.are;
+    } in
     let adds : Adds n c.node = choosing_adds types observers node n a c chooses in
     let told_name : turn.telling it.chosen ≡ with_outputs (contract_name node.name) (told_outputs c) c.node =
     λ j. record { name = contract_name (name j); variables = c.node.variables; inputs = c.node.inputs; outputs = told_outputs c; eqns = c.node.eqns } in
     record {
       made = contracted it;
       is = contract_made types observers node node.contract it some is;
+      asks = asks;
       plant = refl;
       from = (itself, (own_is.2, (a_part c.node told (contract_name node.name) (told_outputs c) told_name chosen.tells, tt)));
       added = adds;
@@ -290,11 +310,11 @@ from_both (w ∷ ws) [] vs ms h k = absurd h
 from_both (w ∷ ws) (n ∷ ns) vs ms h k = (h.0, from_both ws ns vs ms h.1 k)
 
 pub made_nodes : MadeNodesLaw
-made_nodes program types observers k enums items [] nodes made of_none = record { all = []; made = tt; are_plants = refl; from = tt; added = tt; few = λ h. tt }
+made_nodes program types observers k enums items [] nodes made of_none = record { all = []; made = tt; ask = tt; are_plants = refl; from = tt; added = tt; few = λ h. tt }
 made_nodes program types observers k enums items (p ∷ plants) nodes made of_none = absurd made
 made_nodes program types observers k enums items plants nodes made (of_a_type {items = rest} t are) =
     let more = made_nodes program types observers k enums rest plants nodes made are in
-    record { all = more.all; made = more.made; are_plants = more.are_plants; from = more.from; added = more.added; few = more.few }
+    record { all = more.all; made = more.made; ask = more.ask; are_plants = more.are_plants; from = more.from; added = more.added; few = more.few }
 made_nodes program types observers k enums items plants nodes made (of_a_node {items = rest} {ns = others} {all = behind} node n these are_these are) =
     let first = made.0 in
     let one = one_made program types observers node n these first.name are_these in
@@ -302,6 +322,7 @@ made_nodes program types observers k enums items plants nodes made (of_a_node {i
     record {
       all = one.made ∷ more.all;
       made = (one.is, more.made);
+      ask = (one.asks, more.ask);
       are_plants = λ j. one.plant j ∷ more.are_plants j;
       from = from_both (nodes_of one.made) these (turn.all_nodes more.all) behind one.from more.from;
       added = (one.added, more.added);

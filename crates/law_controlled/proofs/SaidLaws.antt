@@ -11,13 +11,15 @@ use Rattle.hp_obc.specs.Machines.{Obc}
 use Rattle.hp_obc.specs.Steps.{machine_behaviour, run}
 use Rattle.hp_tree.specs.declared.program.Item.{Item}
 use Rattle.hp_tree.specs.declared.program.Item.TheVariants.{TypeItem, NodeItem}
-use Rattle.hp_tree.specs.Meaning.{node_among}
+use Rattle.hp_tree.specs.Meaning.{node_among, types_of}
 use Rattle.hp_tree.specs.Programs.{Node}
 use Rattle.hp_flat.specs.Nodes.{FlatNode}
 use Rattle.law_equations.specs.Answered.Answering.{AreApart}
 use Rattle.law_equations.specs.Followed.Programs.{all_answers}
 use Rattle.law_history.proofs.StreamsLemmas.NamesApart.{name_found, own_found, ready_apart_after}
-use Rattle.law_games.specs.ReadyGames.Laws.{TextOrderLaw}
+use Rattle.hp_meaning.specs.Contract.Guarantee.{AllSafe}
+use Rattle.law_games.specs.ReadyGames.Laws.{IsInOrder, TextOrderLaw}
+use Rattle.law_wellmade.specs.Timely.Kinds.{kinds_of_decls}
 use Rattle.law_choices.specs.Observed.Texts.{ObservableTextsLaw}
 use Rattle.law_choices.specs.InTurn.AllowedRuns.{IsAllowedRun}
 use Rattle.law_choices.specs.InTurn.Allowed.{AllowedRunLaw}
@@ -26,8 +28,10 @@ use Rattle.law_choices.specs.InTurn.Nodes.{all_nodes}
 use Rattle.law_choices.specs.InTurn.Texts.{SignLaw}
 use Rattle.law_choices.proofs.OnClocksLemmas.Texts.{when_accepted}
 use Rattle.law_controlled.specs.Allowed.{AllowedLaw, RunsAllowed}
+use Rattle.law_controlled.specs.Greatest.{IsSteeredRun, SaysGreatest}
 use Rattle.law_controlled.specs.Saying.{SaysAllowed}
-use Rattle.law_controlled.specs.Said.{SaidLaw}
+use Rattle.law_controlled.specs.Said.{GreatestSaidLaw, SaidLaw}
+use Rattle.law_controlled.proofs.GreatestLaws.{SteeringLaws, steered}
 
 -- ---- the node of a name, from either end
 
@@ -61,25 +65,39 @@ from_behind items apart f n e =
 
 -- ---- what is said
 
-module _ (law : AllowedRunLaw) (after : List Item) (o : Obc) (r : RunsAllowed after o) where
+module _ (program after : List Item) (o : Obc) (r : RunsAllowed program after o) where
   -- what is so of all nodes that are made is so of the one that stands for a node
   at_one : (P : FlatNode → Type 0) (ns : List FlatNode) (w : FlatNode) → AllByRecursion P ns → Contains ns w → P w
   at_one P ns w h there = All-contains P ns w (All-from_recursion P ns h) there
 
-  says : (f : List ℕ) (n : Node) → node_among (reverse after) f ≡ Some n → SaysAllowed after o f n
-  says f n e inputs kinds =
+  -- the machine of a node says what the node answers
+  answers_said : (f : List ℕ) (n : Node) → node_among (reverse after) f ≡ Some n → (inputs : List (List Value)) → AllByRecursion (AreOfKinds (kinds_of_decls (types_of after) n.inputs)) inputs
+      → reverse (run (machine_behaviour o f) (reverse inputs)) ≡ all_answers (r.allowed.one.answers f) inputs
+  answers_said f n e inputs kinds =
       let answers = r.allowed.one.answers in
       let takes = (said_of after r.all).takes in
       let w = r.stands f n e in
       let Answers_so : List ℕ → Type 0 = λ g. (rows : List (List Value)) → AllByRecursion (AreOfKinds (takes g)) rows → run (machine_behaviour o g) (reverse rows) ≡ reverse (all_answers (answers g) rows) in
       let ran : Answers_so f = subst Answers_so w.named (at_one (λ (v : FlatNode). Answers_so v.name) (all_nodes r.all) w.node r.runs w.there) in
       let said = ran inputs (subst (λ ks. AllByRecursion (AreOfKinds ks) inputs) (sym w.takes) kinds) in
-      let same : reverse (run (machine_behaviour o f) (reverse inputs)) ≡ all_answers (answers f) inputs = ap reverse said ∙ reverse-reverse (all_answers (answers f) inputs) in
-      subst (IsAllowedRun after f inputs) (sym same) (law after r.all r.allowed f n inputs e kinds)
+      ap reverse said ∙ reverse-reverse (all_answers (answers f) inputs)
+
+  says : AllowedRunLaw → (f : List ℕ) (n : Node) → node_among (reverse after) f ≡ Some n → SaysAllowed after o f n
+  says law f n e inputs kinds = subst (IsAllowedRun after f inputs) (sym (answers_said f n e inputs kinds)) (law after r.all r.allowed f n inputs e kinds)
+
+  says_greatest : SteeringLaws → (ranks : List (List ℕ)) → IsInOrder program after ranks → AllSafe after (reverse after) → (f : List ℕ) (n : Node) → node_among (reverse after) f ≡ Some n → SaysGreatest after o f n
+  says_greatest laws ranks order safe f n e inputs kinds = subst (IsSteeredRun after f n inputs) (sym (answers_said f n e inputs kinds)) (steered laws program after ranks order safe o r f n inputs e kinds)
 
 pub said_law : AllowedRunLaw → AllowedLaw → SignLaw → TextOrderLaw → ObservableTextsLaw → SaidLaw
 said_law runs allowed sign order observable text tokens program after ranks o a p named typed defined formed initialised clocks fall machines f n e =
     let q = when_accepted text tokens program after a p named typed defined formed initialised clocks in
     let r =
     allowed program after ranks o (order text tokens program after ranks a p named typed defined formed initialised clocks fall) q.removable q.form q.short (sign text tokens program after a p clocks) (observable text tokens program after a p clocks) machines in
-    says runs after o r f n (from_behind after (ready_apart_after program after q.ready) f n e)
+    says program after o r runs f n (from_behind after (ready_apart_after program after q.ready) f n e)
+
+pub greatest_said_law : SteeringLaws → AllowedLaw → SignLaw → TextOrderLaw → ObservableTextsLaw → GreatestSaidLaw
+greatest_said_law laws allowed sign order observable text tokens program after ranks o a p named typed defined formed initialised clocks fall safe machines f n e =
+    let q = when_accepted text tokens program after a p named typed defined formed initialised clocks in
+    let in_order = order text tokens program after ranks a p named typed defined formed initialised clocks fall in
+    let r = allowed program after ranks o in_order q.removable q.form q.short (sign text tokens program after a p clocks) (observable text tokens program after a p clocks) machines in
+    says_greatest program after o r laws ranks in_order safe f n (from_behind after (ready_apart_after program after q.ready) f n e)

@@ -1,5 +1,7 @@
 pub mod Allowed
+pub mod Greatest
 pub mod Machines
+pub mod Mirrored
 pub mod Names
 pub mod Observers
 pub mod Parts

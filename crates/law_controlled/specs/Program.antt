@@ -1,9 +1,10 @@
 -- What is made of the nodes of a program whose nodes choose the values of their controllable variables.
 -- Source: own.
-use Rattle.std.specs.Prelude.{◌≡◌, ⊤, List, map}
+use Rattle.std.specs.Prelude.{◌≡◌, ⊤, List, [], ◌∷◌, map}
 use Rattle.std.specs.List.{AllByRecursion}
 use Rattle.hp_obc.specs.Machines.{ObcType}
 use Rattle.hp_tree.specs.declared.program.Item.{Item}
+use Rattle.hp_tree.specs.declared.program.Item.TheVariants.{TypeItem, NodeItem}
 use Rattle.law_values.specs.Accepted.Laws.{IsReady}
 use Rattle.hp_automata.specs.Lowering.{Enumerations, lowered_item, lowered_program}
 use Rattle.hp_flat.specs.Nodes.{FlatNode}
@@ -13,12 +14,14 @@ use Rattle.hp_complete.specs.Made.{AreMadeOf}
 use Rattle.law_wellmade.specs.Suited.Suited.{HasFew}
 use Rattle.hp_watch.specs.Watching.{Observing}
 use Rattle.hp_abstract.specs.declared.abstracted.Abstraction.{Abstraction}
+use Rattle.hp_abstract.specs.Abstractions.{IsAbstractionOf}
+use Rattle.hp_controller.specs.declared.decoding.Control.{Control}
 use Rattle.hp_tree.specs.Programs.{Node}
 use Rattle.hp_controlled.specs.Choosing.{IsChoosing, Telling}
 use Rattle.hp_controlled.specs.Compiled.{AreNodes}
 use Rattle.law_controlled.specs.Names.{Adds, HasFreeNames}
 use Rattle.law_choices.specs.Answered.Loops as loop
-use Rattle.law_choices.specs.InTurn.Nodes.{Made, plain, contracted, AreAllMade, all_nodes, loops}
+use Rattle.law_choices.specs.InTurn.Nodes.{Contracted, IsContracted, Made, plain, contracted, AreAllMade, all_nodes, loops}
 use Rattle.law_controlled.specs.Machines.{AreMadeFrom}
 
 -- what is added to the node of a contract so that it chooses are variables with names of their own
@@ -26,10 +29,31 @@ abbrev pub HasAdded : Made → Type 0
 HasAdded (plain f) = ⊤
 HasAdded (contracted c) = Adds c.plant c.chosen.node
 
+-- What is made of a node asks the controller of the Boolean machine of its contract. It is told which inputs and free places are early as the circuit of the machine has it, and each control variable has as many bits as in the machine.
+pub record AsksItsMachine (program : List Item) (types : List ObcType) (observers : Observing) (n : Node) (c : Contracted) : Type 0 where
+  pub is : IsContracted types observers n c
+  pub abstraction : Abstraction
+  pub is_abstraction : IsAbstractionOf program n abstraction
+  pub machine : is.machine ≡ abstraction.machine
+  pub flags : is.is_early ≡ map (λ g. g.is_early) abstraction.given.items
+  pub widths : map (λ (k : Control). k.width) is.controls ≡ (is.machine).widths
+
+abbrev pub AsksIfContracted : List Item → List ObcType → Observing → Node → Made → Type 0
+AsksIfContracted program types observers n (plain f) = ⊤
+AsksIfContracted program types observers n (contracted c) = AsksItsMachine program types observers n c
+
+-- so it is of each node of some items, in order
+abbrev pub AllAskTheirMachines : List Item → List ObcType → Observing → List Item → List Made → Type 0
+AllAskTheirMachines program types observers [] ms = ⊤
+AllAskTheirMachines program types observers (TypeItem t ∷ items) ms = AllAskTheirMachines program types observers items ms
+AllAskTheirMachines program types observers (NodeItem n ∷ items) [] = ⊤
+AllAskTheirMachines program types observers (NodeItem n ∷ items) (m ∷ ms) = AsksIfContracted program types observers n m × AllAskTheirMachines program types observers items ms
+
 -- It is known of each node what is made of it, and its machines are made of that: of controllers and of the nodes that choose, or of parts of these.
-pub record HaveMade (types : List ObcType) (observers : Observing) (items : List Item) (plants nodes : List FlatNode) : Type 0 where
+pub record HaveMade (program : List Item) (types : List ObcType) (observers : Observing) (items : List Item) (plants nodes : List FlatNode) : Type 0 where
   pub all : List Made
   pub made : AreAllMade types observers items all
+  pub ask : AllAskTheirMachines program types observers items all
   pub are_plants : loop.plants (loops all) ≡ plants
   pub from : AreMadeFrom (all_nodes all) nodes
   pub added : AllByRecursion HasAdded all
@@ -40,7 +64,7 @@ pub record HaveMade (types : List ObcType) (observers : Observing) (items : List
 abbrev pub MadeNodesLaw : Type 0
 MadeNodesLaw =
     (program : List Item) (types : List ObcType) (observers : Observing) (k : Known) (enums : Enumerations) (items : List Item) (plants nodes : List FlatNode) → AreMadeOf k (map (lowered_item enums) items) plants
-    → AreNodes program types observers items plants nodes → HaveMade types observers items plants nodes
+    → AreNodes program types observers items plants nodes → HaveMade program types observers items plants nodes
 
 -- The node that chooses has the variables of its clocked equations, and more with names of their own.
 abbrev pub ChoosingNamesLaw : Type 0
@@ -50,4 +74,4 @@ ChoosingNamesLaw = (types : List ObcType) (observers : Observing) (node : Node) 
 abbrev pub MadeNamesLaw : Type 0
 MadeNamesLaw =
     (program after : List Item) (types : List ObcType) (observers : Observing) (plants nodes : List FlatNode) → IsReady program after → AreMadeOf (known_of (lowered_program after)) (lowered_program after) plants
-    → (made : HaveMade types observers after plants nodes) → AllByRecursion HasFew nodes → AllByRecursion HasFreeNames (all_nodes made.all)
+    → (made : HaveMade after types observers after plants nodes) → AllByRecursion HasFew nodes → AllByRecursion HasFreeNames (all_nodes made.all)

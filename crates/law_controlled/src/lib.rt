@@ -5,10 +5,11 @@
 
 ghost use Rattle.law_controlled.specs.Allowed.{AllowedLaw};
 ghost use Rattle.law_controlled.specs.Machines.{MadeMachinesLaw, TurnMachinesLaw};
+ghost use Rattle.law_controlled.specs.Mirrored.{MirroredLaw};
 ghost use Rattle.law_controlled.specs.Names.{NamesLaw, PlantNamesLaw};
 ghost use Rattle.law_controlled.specs.Observers.{ObserversSuitLaw};
 ghost use Rattle.law_controlled.specs.Parts.{MadePartLaw};
-ghost use Rattle.law_controlled.specs.Said.{SaidLaw};
+ghost use Rattle.law_controlled.specs.Said.{GreatestSaidLaw, SaidLaw};
 ghost use Rattle.law_controlled.specs.Program.{ChoosingNamesLaw, MadeNamesLaw, MadeNodesLaw};
 
 use hp_form::regular::regular_equations_have_form;
@@ -20,12 +21,17 @@ use law_choices::in_turn::{
 use law_choices::observed::{
     contracts_of_texts_can_be_observed, observers_can_be_compiled, tests_of_observers_are_typed,
 };
+use law_choices::playing::{drawn_machines_mirror, nodes_that_know_all_choose_the_greatest};
+use law_choices::runs::chosen_values_make_one_reaction;
 use law_choices::part::{parts_keep_form, parts_keep_reactions};
 use law_choices::undisturbed::controls_are_apart;
 use law_equations::fewer::nodes_are_compiled;
 use law_equations::fitting::{larger_names_are_free, names_fit};
 use law_equations::followed::names_are_own;
-use law_games::ready_games::{contracts_call_nothing, programs_of_texts_are_in_order};
+use hp_meaning::contract::{
+    choice_is_permitted, duty_is_kept, reactions_are_instants_of_the_game,
+};
+use law_games::ready_games::{contracts_call_nothing, programs_of_texts_are_in_order, ready_nodes_are_settled};
 use law_wellmade::apart::names_are_apart;
 
 /// The part that the compiler makes of a node is a part of it, so it answers as the node does.
@@ -55,6 +61,13 @@ pub fn added_names_differ()
 pub fn nodes_are_made()
     ensures { MadeNodesLaw }
 {}
+
+/// The nodes that the compiler makes of those with a contract ask machines that mirror their contracts.
+pub fn nodes_ask_machines_that_mirror()
+    ensures { MirroredLaw }
+{
+    drawn_machines_mirror();
+}
 
 /// Names of variables differ in whatever is made of a ready program, also where variables are controllable, and are no names of memories or instances.
 pub fn names_of_what_is_made_differ()
@@ -86,6 +99,7 @@ pub fn machines_say_what_is_allowed()
     contracts_call_nothing();
     observers_suit();
     nodes_are_made();
+    nodes_ask_machines_that_mirror();
     names_of_what_is_made_differ();
     machines_answer_as_whole_nodes();
     nodes_that_choose_stand_in_turn();
@@ -98,6 +112,23 @@ pub fn machines_of_texts_say_what_is_allowed()
 {
     machines_say_what_is_allowed();
     nodes_that_choose_answer_as_the_program_allows();
+    programs_of_texts_may_choose();
+    programs_of_texts_are_in_order();
+    contracts_of_texts_can_be_observed();
+}
+
+/// And if nothing is free in such a node but its inputs, the controllable variables have the greatest permitted values in that reaction; so it keeps its contract.
+pub fn machines_of_texts_choose_the_greatest()
+    ensures { GreatestSaidLaw }
+{
+    machines_say_what_is_allowed();
+    nodes_that_know_all_choose_the_greatest();
+    chosen_values_make_one_reaction();
+    choice_is_permitted();
+    duty_is_kept();
+    reactions_are_instants_of_the_game();
+    contracts_call_nothing();
+    ready_nodes_are_settled();
     programs_of_texts_may_choose();
     programs_of_texts_are_in_order();
     contracts_of_texts_can_be_observed();

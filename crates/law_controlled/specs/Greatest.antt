@@ -1,0 +1,47 @@
+-- Machines that say runs of the greatest permitted values: so does that of each node of which nothing is free but the inputs, and it keeps its contract.
+-- Source: own; the controller of Delaval, Marchand and Rutten (LCTES 2010).
+use Rattle.std.specs.Prelude.{◌≡◌, ℕ, IsTrue, List, [], ◌∷◌, reverse, Some}
+use Rattle.std.specs.List.{AllByRecursion}
+use Rattle.hp_base.specs.Kinds.{AreOfKinds}
+use Rattle.hp_base.specs.declared.value.Value.{Value}
+use Rattle.hp_obc.specs.Machines.{Obc}
+use Rattle.hp_obc.specs.Steps.{machine_behaviour, run}
+use Rattle.hp_tree.specs.declared.program.Item.{Item}
+use Rattle.hp_tree.specs.Instant.{Past}
+use Rattle.hp_tree.specs.Meaning.{types_of, node_among}
+use Rattle.hp_tree.specs.Programs.{Node}
+use Rattle.hp_meaning.specs.Contract.Duties.{duty, enforces}
+use Rattle.hp_meaning.specs.Contract.Forgetting.{erased, erase}
+use Rattle.hp_meaning.specs.Contract.FreePlaces.{calls_of}
+use Rattle.hp_meaning.specs.Contract.Guarantee.{AllAssumed, AllSupposed, HasContract, Through}
+use Rattle.law_wellmade.specs.Timely.Kinds.{kinds_of_decls}
+use Rattle.law_choices.specs.InTurn.AllowedRuns.{IsAllowedRun}
+use Rattle.law_choices.specs.Playing.Greatest.{ChoosesGreatest, KnowsAll}
+
+-- At each instant of a past, the duty of the node holds where its hypothesis holds and held at all instants before: it supposes its assumption, and that each callee keeps its contract; it owes its guarantee, and the assumption of each callee.
+abbrev pub KeepsDuty : Node → Past → Type 0
+KeepsDuty n past = Through (λ older now. AllSupposed n (erase (now ∷ older)) → IsTrue (duty n (erased now))) past
+
+-- At each instant of a past, the guarantee holds where the assumption holds and held at all instants before.
+abbrev pub KeepsContract : Past → Type 0
+KeepsContract past = Through (λ older now. AllAssumed (now ∷ older) → IsTrue (enforces now)) past
+
+-- The controllable variables of a node have the greatest permitted values at each instant of a past. If the node has a contract, it keeps its duty; so, if it calls nothing, it keeps its contract.
+pub record IsGreatest (program : List Item) (n : Node) (past : Past) : Type 0 where
+  pub greatest : Through (ChoosesGreatest program n) past
+  pub duty : HasContract n → KeepsDuty n past
+  pub contract : HasContract n → calls_of n ≡ [] → KeepsContract past
+
+-- What is said over inputs, newest first, is a run that the program allows; and if nothing is free in the node but its inputs, the values in this run are the greatest permitted ones.
+pub record IsSteeredRun (program : List Item) (f : List ℕ) (n : Node) (inputs said : List (List Value)) : Type 0 where
+  pub allowed : IsAllowedRun program f inputs said
+  pub greatest : KnowsAll program n → IsGreatest program n allowed.past
+
+-- So it is of what the machine of a node says over inputs of its kinds, newest first.
+abbrev pub SaysGreatest : List Item → Obc → List ℕ → Node → Type 0
+SaysGreatest program o f n =
+    (inputs : List (List Value)) → AllByRecursion (AreOfKinds (kinds_of_decls (types_of program) n.inputs)) inputs → IsSteeredRun program f n inputs (reverse (run (machine_behaviour o f) (reverse inputs)))
+
+-- so is that of each node
+abbrev pub AllSayGreatest : List Item → Obc → Type 0
+AllSayGreatest program o = (f : List ℕ) (n : Node) → node_among program f ≡ Some n → SaysGreatest program o f n
