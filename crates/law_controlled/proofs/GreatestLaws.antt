@@ -86,7 +86,7 @@ module _ (laws : SteeringLaws) (program after : List Item) (ranks : List (List �
       keeps_duty laws.allowed laws.guarantee laws.next run.choices after earlier n (laws.contracts program after order.ready order.conditions) own (safe_of after (reverse after) f n e safe has) inputs run.past rows runs reaction typed greatest
 
   module _ (o : Obc) (r : RunsAllowed program after o) where
-    steered : (f : List ℕ) (n : Node) (inputs : List (List Value)) → node_among (reverse after) f ≡ Some n → AllByRecursion (AreOfKinds (kinds_of_decls decls n.inputs)) inputs → IsSteeredRun after f n inputs (all_answers (((r.allowed).one).answers f) inputs)
+    pub steered : (f : List ℕ) (n : Node) (inputs : List (List Value)) → node_among (reverse after) f ≡ Some n → AllByRecursion (AreOfKinds (kinds_of_decls decls n.inputs)) inputs → IsSteeredRun after f n inputs (all_answers (((r.allowed).one).answers f) inputs)
     steered f n inputs e kinds =
         let answers = (r.allowed).allowed in
         let are = answers.allowed in
