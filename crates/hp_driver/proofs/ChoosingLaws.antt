@@ -14,7 +14,7 @@ use Rattle.hp_obc.specs.Machines.{Obc}
 use Rattle.hp_tree.specs.Meaning.{node_among}
 use Rattle.hp_tree.specs.Programs.{Node}
 use Rattle.hp_tree.specs.declared.program.Item.{Item}
-use Rattle.law_controlled.specs.Said.{SaidLaw}
+use Rattle.law_controlled.specs.Said.{GreatestSaidLaw}
 use Rattle.law_decided.specs.Outcomes.{AreKeptInGames}
 use Rattle.hp_driver.specs.Command.{IsSummary, not_built_line, no_node_line}
 use Rattle.hp_driver.specs.Diagnostics.{executor_line}
@@ -28,7 +28,7 @@ use Rattle.hp_driver.specs.Systems.{System, of_machine, that_tells}
 use Rattle.hp_driver.specs.Teller.{teller, telling}
 use Rattle.hp_driver.specs.declared.telling.Ending.{Ending}
 use Rattle.hp_driver.specs.declared.telling.Ending.TheVariants.{Told, Kept}
-use Rattle.hp_driver.proofs.GameLaws.{all_allowed}
+use Rattle.hp_driver.proofs.GameLaws.{all_greatest}
 use Rattle.hp_driver.proofs.ExecutionLaws.{teller_says, teller_refuses}
 use Rattle.hp_driver.proofs.MachineLaws.{machine_of, machine_mirrors}
 use Rattle.hp_driver.proofs.OutcomeLaws.{Mirrors, outcome}
@@ -128,11 +128,11 @@ module _ (node : List ℕ) (ordered : List Item) where
   pub tell_no_node : node_among ordered node ≡ None → ChoosingTell node ordered [] (no_node_line node) 1
   tell_no_node none words files file program held e kept w = Outcome.no_node_to_run (AsksToRun.to_tell w) held kept (ap (λ z. node_among z node) e ∙ none)
 
-  module _ (law : SaidLaw) (o : Obc) (machines : AreControlledMachines ordered o) where
+  module _ (law : GreatestSaidLaw) (o : Obc) (machines : AreControlledMachines ordered o) where
     abbrev pub chosen_of : (files : Option Files) (file : List ℕ) (program : List Item) (held : IsHeld files file program) → held.clocked ≡ ordered → AreKeptInGames held.clocked → AreChosen files file o
     chosen_of files file program held e kept =
         let all = subst (λ (z : List Item). AreControlledMachines z o) (sym e) machines in
-        record { program = program; held = held; kept = kept; machines = all; says = all_allowed law files file program held o all }
+        record { program = program; held = held; kept = kept; machines = all; says = all_greatest law files file program held o kept.safe all }
 
     module _ (n : Node) (named : node_among ordered node ≡ Some n) (log : List Event) (line : List ℕ) (status : ℕ) where
       pub choosing_ran : NodeRun o n node log line status → ChoosingRun node ordered log line status
@@ -153,7 +153,7 @@ module _ (out : List ℕ) (ordered : List Item) where
   pub compile_not_built : ChoosingCompile out ordered not_built_line 1
   compile_not_built words files file program held e some kept w = Outcome.not_built (AsksToChoose.to_compile w some) held kept
 
-  module _ (law : SaidLaw) (o : Obc) (machines : AreControlledMachines ordered o) where
+  module _ (law : GreatestSaidLaw) (o : Obc) (machines : AreControlledMachines ordered o) where
     pub compiled : (status : ℕ) → (status ≡ 0) ⊎ (status ≡ 5) ⊎ (status ≡ 6) → ChoosingCompile out ordered [] status
     compiled status (inl h) words files file program held e some kept w = subst (Outcome words files [] []) (sym h) (Outcome.chosen_compiled w (chosen_of out ordered law o machines files file program held e kept) some)
     compiled status (inr (inl h)) words files file program held e some kept w = subst (Outcome words files [] []) (sym h) (Outcome.chosen_not_written w (chosen_of out ordered law o machines files file program held e kept) some)

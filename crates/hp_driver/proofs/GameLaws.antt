@@ -1,12 +1,13 @@
 -- What is found of the contracts of a program that a file holds says so of their games.
 use Rattle.std.proofs.Common.{◌≢◌, ℕ, List, subst}
-use Rattle.std.specs.Prelude.{Option}
+use Rattle.std.specs.Prelude.{Option, reverse}
 use Rattle.hp_io.specs.Files.{Files}
 use Rattle.hp_tree.specs.declared.program.Item.{Item}
+use Rattle.hp_meaning.specs.Contract.Guarantee.{AllSafe}
 use Rattle.hp_obc.specs.Machines.{Obc}
 use Rattle.hp_controlled.specs.Chosen.{AreControlledMachines}
-use Rattle.law_controlled.specs.Said.{SaidLaw}
-use Rattle.law_controlled.specs.Saying.{AllSayAllowed}
+use Rattle.law_controlled.specs.Greatest.{AllSayGreatest}
+use Rattle.law_controlled.specs.Said.{GreatestSaidLaw}
 use Rattle.law_decided.specs.Laws.{IsAcceptedText}
 use Rattle.law_decided.specs.Outcomes.{AreSaid, OutcomesLaw}
 use Rattle.hp_compile.specs.Arranged.{IsArranged}
@@ -35,12 +36,13 @@ accepted_by text program clocked ranks judged arranged =
 pub are_said : OutcomesLaw → (files : Option Files) (file : List ℕ) (program : List Item) (held : IsHeld files file program) → AreSaid held.clocked
 are_said law files file program held = law held.text held.judged.program_of.tokens program held.clocked held.ranks (accepted_by held.text program held.clocked held.ranks held.judged held.arranged)
 
--- what machines say that choose, the program allows
-pub all_allowed : SaidLaw → (files : Option Files) (file : List ℕ) (program : List Item) (held : IsHeld files file program) (o : Obc) → AreControlledMachines held.clocked o → AllSayAllowed held.clocked o
-all_allowed law files file program held o machines =
+-- what machines say that choose, the program allows, with the greatest permitted values where nothing is free but the inputs
+pub all_greatest : GreatestSaidLaw → (files : Option Files) (file : List ℕ) (program : List Item) (held : IsHeld files file program) (o : Obc) → AllSafe held.clocked (reverse held.clocked) → AreControlledMachines held.clocked o
+    → AllSayGreatest held.clocked o
+all_greatest law files file program held o safe machines =
     let j = held.judged in
     let a = held.arranged in
-    law held.text j.program_of.tokens program held.clocked held.ranks o j.program_of.spelled j.program_of.read j.named j.typed j.defined a.formed a.initialised a.clocks a.ordered machines
+    law held.text j.program_of.tokens program held.clocked held.ranks o j.program_of.spelled j.program_of.read j.named j.typed j.defined a.formed a.initialised a.clocks a.ordered safe machines
 
 said_of : OutcomesLaw → (program ordered : List Item) → IsArrangedText program ordered → AreSaid ordered
 said_of law program ordered t = law t.0 t.2.program_of.tokens program ordered t.1 (accepted_by t.0 program ordered t.1 t.2 t.3)

@@ -10,7 +10,7 @@ use Rattle.hp_tree.specs.Meaning.{node_among}
 use Rattle.hp_tree.specs.Programs.{Node}
 use Rattle.hp_tree.specs.declared.program.Item.{Item}
 use Rattle.hp_verdicts.specs.Decided.{AreKept}
-use Rattle.law_controlled.specs.Said.{SaidLaw}
+use Rattle.law_controlled.specs.Said.{GreatestSaidLaw}
 use Rattle.law_decided.specs.Outcomes.{OutcomesLaw}
 use Rattle.hp_driver.specs.Controls.{has_controls}
 use Rattle.hp_driver.specs.Outcome.{IsOnly}
@@ -34,7 +34,7 @@ are_map P Q f (Ok x) h = f x.machines h
 are_map P Q f (Err s) h = tt
 
 module _ (law : OutcomesLaw) (program ordered : List Item) (kept : AreKept ordered ordered) (node : List ℕ) where
-  choosing_are : SaidLaw → has_controls program ≡ true → (o : Obc) → AreControlledMachines ordered o → (n : Node) × (node_among ordered node ≡ Some n) × IsChosen node o n → RunDecided node program ordered o
+  choosing_are : GreatestSaidLaw → has_controls program ≡ true → (o : Obc) → AreControlledMachines ordered o → (n : Node) × (node_among ordered node ≡ Some n) × IsChosen node o n → RunDecided node program ordered o
   choosing_are said some o machines found files file held same = (
     of_machine o node,
     AreRun.that_choose found.0
@@ -42,7 +42,7 @@ module _ (law : OutcomesLaw) (program ordered : List Item) (kept : AreKept order
         some (ap (λ z. node_among z node) same ∙ found.1) found.2,
   )
 
-  pub all_choosing : SaidLaw → has_controls program ≡ true → (r : Result Runnable Status) → IfOk r (λ x. AreControlledMachines ordered x.machines) →
+  pub all_choosing : GreatestSaidLaw → has_controls program ≡ true → (r : Result Runnable Status) → IfOk r (λ x. AreControlledMachines ordered x.machines) →
       IfOk r (λ x. (n : Node) × (node_among ordered node ≡ Some n) × IsChosen node x.machines n) → IfOk r (λ x. RunDecided node program ordered x.machines)
   all_choosing said some (Ok x) machines found = choosing_are said some x.machines machines found
   all_choosing said some (Err s) machines found = tt

@@ -28,7 +28,7 @@ use hp_io::{Console, Folder, Sink};
 use hp_native::{Answers, NativeExec};
 use hp_obc::Obc;
 use hp_tree::{Node, Program};
-use law_controlled::machines_of_texts_say_what_is_allowed;
+use law_controlled::machines_of_texts_choose_the_greatest;
 use std::alloc::{AllocError, Global};
 
 /// The name of the machine that also tells what the contract of a node assumes and enforces.
@@ -141,8 +141,8 @@ pub(crate) fn run_choosing<N: Answers, C: Console, E: Sink>(
     let Some(found) = node_named(ordered, node) else {
         return report_no_node(resources.alloc, diag, node);
     };
-    // A law: each line that the machines say is one that the program allows.
-    machines_of_texts_say_what_is_allowed();
+    // A law: each line that the machines say is one that the program allows; where nothing is free but inputs, with the greatest permitted values.
+    machines_of_texts_choose_the_greatest();
     match controlled_machines(resources.alloc, ordered) {
         Ok(machines) => run_node(resources, &machines, found, node, console, diag),
         Err(ControlledErr::NotBuilt) => report(diag, NOT_BUILT, Status::Refused),
@@ -241,8 +241,8 @@ pub(crate) fn tell_choosing<N: Answers, C: Console, E: Sink>(
     let Some(node) = node_named(ordered, name) else {
         return report_no_node(resources.alloc, diag, name);
     };
-    // A law: each line that the machines say is one that the program allows.
-    machines_of_texts_say_what_is_allowed();
+    // A law: each line that the machines say is one that the program allows; where nothing is free but inputs, with the greatest permitted values.
+    machines_of_texts_choose_the_greatest();
     match controlled_machines(resources.alloc, ordered) {
         Ok(machines) => tell_node(resources, &machines, node, name, console, diag),
         Err(ControlledErr::NotBuilt) => report(diag, NOT_BUILT, Status::Refused),
@@ -264,8 +264,8 @@ pub(crate) fn compile_choosing<F: Folder, E: Sink>(
     ensures reads { NothingRead (F.reads files.old) (F.reads files.new) }
     ensures writes { WriteOrPutFaults out.now (code_of result) (F.write_faults files.old) (F.write_faults files.new) (E.faults diag.old) (E.faults diag.new) }
 {
-    // A law: each line that the machines say is one that the program allows.
-    machines_of_texts_say_what_is_allowed();
+    // A law: each line that the machines say is one that the program allows; where nothing is free but inputs, with the greatest permitted values.
+    machines_of_texts_choose_the_greatest();
     match controlled_machines(alloc, ordered) {
         Ok(machines) => write_machines(alloc, &machines, out, files),
         Err(ControlledErr::NotBuilt) => report(diag, NOT_BUILT, Status::Refused),

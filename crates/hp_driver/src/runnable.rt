@@ -31,7 +31,7 @@ use hp_machines::{MachineErr, machines};
 use hp_obc::Obc;
 use hp_tree::{Node, Program};
 use hp_verdicts::decide;
-use law_controlled::machines_of_texts_say_what_is_allowed;
+use law_controlled::machines_of_texts_choose_the_greatest;
 use law_decided::outcomes_are_so;
 use law_history::streams::machines_of_texts_are_built;
 use std::alloc::Global;
@@ -114,8 +114,8 @@ fn choosing_runnable<E: Sink>(
     let Some(found) = node_named(ordered, node) else {
         return Err(report_no_node(alloc, diag, node));
     };
-    // A law: each line that the machines say is one that the program allows.
-    machines_of_texts_say_what_is_allowed();
+    // A law: each line that the machines say is one that the program allows; where nothing is free but inputs, with the greatest permitted values.
+    machines_of_texts_choose_the_greatest();
     match controlled_machines(alloc, ordered) {
         Ok(machines) => chosen_runnable(alloc, machines, found, node, diag),
         Err(ControlledErr::NotBuilt) => Err(report(diag, NOT_BUILT, Status::Refused)),
@@ -141,9 +141,9 @@ fn decided_runnable<E: Sink>(
     ensures status { IfErr result (λ status. code_of status ≢ 4) }
     ensures faults { PutFaults (ending result) (E.faults diag.old) (E.faults diag.new) }
 {
-    // Laws: what is found of contracts says so of their games, and each line that machines say is one that the program allows.
+    // Laws: what is found of contracts says so of their games, and each line that machines say is one that the program allows; where nothing is free but inputs, with the greatest permitted values.
     outcomes_are_so();
-    machines_of_texts_say_what_is_allowed();
+    machines_of_texts_choose_the_greatest();
     if let Err(error) = decide(alloc, &ordered.program) {
         return Err(report_contract(alloc, diag, &error));
     }

@@ -10,11 +10,11 @@ use Rattle.hp_driver.proofs.choosing.compile_choosing.Goals as goal
 
 pub returns-in-Ok-clause-outcome : goal.returns-in-Ok-clause-outcome
 returns-in-Ok-clause-outcome g c =
-    ([], Grows-nil (g.E.Sink.took c.args.diag.now), compiled c.args.out.now c.args.ordered.now c.machines_of_texts_say_what_is_allowed.ensures c.in-Ok.machines c.in-Ok.ensures (code_of c.write_machines.result) c.write_machines.ensures.status)
+    ([], Grows-nil (g.E.Sink.took c.args.diag.now), compiled c.args.out.now c.args.ordered.now c.machines_of_texts_choose_the_greatest.ensures c.in-Ok.machines c.in-Ok.ensures (code_of c.write_machines.result) c.write_machines.ensures.status)
 
 pub returns-in-Ok-clause-leaves : goal.returns-in-Ok-clause-leaves
 returns-in-Ok-clause-leaves g c =
-    compiled_leaves c.args.out.now c.args.ordered.now c.machines_of_texts_say_what_is_allowed.ensures c.in-Ok.machines c.in-Ok.ensures (g.F.Folder.files c.args.files.now) (g.F.Folder.files c.write_machines.new.files) (code_of c.write_machines.result) c.write_machines.ensures.leaves
+    compiled_leaves c.args.out.now c.args.ordered.now c.machines_of_texts_choose_the_greatest.ensures c.in-Ok.machines c.in-Ok.ensures (g.F.Folder.files c.args.files.now) (g.F.Folder.files c.write_machines.new.files) (code_of c.write_machines.result) c.write_machines.ensures.leaves
 
 pub returns-in-Err-NotBuilt-clause-outcome : goal.returns-in-Err-NotBuilt-clause-outcome
 returns-in-Err-NotBuilt-clause-outcome g c =

@@ -29,7 +29,7 @@ returns-in-Ok-clause-outcome g c =
       ran.2,
       ran.3,
       ran.4,
-      choosing_ran c.args.node.now c.args.ordered.now c.machines_of_texts_say_what_is_allowed.ensures c.in-Ok.machines c.in-Ok.ensures node.now (MatchOption-at_some _ _ node c.in-Some.is c.node_named.ensures) ran.0 ran.1 (code_of c.run_node.result) ran.5,
+      choosing_ran c.args.node.now c.args.ordered.now c.machines_of_texts_choose_the_greatest.ensures c.in-Ok.machines c.in-Ok.ensures node.now (MatchOption-at_some _ _ node c.in-Some.is c.node_named.ensures) ran.0 ran.1 (code_of c.run_node.result) ran.5,
     )
 
 pub returns-in-Err-NotBuilt-clause-outcome : goal.returns-in-Err-NotBuilt-clause-outcome

@@ -26,7 +26,7 @@ returns-in-Ok-clause-told g c =
       told.0,
       told.1,
       ends_map (NodeRun o node.now name []) (ChoosingRun name ordered [])
-          (λ line status. choosing_ran name ordered c.machines_of_texts_say_what_is_allowed.ensures o c.in-Ok.ensures node.now (MatchOption-at_some _ _ node c.in-Some.is c.node_named.ensures) [] line status) c.chosen_runnable.result told.0 told.2,
+          (λ line status. choosing_ran name ordered c.machines_of_texts_choose_the_greatest.ensures o c.in-Ok.ensures node.now (MatchOption-at_some _ _ node c.in-Some.is c.node_named.ensures) [] line status) c.chosen_runnable.result told.0 told.2,
     )
 
 pub returns-in-Err-NotBuilt-clause-told : goal.returns-in-Err-NotBuilt-clause-told

@@ -20,7 +20,7 @@ pub returns-then-has_controls-clause-are : goal.returns-then-has_controls-clause
 returns-then-has_controls-clause-are g c =
     let program = c.args.program.now in
     let some : has_controls program ≡ true = search rules in
-    all_choosing c.outcomes_are_so.ensures program c.args.ordered.program c.in_default.ensures.kept c.args.node.now c.machines_of_texts_say_what_is_allowed.ensures some c.choosing_runnable.result c.choosing_runnable.ensures.machines c.choosing_runnable.ensures.chosen
+    all_choosing c.outcomes_are_so.ensures program c.args.ordered.program c.in_default.ensures.kept c.args.node.now c.machines_of_texts_choose_the_greatest.ensures some c.choosing_runnable.result c.choosing_runnable.ensures.machines c.choosing_runnable.ensures.chosen
 
 pub returns-then-has_controls-clause-told : goal.returns-then-has_controls-clause-told
 returns-then-has_controls-clause-told g c =
