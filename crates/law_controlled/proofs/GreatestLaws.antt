@@ -14,7 +14,7 @@ use Rattle.hp_tree.specs.Programs.{Node, TypeDecl}
 use Rattle.hp_tree.specs.Reaction.{Reaction}
 use Rattle.hp_tree.specs.Values.{AreOf}
 use Rattle.hp_meaning.specs.Contract.ChosenRuns.{NamesApart}
-use Rattle.hp_meaning.specs.Contract.Game.{AllowedLaw, GuaranteeLaw}
+use Rattle.hp_meaning.specs.Contract.Game.{AllowedLaw, ChoiceTypesLaw, GuaranteeLaw}
 use Rattle.hp_meaning.specs.Contract.Guarantee.{AllSafe, ErasedNextLaw, HasContract, Through, Typed}
 use Rattle.law_judged.specs.Named.Scoped.{EachNode}
 use Rattle.hp_automata.specs.Lowering.{enumerations}
@@ -36,6 +36,7 @@ use Rattle.law_choices.proofs.RunsLemmas.Wholes.{typed-through}
 use Rattle.law_controlled.specs.Allowed.{RunsAllowed}
 use Rattle.law_controlled.specs.Greatest.{IsGreatest, IsSteeredRun, KeepsDuty}
 use Rattle.law_controlled.proofs.KeepingLaws.{keeps_contract, keeps_duty, runs_of, safe_of}
+use Rattle.law_controlled.proofs.RunLaws.{chosen_run}
 
 -- the laws that are joined here
 pub record SteeringLaws : Type 0 where
@@ -44,6 +45,7 @@ pub record SteeringLaws : Type 0 where
   pub allowed : AllowedLaw
   pub guarantee : GuaranteeLaw
   pub next : ErasedNextLaw
+  pub of_types : ChoiceTypesLaw
   pub contracts : ReadyContractsLaw
   pub settled : ReadySettledLaw
   pub stands : StandsLaw
@@ -100,10 +102,13 @@ module _ (laws : SteeringLaws) (program after : List Item) (ranks : List (List �
           reaction = laws.of_program answers.choices after f inputs before.past before.is_one;
           outputs = it.outputs;
         } in
+        let are_greatest : KnowsAll after n → Through (ChoosesGreatest after n) before.past =
+        (λ knows. laws.greatest program after ranks r.observers r.all order r.chooses r.mirrored r.allowed f n inputs before.past e knows kinds before.is_one) in
         record {
           allowed = run;
           greatest = λ knows.
-              let greatest = laws.greatest program after ranks r.observers r.all order r.chooses r.mirrored r.allowed f n inputs before.past e knows kinds before.is_one in
+              let greatest = are_greatest knows in
               let duty = keeps f n inputs (all_answers (((r.allowed).one).answers f) inputs) e kinds run greatest in
               record { greatest = greatest; duty = duty; contract = λ has none. keeps_contract n none before.past (duty has) };
+          is_chosen = λ knows none. chosen_run after f n none laws.of_types inputs (all_answers (((r.allowed).one).answers f) inputs) e (rows_of n inputs kinds) run (are_greatest knows);
         }

@@ -10,4 +10,5 @@ pub mod NameLaws
 pub mod ObserverLaws
 pub mod PartLaws
 pub mod PlantLaws
+pub mod RunLaws
 pub mod SaidLaws

@@ -10,6 +10,7 @@ use Rattle.hp_tree.specs.declared.program.Item.{Item}
 use Rattle.hp_tree.specs.Instant.{Past}
 use Rattle.hp_tree.specs.Meaning.{types_of, node_among}
 use Rattle.hp_tree.specs.Programs.{Node}
+use Rattle.hp_meaning.specs.Contract.ChosenRuns.{IsChosenRun}
 use Rattle.hp_meaning.specs.Contract.Duties.{duty, enforces}
 use Rattle.hp_meaning.specs.Contract.Forgetting.{erased, erase}
 use Rattle.hp_meaning.specs.Contract.FreePlaces.{calls_of}
@@ -32,10 +33,11 @@ pub record IsGreatest (program : List Item) (n : Node) (past : Past) : Type 0 wh
   pub duty : HasContract n → KeepsDuty n past
   pub contract : HasContract n → calls_of n ≡ [] → KeepsContract past
 
--- What is said over inputs, newest first, is a run that the program allows; and if nothing is free in the node but its inputs, the values in this run are the greatest permitted ones.
+-- What is said over inputs, newest first, is a run that the program allows. If nothing is free in the node but its inputs, the values in this run are the greatest permitted ones; so, if it calls nothing, it is the run of chosen values.
 pub record IsSteeredRun (program : List Item) (f : List ℕ) (n : Node) (inputs said : List (List Value)) : Type 0 where
   pub allowed : IsAllowedRun program f inputs said
   pub greatest : KnowsAll program n → IsGreatest program n allowed.past
+  pub is_chosen : KnowsAll program n → calls_of n ≡ [] → IsChosenRun program f (reverse inputs) (reverse said)
 
 -- So it is of what the machine of a node says over inputs of its kinds, newest first.
 abbrev pub SaysGreatest : List Item → Obc → List ℕ → Node → Type 0

@@ -29,7 +29,7 @@ use law_equations::fewer::nodes_are_compiled;
 use law_equations::fitting::{larger_names_are_free, names_fit};
 use law_equations::followed::names_are_own;
 use hp_meaning::contract::{
-    choice_is_permitted, duty_is_kept, reactions_are_instants_of_the_game,
+    choice_is_permitted, choices_are_values, duty_is_kept, reactions_are_instants_of_the_game,
 };
 use law_games::ready_games::{contracts_call_nothing, programs_of_texts_are_in_order, ready_nodes_are_settled};
 use law_wellmade::apart::names_are_apart;
@@ -125,6 +125,7 @@ pub fn machines_of_texts_choose_the_greatest()
     nodes_that_know_all_choose_the_greatest();
     chosen_values_make_one_reaction();
     choice_is_permitted();
+    choices_are_values();
     duty_is_kept();
     reactions_are_instants_of_the_game();
     contracts_call_nothing();

@@ -11,6 +11,7 @@ returns c =
       allowed = c.choice_is_permitted.ensures.allowed;
       guarantee = c.duty_is_kept.ensures;
       next = c.reactions_are_instants_of_the_game.ensures;
+      of_types = c.choices_are_values.ensures.choice;
       contracts = c.contracts_call_nothing.ensures.ready;
       settled = c.ready_nodes_are_settled.ensures.settled;
       stands = order.stands;
