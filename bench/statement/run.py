@@ -6,7 +6,7 @@
     run.py --list     prints the files with the lines of definitions that are reached, without comments, and the sum
     run.py --write    writes the numbers of lines into the tables of docs/ARCHITECTURE.md, and the tables of docs/PROVED.md
 
-Names are followed word by word, so a word that is also the name of a variable counts: it errs by too many. What stands in `declared` is read off the Rust types, and is counted as types."""
+Names are followed word by word, so a word that is also the name of a variable counts: it errs by too many. A field that is read of a value does not count. What stands in `declared` is read off the Rust types, and is counted as types."""
 import glob
 import json
 import os
@@ -31,6 +31,8 @@ CLAIMS = {
 LAST_PART = '\n## For proofs alone'
 START = 'crates/hp_driver/src/tool.rt', 'run_tool'
 WORD = re.compile(r"[^\s(){}\[\],;.λ:→×∷]+")
+# a field that is read of a value: what has it is reached by the value's type
+PROJECTED = re.compile(r'(?<=[^\s(λ.,])\.(?=[^\s\d.])[^\s(){}\[\],;.λ:→×∷]+')
 HEAD = re.compile(r'^\s*(?:abbrev |unfoldable |irrelevant )*(?:pub )?(?:abbrev )?(?:(?:record|data|code_by|type) )?(?:pub )?([^\s:(]+)')
 FIELD = re.compile(r'^\s+(?:pub )?([^\s:(]+)(?: [^:]*)? : ')
 
@@ -137,7 +139,7 @@ class Search:
         for own, name in re.findall(r'(\w+)\.([^\s(){}\[\],;.]+)', text):
             if own in file.modules:
                 self.follow(file.modules[own], name)
-        for word in set(WORD.findall(text)):
+        for word in set(WORD.findall(PROJECTED.sub('', text))):
             for name in (word, f'◌{word}◌', f'{word}◌'):
                 if name in file.uses:
                     self.follow(*file.uses[name])

@@ -25,17 +25,18 @@ use Rattle.law_games.proofs.GuaranteedLemmas.Apart.{ready_apart}
 use Rattle.law_history.proofs.StreamsLemmas.NamesApart.{each_found, name_found}
 use Rattle.law_wellmade.specs.Timely.Kinds.{kinds_of_decls}
 use Rattle.law_wellmade.specs.Timely.Tested.{ConstructorsDiffer}
+use Rattle.law_wellmade.proofs.BegunLemmas.Items.{types_low}
 use Rattle.law_wellmade.proofs.TestedLemmas.FittedLaws.{differ_law}
 use Rattle.law_wellmade.proofs.TimelyLemmas.KindLaws.{are_of}
 use Rattle.law_choices.specs.InTurn.AllowedRuns.{IsAllowedRun}
 use Rattle.law_choices.specs.Playing.Greatest.{ChoosesGreatest, GreatestLaw, KnowsAll}
 use Rattle.law_choices.specs.Runs.Chosen.{ChosenReaction}
 use Rattle.law_choices.specs.Runs.Laws.{ChoosesValues, OfProgramLaw}
-use Rattle.law_choices.proofs.OnClocksLemmas.Programs.{types_low}
+use Rattle.law_choices.proofs.PlayingLemmas.Holding.{runs-of}
 use Rattle.law_choices.proofs.RunsLemmas.Wholes.{typed-through}
 use Rattle.law_controlled.specs.Allowed.{RunsAllowed}
 use Rattle.law_controlled.specs.Greatest.{IsGreatest, IsSteeredRun, KeepsDuty}
-use Rattle.law_controlled.proofs.KeepingLaws.{keeps_contract, keeps_duty, runs_of, safe_of}
+use Rattle.law_controlled.proofs.KeepingLaws.{keeps_contract, keeps_duty, safe_of}
 use Rattle.law_controlled.proofs.RunLaws.{chosen_run}
 
 -- the laws that are joined here
@@ -83,7 +84,7 @@ module _ (laws : SteeringLaws) (program after : List Item) (ranks : List (List �
       let rows = rows_of n inputs kinds in
       let chosen = subst (λ x. ChosenReaction run.choices after x inputs run.past) (sym named) run.chosen in
       let reaction = subst (λ x. Reaction after x inputs run.past run.past) (sym named) run.reaction in
-      let runs = runs_of run.choices after earlier n stands apart inputs _ run.past chosen in
+      let runs = runs-of run.choices after earlier n stands apart inputs _ run.past chosen in
       let typed = typed-through run.choices after earlier n stands apart settled.0 s.accepted s.ranked s.ranked_earlier others.0 others.1 inputs run.past rows runs in
       keeps_duty laws.allowed laws.guarantee laws.next run.choices after earlier n (laws.contracts program after order.ready order.conditions) own (safe_of after (reverse after) f n e safe has) inputs run.past rows runs reaction typed greatest
 

@@ -35,13 +35,13 @@ module _ (program : List Item) (f : List ℕ) (n : Node) (none : calls_of n ≡ 
   chosen : (items : List Item) (past : Past) (now : Instant) → node_among items f ≡ Some n → ChoosesGreatest program n past now → Chosen program items f past now
   chosen [] past now e h = absurd cc
   chosen (TypeItem t ∷ items) past now e h = chosen items past now e h
-  chosen (NodeItem m ∷ items) past now e h = by (bytes_eq m.name f) e
+  chosen (NodeItem m ∷ items) past now e h = by (bytes_eq m.name f) e (λ k. chosen items past now k h)
     where
-      by : (b : Bool) → (if b then Some m else node_among items f) ≡ Some n → MatchBool b (Here items past now m) (Chosen program items f past now)
-      by true k =
+      by : (b : Bool) → (if b then Some m else node_among items f) ≡ Some n → (node_among items f ≡ Some n → Chosen program items f past now) → MatchBool b (Here items past now m) (Chosen program items f past now)
+      by true k rest =
           let same : m ≡ n = cc in
           subst (Here items past now) (sym same) (h, subst (λ (cs : List Placed). All (Below items past now) cs) (sym none) (All-nil (Below items past now)))
-      by false k = chosen items past now k h
+      by false k rest = rest k
 
   throughout : (past : Past) → node_among (reverse program) f ≡ Some n → Through (ChoosesGreatest program n) past → ChosenThroughout program f past
   throughout [] e h = tt
@@ -51,14 +51,14 @@ module _ (program : List Item) (f : List ℕ) (n : Node) (none : calls_of n ≡ 
   controls_fit law [] h = tt
   controls_fit law (now ∷ past) h = (law program n (controls_at n now) h.1.fits, controls_fit law past h.0)
 
-  inputs_fit : (rows : List (List Value)) → AllByRecursion (AreOf (types_of program) n.inputs) rows → Each (AreOf (types_of program) n.inputs) rows
-  inputs_fit [] h = tt
-  inputs_fit (row ∷ rows) h = (h.0, inputs_fit rows h.1)
+  each_input : (rows : List (List Value)) → AllByRecursion (AreOf (types_of program) n.inputs) rows → Each (AreOf (types_of program) n.inputs) rows
+  each_input [] h = tt
+  each_input (row ∷ rows) h = (h.0, each_input rows h.1)
 
   pub chosen_run : ChoiceTypesLaw → (inputs said : List (List Value)) → node_among (reverse program) f ≡ Some n → AllByRecursion (AreOf (types_of program) n.inputs) inputs → (run : IsAllowedRun program f inputs said)
       → Through (ChoosesGreatest program n) run.past → IsChosenRun program f (reverse inputs) (reverse said)
   chosen_run law inputs said e fit run greatest =
-      let reaction : NodeReaction program f inputs run.past run.past = record { node = n; is_node = e; inputs_fit = inputs_fit inputs fit; controls_fit = controls_fit law run.past greatest; reaction = run.reaction } in
+      let reaction : NodeReaction program f inputs run.past run.past = record { node = n; is_node = e; inputs_fit = each_input inputs fit; controls_fit = controls_fit law run.past greatest; reaction = run.reaction } in
       record {
         frees = run.past;
         past = run.past;
