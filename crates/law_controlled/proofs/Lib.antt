@@ -12,3 +12,4 @@ pub mod PartLaws
 pub mod PlantLaws
 pub mod RunLaws
 pub mod SaidLaws
+pub mod WorkedLaws

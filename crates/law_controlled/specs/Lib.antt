@@ -8,3 +8,4 @@ pub mod Parts
 pub mod Program
 pub mod Saying
 pub mod Said
+pub mod Worked

@@ -11,6 +11,7 @@ ghost use Rattle.law_controlled.specs.Observers.{ObserversSuitLaw};
 ghost use Rattle.law_controlled.specs.Parts.{MadePartLaw};
 ghost use Rattle.law_controlled.specs.Said.{GreatestSaidLaw, SaidLaw};
 ghost use Rattle.law_controlled.specs.Program.{ChoosingNamesLaw, MadeNamesLaw, MadeNodesLaw};
+ghost use Rattle.law_controlled.specs.Worked.{HeaterLaw};
 
 use hp_form::regular::regular_equations_have_form;
 use law_choices::in_turn::{
@@ -134,3 +135,8 @@ pub fn machines_of_texts_choose_the_greatest()
     programs_of_texts_are_in_order();
     contracts_of_texts_can_be_observed();
 }
+
+/// Of a heater with three modes, one of which is chosen, nothing is free but the inputs.
+pub fn a_worked_heater()
+    ensures { HeaterLaw }
+{}
