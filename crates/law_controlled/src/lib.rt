@@ -1,4 +1,4 @@
-//! Laws: each line that the machines of a program say whose nodes choose the values of their controllable variables is one that the program allows. `hp_driver` uses it for `run` and `compile`.
+//! Laws: each line that the machines of a program say whose nodes choose the values of their controllable variables is one that the program allows; where nothing is free in a node but its inputs, it is one of a run of the greatest permitted values. `hp_driver` uses it for `run` and `compile`.
 //!
 //! The functions here do nothing: each is a law, which its contract states.
 #![tactic(auto)]
@@ -14,6 +14,9 @@ ghost use Rattle.law_controlled.specs.Program.{ChoosingNamesLaw, MadeNamesLaw, M
 ghost use Rattle.law_controlled.specs.Worked.{HeaterLaw};
 
 use hp_form::regular::regular_equations_have_form;
+use hp_meaning::contract::{
+    choice_is_permitted, choices_are_values, duty_is_kept, reactions_are_instants_of_the_game,
+};
 use law_choices::in_turn::{
     a_node_stands_for_each, nodes_that_choose_answer_as_the_program_allows,
     nodes_that_choose_stand_in_turn, observers_of_contracts_suit, programs_of_texts_may_choose,
@@ -22,17 +25,16 @@ use law_choices::in_turn::{
 use law_choices::observed::{
     contracts_of_texts_can_be_observed, observers_can_be_compiled, tests_of_observers_are_typed,
 };
+use law_choices::part::{parts_keep_form, parts_keep_reactions};
 use law_choices::playing::{drawn_machines_mirror, nodes_that_know_all_choose_the_greatest};
 use law_choices::runs::chosen_values_make_one_reaction;
-use law_choices::part::{parts_keep_form, parts_keep_reactions};
 use law_choices::undisturbed::controls_are_apart;
 use law_equations::fewer::nodes_are_compiled;
 use law_equations::fitting::{larger_names_are_free, names_fit};
 use law_equations::followed::names_are_own;
-use hp_meaning::contract::{
-    choice_is_permitted, choices_are_values, duty_is_kept, reactions_are_instants_of_the_game,
+use law_games::ready_games::{
+    contracts_call_nothing, programs_of_texts_are_in_order, ready_nodes_are_settled,
 };
-use law_games::ready_games::{contracts_call_nothing, programs_of_texts_are_in_order, ready_nodes_are_settled};
 use law_wellmade::apart::names_are_apart;
 
 /// The part that the compiler makes of a node is a part of it, so it answers as the node does.
