@@ -16,7 +16,7 @@ use Rattle.hp_complete.specs.Made.{AreMadeOf}
 use Rattle.law_wellmade.specs.Begun.Firsts.{firsts_among}
 use Rattle.law_wellmade.specs.Begun.Laws.{Begins}
 use Rattle.law_wellmade.proofs.BegunLemmas.Beginning.{all_fit, bodies_ready, calls_begun}
-use Rattle.law_wellmade.proofs.RegularLemmas.GoodPrograms.{NodeGood}
+use Rattle.law_wellmade.proofs.RegularLemmas.GoodPrograms.{NodeGood, all_made_good, nodes_good}
 use Rattle.law_choices.specs.Closed.Compilable.{HasTypesOf, IsCompilable}
 use Rattle.law_choices.proofs.ClosedLemmas.ClosedLaws.{NodeFilled, all_made_filled, nodes_filled}
 use Rattle.law_wellmade.proofs.BegunLemmas.Items.{each_plain}
