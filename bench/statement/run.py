@@ -1,10 +1,11 @@
 #!/usr/bin/env python3
-"""The definitions that the contract of `run_tool` rests on, found by following names from its clauses, file by file with their lines.
+"""The definitions that the contracts of `run_tool` and of `run_in_memory` rest on, found by following names from their clauses, file by file with their lines.
 
     run.py            compares what it finds with docs/ARCHITECTURE.md: each file that is reached has to be listed there. Its status is 1 where one is not, where one is listed that is not reached, or where figures
                       of docs/ARCHITECTURE.md or docs/PROVED.md are not those of now
-    run.py --list     prints the files with the lines of definitions that are reached, without comments, and the sum
-    run.py --write    writes the numbers of lines into the tables of docs/ARCHITECTURE.md, and the tables of docs/PROVED.md
+    run.py --list     prints the files below `run_tool` with the lines of definitions that are reached, without comments, and the sum
+    run.py --claim    prints the same below `run_in_memory`
+    run.py --write    writes the numbers of lines into the tables of docs/ARCHITECTURE.md, its last table, and the tables of docs/PROVED.md
 
 Names are followed word by word, so a word that is also the name of a variable counts: it errs by too many. A field that is read of a value does not count. What stands in `declared` is read off the Rust types, and is counted as types."""
 import glob
@@ -30,6 +31,8 @@ CLAIMS = {
 }
 LAST_PART = '\n## For proofs alone'
 START = 'crates/hp_driver/src/tool.rt', 'run_tool'
+CLAIM = 'crates/hp_driver/src/memory.rt', 'run_in_memory'
+CLAIM_MARK = '<!-- This table is written by bench/statement/run.py --write. -->\n'
 WORD = re.compile(r"[^\s(){}\[\],;.λ:→×∷]+")
 # a field that is read of a value: what has it is reached by the value's type
 PROJECTED = re.compile(r'(?<=[^\s(λ.,])\.(?=[^\s\d.])[^\s(){}\[\],;.λ:→×∷]+')
@@ -149,7 +152,7 @@ class Search:
     def start(self, path, function):
         text = open(f'{TOP}/{path}', encoding='utf-8').read()
         uses = {name: (module, origin) for module, names in re.findall(r'^ghost use Rattle\.([\w.]+)\.\{(.*)\};', text, re.M) for name, origin in names_of(names)}
-        clauses = re.search(rf'pub fn {function}<.*?^{{', text, re.M | re.S).group(0)
+        clauses = re.search(rf'pub fn {function}[<(].*?^{{', text, re.M | re.S).group(0)
         for word in set(WORD.findall(clauses)):
             if word in uses:
                 self.follow(*uses[word])
@@ -157,9 +160,9 @@ class Search:
             self.read(*self.ahead.pop())
 
 
-def found():
+def found(start):
     search = Search()
-    search.start(*START)
+    search.start(*start)
     lines = {path: sum(len(search.files[path].items[it]) for it in items) for path, items in search.reached.items()}
     return lines, search.types
 
@@ -195,16 +198,31 @@ def parts(lines):
     return found
 
 
+def listing(lines):
+    """The last table of docs/ARCHITECTURE.md: the files below the claim, crate by crate."""
+    files = {}
+    for path in lines:
+        _, crate, _, name = path.split('/', 3)
+        files.setdefault(crate, []).append(name.removesuffix('.antt'))
+    yield '| files | lines |'
+    yield '|---|---|'
+    for crate in sorted(files):
+        names = ', '.join(f'`{it}`' for it in sorted(files[crate]))
+        yield f'| `{crate}`: {names} | {sum(lines[f"crates/{crate}/specs/{it}.antt"] for it in files[crate])} |'
+    yield f'| all, in {len(lines)} files | {sum(lines.values()):,} |'
+
+
 def edits_of(crate):
     return len(glob.glob(f'{TOP}/crates/{crate}/must-fail/*.edit')), len(glob.glob(f'{TOP}/docs/edits/{crate}/*.edit'))
 
 
-def tables(lines, types):
+def tables(lines, types, claim):
     yield '| part of [ARCHITECTURE.md](ARCHITECTURE.md) | lines of definitions |'
     yield '|---|---|'
     for name, numbers in parts(lines).items():
         yield f'| {name} | {sum(numbers):,} |'
     yield f'| all, in {len(lines)} files, beside {len(types)} types of the code | {sum(lines.values()):,} |'
+    yield f'| of these below `Claim`, with it, in {len(claim)} files | {sum(claim.values()):,} |'
     yield ''
     yield '## What shows it besides'
     yield ''
@@ -218,23 +236,31 @@ def tables(lines, types):
         yield f'| {claim} | {count} | {gate} | {hand} |'
 
 
-def pages(lines, types):
+def pages(lines, types, claim):
     """Each page that has figures: its path, its text, and the text with the figures of now."""
     text = open(PAGE, encoding='utf-8').read()
-    yield PAGE, text, counted(text, lines)
+    yield PAGE, text, counted(text.split(CLAIM_MARK)[0], lines) + CLAIM_MARK + '\n'.join(listing(claim)) + '\n'
     text = open(SHORT_PAGE, encoding='utf-8').read()
-    yield SHORT_PAGE, text, text.split(MARK)[0] + MARK + '\n'.join(tables(lines, types)) + '\n'
+    yield SHORT_PAGE, text, text.split(MARK)[0] + MARK + '\n'.join(tables(lines, types, claim)) + '\n'
+
+
+def print_list(lines, types):
+    for path in sorted(lines):
+        print(f'{lines[path]:6} {path}')
+    print(f'{sum(lines.values())} lines of definitions in {len(lines)} files, and {len(types)} types')
 
 
 def main(words):
-    lines, types = found()
+    lines, types = found(START)
+    claim, claim_types = found(CLAIM)
     if words == ['--list']:
-        for path in sorted(lines):
-            print(f'{lines[path]:6} {path}')
-        print(f'{sum(lines.values())} lines of definitions in {len(lines)} files, and {len(types)} types')
+        print_list(lines, types)
+        return 0
+    if words == ['--claim']:
+        print_list(claim, claim_types)
         return 0
     stale = []
-    for path, text, now in pages(lines, types):
+    for path, text, now in pages(lines, types, claim):
         if text != now and words == ['--write']:
             with open(path, 'w', encoding='utf-8') as file:
                 file.write(now)
@@ -246,7 +272,7 @@ def main(words):
         print(f'{path}: reached from run_tool, and not listed in docs/ARCHITECTURE.md')
     for path in more:
         print(f'{path}: listed in docs/ARCHITECTURE.md, and not reached from run_tool')
-    print(f'statement: {sum(lines.values())} lines in {len(lines)} files')
+    print(f'statement: {sum(lines.values())} lines in {len(lines)} files; the claim in memory: {sum(claim.values())} in {len(claim)}')
     return 1 if lacking or more or stale else 0
 
 

@@ -8,7 +8,7 @@ use Rattle.hp_lines.specs.declared.read.LineErr.{LineErr}
 use Rattle.hp_lines.specs.declared.read.TheConstants.{MAX_LINE}
 use Rattle.hp_driver.specs.LineFaults.{by_words, bad}
 use Rattle.hp_driver.specs.Lines.{whole_lines, last_piece, last_line, lines_behind, lines_of, IsPiece}
-use Rattle.hp_driver.specs.Values.{reading, inputs_on, first_bad}
+use Rattle.hp_driver.specs.Values.{reading, inputs_on, inputs_until, first_bad}
 use Rattle.hp_driver.specs.declared.trace_limits.BadLine.{BadLine}
 use Rattle.hp_driver.specs.declared.trace_limits.Fault.{Fault}
 use Rattle.hp_driver.specs.declared.trace_limits.Fault.TheVariants.{Long, Many}
@@ -19,6 +19,11 @@ use Rattle.hp_driver.proofs.LineLaws.{IsKnown, known_begins, last_piece_is_piece
 abbrev behind : ℕ → Result (List Value) Fault → Option BadLine → Option BadLine
 behind n (Ok values) later = later
 behind n (Err fault) later = Some (bad n fault)
+
+-- and of the inputs on the others
+abbrev before_fault : Result (List Value) Fault → List (List Value) → List (List Value)
+before_fault (Ok values) later = values ∷ later
+before_fault (Err fault) later = []
 
 module _ (kinds : List KindData) where
   first_by : (n : ℕ) (line : List ℕ) (lines : List (List ℕ)) → first_bad kinds n (line ∷ lines) ≡ behind n (inputs_on kinds n line) (first_bad kinds (suc n) lines)
@@ -67,6 +72,10 @@ module _ (kinds : List KindData) where
   longer n piece more (inl h) = inl (omega (arith, length-append piece more, h))
   longer n piece more (inr h) = inr (omega (arith, h))
 
+  known_line : (n : ℕ) (piece : List ℕ) → IsKnown n piece → (MAX_LINE < length piece) ⊎ (MAX_LINES < suc n)
+  known_line n piece (inl h) = inl h
+  known_line n piece (inr h) = inr (omega (arith, h))
+
   known_by : (c d : Bool) → (c || d) ≡ true → (c ≡ true) ⊎ (d ≡ true)
   known_by true d e = inl refl
   known_by false d e = inr e
@@ -104,3 +113,105 @@ module _ (kinds : List KindData) where
   -- what was heard of an input whose lines are good
   pub good_so_far : (bytes more : List ℕ) → first_bad kinds 1 (lines_of true (bytes ++ more)) ≡ None → first_bad kinds 1 (lines_of false bytes) ≡ None
   good_so_far bytes more h = good_in (first_bad kinds 1 (whole_lines bytes)) bytes more refl h
+
+  -- ---- what was heard up to the first line with a fault
+
+  until_by : (n : ℕ) (line : List ℕ) (lines : List (List ℕ)) → inputs_until kinds n (line ∷ lines) ≡ before_fault (inputs_on kinds n line) (inputs_until kinds (suc n) lines)
+  until_by n line lines = by (inputs_on kinds n line)
+    where
+      by : (r : Result (List Value) Fault) → elim r [ Ok values ↦ values ∷ inputs_until kinds (suc n) lines | Err fault ↦ [] ] ≡ before_fault r (inputs_until kinds (suc n) lines)
+      by (Ok values) = refl
+      by (Err fault) = refl
+
+  until_kept_by : (n : ℕ) (r : Result (List Value) Fault) (rest : Option BadLine) (xs ys : List (List Value)) (bad_line : BadLine) → (rest ≡ Some bad_line → ys ≡ xs) → behind n r rest ≡ Some bad_line → before_fault r ys ≡ before_fault r xs
+  until_kept_by n (Ok values) rest xs ys bad_line h e = ap (λ z. values ∷ z) (h e)
+  until_kept_by n (Err fault) rest xs ys bad_line h e = refl
+
+  -- nothing behind the first line with a fault is an input
+  until_kept : (n : ℕ) (xs ys : List (List ℕ)) (bad_line : BadLine) → first_bad kinds n xs ≡ Some bad_line → inputs_until kinds n (xs ++ ys) ≡ inputs_until kinds n xs
+  until_kept n [] ys bad_line e = absurd (cc)
+  until_kept n (line ∷ xs) ys bad_line e =
+      until_by n line (xs ++ ys)
+      ∙ until_kept_by n (inputs_on kinds n line) (first_bad kinds (suc n) xs) (inputs_until kinds (suc n) xs) (inputs_until kinds (suc n) (xs ++ ys)) bad_line (until_kept (suc n) xs ys bad_line) (sym (first_by n line xs) ∙ e)
+      ∙ sym (until_by n line xs)
+
+  until_good_by : (n : ℕ) (r : Result (List Value) Fault) (rest : Option BadLine) (xs ys zs : List (List Value)) → (rest ≡ None → zs ≡ xs ++ ys) → behind n r rest ≡ None → before_fault r zs ≡ before_fault r xs ++ ys
+  until_good_by n (Ok values) rest xs ys zs h e = ap (λ z. values ∷ z) (h e)
+  until_good_by n (Err fault) rest xs ys zs h e = absurd (cc)
+
+  -- the inputs behind good lines
+  until_good : (n : ℕ) (xs ys : List (List ℕ)) → first_bad kinds n xs ≡ None → inputs_until kinds n (xs ++ ys) ≡ inputs_until kinds n xs ++ inputs_until kinds (n + length xs) ys
+  until_good n [] ys e = ap (λ m. inputs_until kinds m ys) (omega arith)
+  until_good n (line ∷ xs) ys e =
+      until_by n line (xs ++ ys)
+      ∙ until_good_by n (inputs_on kinds n line) (first_bad kinds (suc n) xs) (inputs_until kinds (suc n) xs) (inputs_until kinds (suc n + length xs) ys) (inputs_until kinds (suc n) (xs ++ ys)) (until_good (suc n) xs ys) (sym (first_by n line xs) ∙ e)
+      ∙ ap (λ z. z ++ inputs_until kinds (suc n + length xs) ys) (sym (until_by n line xs))
+      ∙ ap (λ m. inputs_until kinds n (line ∷ xs) ++ inputs_until kinds m ys) (omega arith)
+
+  -- the fault of a line that is too long, or one too many, is told by its number alone
+  fault_by : (n : ℕ) (many long : Bool) (r : Result (List Value) LineErr) → (long ≡ true) ⊎ (many ≡ true) →
+      (if many then Err Many else (if long then Err Long else by_words r)) ≡ Err (if many then Many else Long)
+  fault_by n true long r h = refl
+  fault_by n false true r h = refl
+  fault_by n false false r (inl h) = absurd (cc)
+  fault_by n false false r (inr h) = absurd (cc)
+
+  abbrev known_fault : ℕ → Fault
+  known_fault n = if nat_lt MAX_LINES n then Many else Long
+
+  fault_known : (n : ℕ) (line : List ℕ) → (MAX_LINE < length line) ⊎ (MAX_LINES < n) → inputs_on kinds n line ≡ Err (known_fault n)
+  fault_known n line h = fault_by n (nat_lt MAX_LINES n) (nat_lt MAX_LINE (length line)) (reading kinds line) (elim h [ inl p ↦ inl (lt-ltb MAX_LINE (length line) p) | inr p ↦ inr (lt-ltb MAX_LINES n p) ])
+
+  -- such a line is the first with a fault, and no input is before it
+  first_known : (n : ℕ) (line : List ℕ) (lines : List (List ℕ)) → (MAX_LINE < length line) ⊎ (MAX_LINES < n) → (first_bad kinds n (line ∷ lines) ≡ Some (bad n (known_fault n))) × (inputs_until kinds n (line ∷ lines) ≡ [])
+  first_known n line lines h =
+      let fault = fault_known n line h in (
+        first_by n line lines ∙ ap (λ r. behind n r (first_bad kinds (suc n) lines)) fault,
+        until_by n line lines ∙ ap (λ r. before_fault r (inputs_until kinds (suc n) lines)) fault,
+      )
+
+  -- the first lines with a fault of two lists of lines are one, and so are the inputs before it
+  abbrev AreSame : ℕ → List (List ℕ) → List (List ℕ) → Type 0
+  AreSame n xs ys = (first_bad kinds n ys ≡ first_bad kinds n xs) × (inputs_until kinds n ys ≡ inputs_until kinds n xs)
+
+  piece_same_by : (d : Bool) (n : ℕ) (b : ℕ) (piece more : List ℕ) (bad_line : BadLine) → IsPiece (b ∷ piece) → (nat_lt MAX_LINE (length (b ∷ piece)) || nat_le MAX_LINES n) ≡ d →
+      first_bad kinds (suc n) (if d then (b ∷ piece) ∷ [] else []) ≡ Some bad_line → AreSame (suc n) (if d then (b ∷ piece) ∷ [] else []) (lines_behind n true ((b ∷ piece) ++ more))
+  piece_same_by false n b piece more bad_line p e h = absurd (cc)
+  piece_same_by true n b piece more bad_line p e h =
+      let k = known n (b ∷ piece) e in
+      let begins = known_begins true n b piece more p k in
+      let line = (b ∷ piece) ++ begins.rest_of_line in
+      let heard = first_known (suc n) (b ∷ piece) [] (known_line n (b ∷ piece) k) in
+      let all = first_known (suc n) line begins.others (longer n (b ∷ piece) begins.rest_of_line k) in
+      (ap (first_bad kinds (suc n)) begins.is ∙ all.0 ∙ sym heard.0, ap (inputs_until kinds (suc n)) begins.is ∙ all.1 ∙ sym heard.1)
+
+  piece_same : (n : ℕ) (piece more : List ℕ) (bad_line : BadLine) → IsPiece piece → first_bad kinds (suc n) (last_line false n piece) ≡ Some bad_line → AreSame (suc n) (last_line false n piece) (lines_behind n true (piece ++ more))
+  piece_same n [] more bad_line p h = absurd (cc)
+  piece_same n (b ∷ piece) more bad_line p h = piece_same_by (nat_lt MAX_LINE (length (b ∷ piece)) || nat_le MAX_LINES n) n b piece more bad_line p refl h
+
+  same_in : (whole : Option BadLine) (bytes more : List ℕ) (bad_line : BadLine) → first_bad kinds 1 (whole_lines bytes) ≡ whole → first_bad kinds 1 (lines_of false bytes) ≡ Some bad_line → AreSame 1 (lines_of false bytes) (lines_of true (bytes ++ more))
+  same_in (Some found) bytes more bad_line e h =
+      let m = 0 + length (whole_lines bytes) in
+      let heard = last_line false m (last_piece bytes) in
+      let all = lines_behind m true (last_piece bytes ++ more) in
+      let split = lines_behind-append 0 true bytes more in (
+        ap (first_bad kinds 1) split ∙ kept 1 (whole_lines bytes) all found e ∙ sym (kept 1 (whole_lines bytes) heard found e),
+        ap (inputs_until kinds 1) split ∙ until_kept 1 (whole_lines bytes) all found e ∙ sym (until_kept 1 (whole_lines bytes) heard found e),
+      )
+  same_in None bytes more bad_line e h =
+      let m = 0 + length (whole_lines bytes) in
+      let heard = last_line false m (last_piece bytes) in
+      let all = lines_behind m true (last_piece bytes ++ more) in
+      let split = lines_behind-append 0 true bytes more in
+      let next : 1 + length (whole_lines bytes) ≡ suc m = omega arith in
+      let fault : first_bad kinds (suc m) heard ≡ Some bad_line = sym (ap (λ k. first_bad kinds k heard) next) ∙ sym (after_good 1 (whole_lines bytes) heard e) ∙ h in
+      let same = piece_same m (last_piece bytes) more bad_line (last_piece_is_piece bytes) fault in (
+        ap (first_bad kinds 1) split ∙ after_good 1 (whole_lines bytes) all e ∙ ap (λ k. first_bad kinds k all) next ∙ same.0 ∙ sym (ap (λ k. first_bad kinds k heard) next) ∙ sym (after_good 1 (whole_lines bytes) heard e),
+        ap (inputs_until kinds 1) split ∙ until_good 1 (whole_lines bytes) all e ∙ ap (λ k. inputs_until kinds 1 (whole_lines bytes) ++ inputs_until kinds k all) next ∙ ap (λ z. inputs_until kinds 1 (whole_lines bytes) ++ z) same.1
+            ∙ sym (ap (λ k. inputs_until kinds 1 (whole_lines bytes) ++ inputs_until kinds k heard) next) ∙ sym (until_good 1 (whole_lines bytes) heard e),
+      )
+
+  -- where what was heard has a line with a fault, the first one of the whole input is the same, and so are the inputs before it
+  pub same_up_to : (bytes more : List ℕ) (bad_line : BadLine) → first_bad kinds 1 (lines_of false bytes) ≡ Some bad_line →
+      (first_bad kinds 1 (lines_of true (bytes ++ more)) ≡ first_bad kinds 1 (lines_of false bytes)) × (inputs_until kinds 1 (lines_of true (bytes ++ more)) ≡ inputs_until kinds 1 (lines_of false bytes))
+  same_up_to bytes more bad_line h = same_in (first_bad kinds 1 (whole_lines bytes)) bytes more bad_line refl h

@@ -34,3 +34,4 @@ pub mod SegmentWords
 pub mod RunnableLaws
 pub mod SegmentCalls
 pub mod CheckpointExamples
+pub mod ClaimLaws

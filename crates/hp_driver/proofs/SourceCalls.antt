@@ -287,10 +287,10 @@ none_reverse (x ∷ hs) f h = by (bytes_eq x.0 f) refl h (λ k. none_reverse hs 
         subst (λ zs. none_in zs f) (sym (reverse-append (x ∷ []) hs))
         (none_behind (reverse hs) (x ∷ []) f (rest k) (ap (λ d. if d then Some x.1 else None) e))
 
-first_heading : (h k : Heading) (hs ks : List Heading) → h ∷ hs ≡ k ∷ ks → h ≡ k
+pub first_heading : (h k : Heading) (hs ks : List Heading) → h ∷ hs ≡ k ∷ ks → h ≡ k
 first_heading h k hs ks e = cc
 
-other_headings : (h k : Heading) (hs ks : List Heading) → h ∷ hs ≡ k ∷ ks → hs ≡ ks
+pub other_headings : (h k : Heading) (hs ks : List Heading) → h ∷ hs ≡ k ∷ ks → hs ≡ ks
 other_headings h k hs ks e = cc
 
 -- where no machine has a name, no node has it

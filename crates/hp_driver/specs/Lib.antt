@@ -18,6 +18,7 @@ pub mod Given
 pub mod PastOutcome
 pub mod Outcome
 pub mod Checkpoints
+pub mod Claim
 pub mod WrittenText
 pub mod Segments
 pub mod Restoring

@@ -9,6 +9,7 @@ mod execution;
 mod follow;
 mod laws;
 mod machines;
+mod memory;
 mod ordering;
 mod past;
 mod refuse;
@@ -29,6 +30,7 @@ pub use laws::{
     checkpoints_are_memories, plain_programs_are_good, stopped_runs_are_joined,
     written_certificates_are_good, written_machines_agree_with_nodes,
 };
+pub use memory::{Answer, run_in_memory};
 pub use ordering::run_tool_with_order;
 pub use resources::Extras;
 pub use status::Status;

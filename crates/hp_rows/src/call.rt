@@ -1,21 +1,16 @@
 //! One call of the tool over objects in memory, or over the system.
 use crate::bytes::add_text;
-use crate::fields::{is_set, numbers_in, object_in, strings_in, text_in};
+use crate::fields::{has_only, is_set, numbers_in, object_in, strings_in, text_in};
 use crate::malformed::Malformed;
 use crate::stream::Stream;
-use hp_driver::{run_on_system, run_tool, run_tool_with_order};
+use hp_driver::{Answer, run_in_memory, run_on_system, run_tool, run_tool_with_order};
 use hp_io::{MemConsole, MemFolder, MemSink};
 use serde_json::Value;
 use std::alloc::Global;
 use std::rt::Files;
 
-/// What a call did.
-#[derive(Drop)]
-pub struct Done {
-    pub said: Vec<u8>,
-    pub diagnostics: Vec<u8>,
-    pub status: u8,
-}
+/// The fields of a row in which no call of the outside fails or is bounded.
+const CALM_FIELDS: [&str; 3] = ["row", "files", "steps"];
 
 /// The greatest number of bytes of each take.
 fn gives(alloc: Global, row: &Value) -> Result<Vec<usize>, Malformed> {
@@ -55,37 +50,52 @@ pub fn folder(alloc: Global, row: &Value) -> Result<MemFolder, Malformed> {
     Ok(MemFolder::new(files(alloc, row)?, fails))
 }
 
-/// Calls the tool as a step of a row says.
-pub fn call(
+/// Calls the tool over objects that may fail, or with natives.
+fn call_over_objects(
     alloc: Global,
     row: &Value,
     step: &Value,
+    words: &[String],
     files: &mut MemFolder,
-) -> Result<Done, Malformed> {
-    let words = strings_in(alloc, step, "words")?;
+) -> Result<Answer, Malformed> {
     let mut console = console(alloc, row, step)?;
     let mut sink = MemSink::new(numbers_in(alloc, row, "sink_fails")?);
     let status = if is_set(step, "natives") {
-        run_tool_with_order(alloc, words.as_slice(), files, &mut console, &mut sink)
+        run_tool_with_order(alloc, words, files, &mut console, &mut sink)
     } else {
-        run_tool(alloc, words.as_slice(), files, &mut console, &mut sink)
+        run_tool(alloc, words, files, &mut console, &mut sink)
     };
-    Ok(Done {
+    Ok(Answer {
         said: console.said(alloc)?,
         diagnostics: Vec::from_slice(alloc, sink.bytes())?,
         status,
     })
 }
 
+/// Calls the tool as a step of a row says.
+pub fn call(
+    alloc: Global,
+    row: &Value,
+    step: &Value,
+    files: &mut MemFolder,
+) -> Result<Answer, Malformed> {
+    let words = strings_in(alloc, step, "words")?;
+    if is_set(step, "natives") || !has_only(row, &CALM_FIELDS) {
+        return call_over_objects(alloc, row, step, words.as_slice(), files);
+    }
+    let input = text_in(alloc, step, "input")?;
+    Ok(run_in_memory(alloc, words.as_slice(), files, input))
+}
+
 /// Calls the tool as a step of a row says, over the files of the system and streams that stand in for the standard ones.
-pub fn call_on_system(rt: &(impl Files + AllocGlobal), step: &Value) -> Result<Done, Malformed> {
+pub fn call_on_system(rt: &(impl Files + AllocGlobal), step: &Value) -> Result<Answer, Malformed> {
     let alloc = rt.alloc();
     let words = strings_in(alloc, step, "words")?;
     let input = text_in(alloc, step, "input")?;
     let output = Stream::new(alloc, input.as_slice());
     let errors = Stream::new(alloc, &[]);
     let status = run_on_system(alloc, words.as_slice(), rt, &output, &errors);
-    Ok(Done {
+    Ok(Answer {
         said: output.into_arrived(),
         diagnostics: errors.into_arrived(),
         status,

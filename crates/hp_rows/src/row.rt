@@ -1,9 +1,10 @@
 //! Whether a row holds: its calls, one after the other over one folder, against what it wants of each.
 use crate::bytes::add_text;
-use crate::call::{Done, call, call_on_system, folder};
+use crate::call::{call, call_on_system, folder};
 use crate::fault::{Fault, differs};
 use crate::fields::{has_only, is_set, items_in, number_in, object_in, text_in};
 use crate::malformed::Malformed;
+use hp_driver::Answer;
 use hp_io::{Folder, MemFolder};
 use serde_json::Value;
 use std::alloc::Global;
@@ -116,7 +117,7 @@ fn keep_rest(step: &Value, diagnostics: &[u8], files: &mut MemFolder) -> Result<
     Ok(())
 }
 
-fn compare_done(alloc: Global, step: &Value, done: &Done, files: &MemFolder) -> Result<(), Fault> {
+fn compare_done(alloc: Global, step: &Value, done: &Answer, files: &MemFolder) -> Result<(), Fault> {
     compare_status(alloc, step, done.status)?;
     compare_diagnostics(alloc, step, done.diagnostics.as_slice())?;
     compare_said(alloc, step, done.said.as_slice())?;

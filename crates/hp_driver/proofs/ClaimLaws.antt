@@ -1,0 +1,495 @@
+-- From what the call did, as `run_tool` has it, to the rows of the claim.
+use Rattle.std.proofs.Common.{◌≡◌, ◌≢◌, ◌⊎◌, ◌+◌, ◌*◌, inl, inr, ℕ, Bool, true, false, List, [], ◌∷◌, ◌++◌, map, length, get_or, Option, None, Some, refl, sym, ap, subst, ◌∙◌, arith, if◌then◌else◌}
+use Rattle.std.specs.Prelude.{option_map}
+use Rattle.std.specs.FinMap as finmap
+use Rattle.std.specs.Option.{option_copied, unwrap_or}
+use Rattle.std.specs.Str.{bytes_eq}
+use Rattle.std.specs.Borrow.{Bor}
+use Rattle.std.proofs.lemmas.Bool.Decides.{eqb_tells}
+use Rattle.std.proofs.lemmas.List.{append-nil}
+use Rattle.hp_base.specs.declared.limit.What.TheVariants.{Size, Text}
+use Rattle.hp_boolx.specs.Machine.{Machine as BoolMachine}
+use Rattle.hp_io.specs.Files.{Files}
+use Rattle.hp_io.specs.declared.console.Event.{Event}
+use Rattle.hp_io.specs.declared.console.Event.TheVariants.{Asked, Heard, Ended, Said}
+use Rattle.hp_io.specs.Events.{put_events, said_bytes}
+use Rattle.hp_tree.specs.declared.program.Item.{Item}
+use Rattle.hp_tree.specs.declared.program.Item.TheVariants.{TypeItem, NodeItem}
+use Rattle.hp_tree.specs.Meaning.{node_among}
+use Rattle.hp_tree.specs.Programs.{Node}
+use Rattle.hp_machines.specs.Machined.{heading_of_machine, heading_of_node, headings_of}
+use Rattle.hp_obc.specs.Form.{machine_named}
+use Rattle.hp_obc.specs.Machines.{Machine, Obc}
+use Rattle.hp_cert.specs.declared.checking.Proved.TheVariants.{Lose}
+use Rattle.hp_cert.specs.declared.certtext.error.CertErr.{CertErr}
+use Rattle.hp_cert.specs.declared.certtext.error.CertErr.TheVariants as certificate
+use Rattle.hp_verdicts.specs.Decided.{ShowsLoss, is_wide_contract, verdict_of}
+use Rattle.hp_verdicts.specs.declared.error.ContractErr.{ContractErr}
+use Rattle.hp_verdicts.specs.declared.error.ContractErr.TheVariants as contract
+use Rattle.law_decided.specs.Outcomes.{RefusesInGame, RefusesInGames}
+use Rattle.hp_driver.specs.Answers.{IsAnswer}
+use Rattle.hp_driver.specs.BadLines.{bad_line_line}
+use Rattle.hp_driver.specs.Claim.{AllKept, Certifies, DoesTheSame, Ends, IsReadAs, LacksFile, IsTrace, Program}
+use Rattle.hp_driver.specs.Command.{IsRunOf, IsTellOf, IsCheckOf, IsExecOf, IsPastOf, IsVerifyOf, IsSweepOf, IsNoSegment, IsSegmentOf, IsOver, IsOverSource, IsOverContract, Writes, no_node_line, verdict_text, accepted_text}
+use Rattle.hp_driver.specs.Commanded.{Spells, SpellsSegment, file_of}
+use Rattle.hp_driver.specs.Diagnostics.{behind_forced, certificate_status, contract_line, forced_line, refusal_line, too_long_line}
+use Rattle.hp_driver.specs.Happened.{Happened}
+use Rattle.hp_driver.specs.Leaves.{IsPrinted, Leaves}
+use Rattle.hp_driver.specs.Lines.{lines_of}
+use Rattle.hp_driver.specs.Log.{heard, said, has_ended}
+use Rattle.hp_driver.specs.Outcome.{Outcome, IsHeld, AreWritten, AreAskedFor, AsksToChoose, AsksToRun, HasContract, IsAskedFor}
+use Rattle.hp_driver.specs.PastOutcome.{PastOutcome, unfolded_text}
+use Rattle.hp_driver.specs.Segments.{CallOutcome}
+use Rattle.hp_driver.specs.Status.{code_of}
+use Rattle.hp_driver.specs.Systems.{System, inputs_of, Gives}
+use Rattle.hp_driver.specs.Values.{first_bad, inputs_until}
+use Rattle.hp_driver.specs.Written.{WrittenLaw}
+use Rattle.hp_driver.specs.declared.status.Status.{Status}
+use Rattle.hp_driver.specs.declared.status.Status.TheVariants.{NoMemory, ReadFailed}
+use Rattle.hp_driver.specs.declared.trace_limits.BadLine.{BadLine}
+use Rattle.hp_driver.specs.declared.words.Command.{Command}
+use Rattle.hp_driver.specs.declared.words.Segment.{Segment}
+use Rattle.hp_driver.proofs.GoodLines.{same_up_to}
+use Rattle.hp_driver.proofs.OutcomeLaws.{over_of}
+use Rattle.hp_driver.proofs.SourceCalls.{first_heading, other_headings}
+
+some_same : {A : Type 0} (a b : A) → Some a ≡ Some b → a ≡ b
+some_same a b e = ap (λ o. unwrap_or o a) e
+
+-- ---- what is said
+
+said_put : (bytes : List ℕ) → said (put_events bytes) ≡ bytes
+said_put [] = refl
+said_put (b ∷ bytes) = ap (λ z. b ∷ z) (said_put bytes)
+
+-- ---- the command, by its first word
+
+abbrev mark : List (List ℕ) → ℕ
+mark words = length (get_or words 0 []) * 1000 + get_or (get_or words 0 []) 0 0
+
+check_mark : (words : List (List ℕ)) (file : List ℕ) (print : Bool) → IsCheckOf words file print → mark words ≡ 5099
+check_mark words file false w = ap mark w.spelled
+check_mark words file true w = elim w.spelled [ inl e ↦ ap mark e | inr e ↦ ap mark e ]
+
+run_mark : (words : List (List ℕ)) (file node : List ℕ) → IsRunOf words file node → mark words ≡ 3114
+run_mark words file node w = ap mark w.spelled
+
+tell_mark : (words : List (List ℕ)) (file node : List ℕ) → IsTellOf words file node → mark words ≡ 3114
+tell_mark words file node w = elim w.spelled [ inl e ↦ ap mark e | inr r ↦ elim r [ inl e ↦ ap mark e | inr e ↦ ap mark e ] ]
+
+exec_mark : (words : List (List ℕ)) (file node : List ℕ) → IsExecOf words file node → mark words ≡ 4101
+exec_mark words file node w = ap mark w.spelled
+
+verify_mark : (words : List (List ℕ)) (file node cert : List ℕ) → IsVerifyOf words file node cert → mark words ≡ 6118
+verify_mark words file node cert w = ap mark w.spelled
+
+sweep_mark : (words : List (List ℕ)) (tasks instants : ℕ) → IsSweepOf words tasks instants → mark words ≡ 5115
+sweep_mark words tasks instants w = ap mark w.spelled
+
+-- the marks of the commands that write a file
+abbrev IsWritingMark : ℕ → Type 0
+IsWritingMark n = (n ≡ 7099) ⊎ ((n ≡ 4112) ⊎ (n ≡ 5112))
+
+writing_mark : (words : List (List ℕ)) → IsNoSegment words → (out : List ℕ) → Writes words out → IsWritingMark (mark words)
+writing_mark words none out (Writes.machines w) = inl (ap mark w.spelled)
+writing_mark words none out (Writes.a_source w) = inr (inl (ap mark w.spelled))
+writing_mark words none out (Writes.a_certificate w) = inr (inr (ap mark w.spelled))
+writing_mark words none out (Writes.a_checkpoint {file = f} {node = n} {from = m} w) = absurd (none f n m out w)
+
+writes_nothing : (n : ℕ) → n ≢ 7099 → n ≢ 4112 → n ≢ 5112 → (words : List (List ℕ)) → IsNoSegment words → mark words ≡ n → (out : List ℕ) → Writes words out → ⊥
+writes_nothing n f g h words none e out w = elim (writing_mark words none out w) [ inl k ↦ f (sym e ∙ k) | inr r ↦ elim r [ inl k ↦ g (sym e ∙ k) | inr k ↦ h (sym e ∙ k) ] ]
+
+-- ---- what becomes of the files
+
+module _ (words : List (List ℕ)) (files left : Files) where
+  -- a call that is not one that did what a command is for that writes a file
+  untouched : (status : ℕ) → Leaves words (Some files) (Some left) status → status ≢ 5 → status ≢ 6 → (status ≢ 0) ⊎ ((out : List ℕ) → Writes words out → ⊥) → left ≡ files
+  untouched status (Leaves.as_they_were same not) f g h = some_same left files same
+  untouched status (Leaves.written {out = o} w written printed same) f g h = absurd (elim h [ inl n ↦ n refl | inr n ↦ n o (Writes.machines w) ])
+  untouched status (Leaves.in_part why w written printed b c) f g h = absurd (elim why [ inl e ↦ f e | inr e ↦ g e ])
+  untouched status (Leaves.chosen_written {out = o} w chosen some printed same) f g h = absurd (elim h [ inl n ↦ n refl | inr n ↦ n o (Writes.machines w) ])
+  untouched status (Leaves.chosen_in_part why w chosen some printed b c) f g h = absurd (elim why [ inl e ↦ f e | inr e ↦ g e ])
+  untouched status (Leaves.unfolded {out = o} w holds short same) f g h = absurd (elim h [ inl n ↦ n refl | inr n ↦ n o (Writes.a_source w) ])
+  untouched status (Leaves.unfolded_in_part why w holds b c) f g h = absurd (elim why [ inl e ↦ f e | inr e ↦ g e ])
+  untouched status (Leaves.proved {cert = o} w there proof same) f g h = absurd (elim h [ inl n ↦ n refl | inr n ↦ n o (Writes.a_certificate w) ])
+  untouched status (Leaves.proof_in_part why w there proof b c) f g h = absurd (elim why [ inl e ↦ f e | inr e ↦ g e ])
+  untouched status (Leaves.saved {out = o} w there is same) f g h = absurd (elim h [ inl n ↦ n refl | inr n ↦ n o (Writes.a_checkpoint w) ])
+  untouched status (Leaves.saved_in_part why w there is b c) f g h = absurd (elim why [ inl e ↦ f e | inr e ↦ g e ])
+
+-- ---- the machine of a node
+
+machine_of_node : (items : List Item) (ms : List Machine) (f : List ℕ) (n : Node) → map heading_of_machine ms ≡ headings_of items → node_among items f ≡ Some n → (m : Machine) × (machine_named ms f ≡ Some m)
+machine_of_node [] ms f n e h = absurd cc
+machine_of_node (TypeItem t ∷ items) ms f n e h = machine_of_node items ms f n e h
+machine_of_node (NodeItem k ∷ items) [] f n e h = absurd cc
+machine_of_node (NodeItem k ∷ items) (m ∷ ms) f n e h =
+    by (bytes_eq m.name f) refl (λ named. machine_of_node items ms f n (other_headings (heading_of_machine m) (heading_of_node k) (map heading_of_machine ms) (headings_of items) e) named)
+  where
+    same : bytes_eq k.name f ≡ bytes_eq m.name f
+    same = ap (λ z. bytes_eq z.name f) (sym (first_heading (heading_of_machine m) (heading_of_node k) (map heading_of_machine ms) (headings_of items) e))
+
+    by : (b : Bool) → bytes_eq m.name f ≡ b → (node_among items f ≡ Some n → (x : Machine) × (machine_named ms f ≡ Some x)) → (x : Machine) × (machine_named (m ∷ ms) f ≡ Some x)
+    by true q rest = (m, ap (λ d. if d then Some m else machine_named ms f) q)
+    by false q rest =
+        let found = rest (sym (ap (λ d. if d then Some k else node_among items f) (same ∙ q)) ∙ h) in (found.0, ap (λ d. if d then Some m else machine_named ms f) q ∙ found.1)
+
+no_node_named : (items : List Item) (ms : List Machine) (f : List ℕ) → map heading_of_machine ms ≡ headings_of items → machine_named ms f ≡ None → node_among items f ≡ None
+no_node_named items ms f e none = by (node_among items f) refl
+  where
+    by : (o : Option Node) → node_among items f ≡ o → node_among items f ≡ None
+    by None h = h
+    by (Some n) h = let found = machine_of_node items ms f n e h in absurd (cc (found.1, none))
+
+-- ---- traces
+
+same_inputs_answer : (s : System) (xs ys : List (List ℕ)) (bytes : List ℕ) → inputs_until (inputs_of s) 1 ys ≡ inputs_until (inputs_of s) 1 xs → IsAnswer s xs bytes → IsAnswer s ys bytes
+same_inputs_answer s xs ys bytes e a = record { outputs = a.outputs; run = subst (λ inputs. Gives s inputs a.outputs) (sym e) a.run; said = a.said }
+
+-- what was heard of an input, and what is left of it, which is nothing where it has ended
+pub record IsHeard (input : List ℕ) (log : List Event) : Type 0 where
+  pub rest : List ℕ
+  pub are : input ≡ heard log ++ rest
+  pub end : has_ended log ≡ true → rest ≡ []
+
+module _ (input : List ℕ) (log : List Event) (h : IsHeard input log) (s : System) where
+  all_heard : has_ended log ≡ true → heard log ≡ input
+  all_heard e = sym (append-nil (heard log)) ∙ sym (ap (λ z. heard log ++ z) (h.end e)) ∙ sym h.are
+
+  whole_trace : has_ended log ≡ true → IsAnswer s (lines_of true (heard log)) (said log) → first_bad (inputs_of s) 1 (lines_of true (heard log)) ≡ None → IsTrace s (lines_of true input) (said log) [] 0
+  whole_trace e answer good = subst (λ z. IsTrace s (lines_of true z) (said log) [] 0) (all_heard e) (IsTrace.whole answer good)
+
+  broken_by : (b : Bool) → has_ended log ≡ b → (bad : BadLine) → IsAnswer s (lines_of b (heard log)) (said log) → first_bad (inputs_of s) 1 (lines_of b (heard log)) ≡ Some bad →
+      IsTrace s (lines_of true input) (said log) (bad_line_line bad) 3
+  broken_by true e bad answer fault = subst (λ z. IsTrace s (lines_of true z) (said log) (bad_line_line bad) 3) (all_heard e) (IsTrace.broken bad answer fault)
+  broken_by false e bad answer fault =
+      let all = lines_of true (heard log ++ h.rest) in
+      let same = same_up_to (inputs_of s) (heard log) h.rest bad fault in
+      subst (λ z. IsTrace s (lines_of true z) (said log) (bad_line_line bad) 3) (sym h.are)
+      (IsTrace.broken bad (same_inputs_answer s (lines_of false (heard log)) all (said log) same.1 answer) (same.0 ∙ fault))
+
+  broken_trace : (bad : BadLine) → IsAnswer s (lines_of (has_ended log) (heard log)) (said log) → first_bad (inputs_of s) 1 (lines_of (has_ended log) (heard log)) ≡ Some bad →
+      IsTrace s (lines_of true input) (said log) (bad_line_line bad) 3
+  broken_trace bad answer fault = broken_by (has_ended log) refl bad answer fault
+
+-- ---- programs and contracts
+
+abbrev pub program_of : (files : Files) (file : List ℕ) (program : List Item) → IsHeld (Some files) file program → Program files file
+program_of files file program held = record {
+  text = held.text;
+  held = held.held;
+  program = program;
+  judged = held.judged;
+  only = held.only;
+  clocked = held.clocked;
+  ranks = held.ranks;
+  arranged = held.arranged;
+}
+
+-- what stands behind the line of a contract that is lost
+loss_text : (m : BoolMachine) (wide : Bool) (instants : ℕ) (text : Option (List ℕ)) → ShowsLoss m wide instants text → Certifies (behind_forced text) (Lose instants) ⊎ (behind_forced text ≡ too_long_line Text)
+loss_text m wide instants None h = inr refl
+loss_text m wide instants (Some text) h = inl (h.certified.certificate, h.certified.text_is, h.verdict)
+
+refused_status : (cause : CertErr) → certificate_status cause ≢ 0
+refused_status (certificate.Syntax at) e = omega (arith, e)
+refused_status (certificate.Misfit m) e = omega (arith, e)
+refused_status (certificate.Fails k) e = omega (arith, e)
+refused_status (certificate.Limit limit) e = omega (arith, e)
+refused_status certificate.OutOfMemory e = omega (arith, e)
+
+-- ---- the rows
+
+module _ (words : List (List ℕ)) (files left : Files) (input : List ℕ) where
+  -- a row over the files that are left
+  at_left : (z : Files) (bytes line : List ℕ) (status : ℕ) → left ≡ z → Ends words files input bytes line z status → Ends words files input bytes line left status
+  at_left z bytes line status e row = subst (λ y. Ends words files input bytes line y status) (sym e) row
+
+  module _ (law : WrittenLaw) (none : IsNoSegment words) where
+    does_the_same : (file text : List ℕ) (o : Obc) (written : AreWritten (Some files) file o) → IsPrinted o text → DoesTheSame text written.compiled.held.clocked
+    does_the_same file text o written printed within =
+        let compiled = written.compiled in
+        let stands = printed.stands within in (
+          o,
+          stands,
+          λ node n named.
+              let found = machine_of_node compiled.held.clocked written.own.machines node n compiled.machines.machines named in
+              let same = law (Some files) file o o text node found.0 written printed stands found.1 in
+              (found.0, same.0, same.1),
+        )
+
+    -- a command that writes a file did what it is for
+    wrote : (status : ℕ) → Leaves words (Some files) (Some left) status → status ≡ 0 → (out : List ℕ) → Writes words out → Ends words files input [] [] left status
+    wrote status (Leaves.as_they_were same not) e out w = absurd (not out w e)
+    wrote status (Leaves.written {file = f} {out = o} {text = t} {o = ms} w written printed same) e out x =
+        let compiled = written.compiled in
+        let z = finmap.insert files o t in
+        at_left z [] [] 0 (some_same left z same)
+        (Ends.compiled t (program_of files f compiled.program compiled.held) w compiled.kept.safe compiled.uncontrolled (does_the_same f t ms written printed))
+    wrote status (Leaves.in_part why w written printed b c) e out x = absurd (elim why [ inl k ↦ omega (arith, e, k) | inr k ↦ omega (arith, e, k) ])
+    wrote status (Leaves.chosen_written {file = f} {out = o} w chosen some printed same) e out x = Ends.chosen (program_of files f chosen.program chosen.held) (inr w) chosen.kept.safe some
+    wrote status (Leaves.chosen_in_part why w chosen some printed b c) e out x = absurd (elim why [ inl k ↦ omega (arith, e, k) | inr k ↦ omega (arith, e, k) ])
+    wrote status (Leaves.unfolded {file = f} {out = o} {program = p} w holds short same) e out x =
+        let z = finmap.insert files o (unfolded_text p) in at_left z [] [] 0 (some_same left z same) (Ends.unfolded w holds.gives holds.program_of)
+    wrote status (Leaves.unfolded_in_part why w holds b c) e out x = absurd (elim why [ inl k ↦ omega (arith, e, k) | inr k ↦ omega (arith, e, k) ])
+    wrote status (Leaves.proved {file = f} {name = name} {cert = o} {text = t} w there proof same) e out x =
+        let z = finmap.insert files o t in
+        let certified = proof.proof.certified in
+        at_left z [] [] 0 (some_same left z same)
+        (Ends.proved there.node (verdict_of certified.certificate.claim) (program_of files f there.program there.held) w there.named proof.verdict
+        (certified.certificate, certified.text_is, refl))
+    wrote status (Leaves.proof_in_part why w there proof b c) e out x = absurd (elim why [ inl k ↦ omega (arith, e, k) | inr k ↦ omega (arith, e, k) ])
+    wrote status (Leaves.saved {file = f} {node = n} {out = o} {from = m} w there is same) e out x = absurd (none f n m o w)
+    wrote status (Leaves.saved_in_part why w there is b c) e out x = absurd (elim why [ inl k ↦ omega (arith, e, k) | inr k ↦ omega (arith, e, k) ])
+
+  module _ (same : left ≡ files) where
+    -- the first contract that is refused
+    first_refused : (file : List ℕ) (program : List Item) (cause : ContractErr) → IsOverSource words file → (held : IsHeld (Some files) file program) → cause ≢ contract.OutOfMemory → RefusesInGames held.clocked cause →
+        Ends words files input [] (contract_line cause) left 1
+    first_refused file program (contract.Forced name instants cert) over held differs r =
+        let n = r.refused.node in
+        let behind = option_map (λ text. text.items) cert in
+        let shown = r.refused.refused.2 in
+        at_left files [] (forced_line name instants (behind_forced behind)) 1 same
+        (subst (λ z. Ends words files input [] (forced_line z instants (behind_forced behind)) files 1) (sym r.refused.refused.0)
+        (Ends.lost n instants (program_of files file program held) over (r.refused.before, r.refused.behind, r.refused.stands, r.before) r.says
+        (loss_text shown.forced.machine (is_wide_contract n.contract) instants behind shown.shown)))
+    first_refused file program (contract.Assume name at) over held differs r =
+        at_left files [] (contract_line (contract.Assume name at)) 1 same
+        (Ends.undecided r.refused.node (contract.Assume name at) (program_of files file program held) over
+        (r.refused.before, r.refused.behind, r.refused.stands, r.before) (r.refused.refused.0, r.says))
+    first_refused file program (contract.Limit name limit) over held differs r =
+        at_left files [] (contract_line (contract.Limit name limit)) 1 same
+        (Ends.undecided r.refused.node (contract.Limit name limit) (program_of files file program held) over
+        (r.refused.before, r.refused.behind, r.refused.stands, r.before) (r.refused.refused.0, r.says))
+    first_refused file program contract.TooLong over held differs r = absurd r.says
+    first_refused file program contract.NotBuilt over held differs r = absurd r.says
+    first_refused file program contract.OutOfMemory over held differs r = absurd (differs refl)
+
+    -- the contract of a node that has no machine
+    no_verdict : (file name : List ℕ) (cause : ContractErr) → IsOverContract words file name → (c : HasContract (Some files) file name) → cause ≢ contract.OutOfMemory → RefusesInGame c.held.clocked c.node cause →
+        Ends words files input [] (contract_line cause) left 1
+    no_verdict file name (contract.Forced node instants cert) k c differs r = absurd r.refused
+    no_verdict file name (contract.Assume node at) k c differs r =
+        at_left files [] (contract_line (contract.Assume node at)) 1 same
+        (Ends.no_verdict c.node (contract.Assume node at) (program_of files file c.program c.held) k c.named (r.refused.0, r.says))
+    no_verdict file name (contract.Limit node limit) k c differs r =
+        at_left files [] (contract_line (contract.Limit node limit)) 1 same
+        (Ends.no_verdict c.node (contract.Limit node limit) (program_of files file c.program c.held) k c.named (r.refused.0, r.says))
+    no_verdict file name contract.TooLong k c differs r = absurd r.says
+    no_verdict file name contract.NotBuilt k c differs r = absurd r.says
+    no_verdict file name contract.OutOfMemory k c differs r = absurd (differs refl)
+
+    -- nothing runs that is asked for
+    choosing : (file : List ℕ) (program : List Item) (bytes line : List ℕ) (status : ℕ) → AsksToChoose words file program → (held : IsHeld (Some files) file program) → AllKept (program_of files file program held) →
+        Ends words files input bytes line left status
+    choosing file program bytes line status (AsksToChoose.to_run w some) held kept = Ends.chosen (program_of files file program held) (inl w) kept some
+    choosing file program bytes line status (AsksToChoose.to_tell w) held kept = at_left files bytes line status same (Ends.told (program_of files file program held) w kept)
+    choosing file program bytes line status (AsksToChoose.to_compile w some) held kept = Ends.chosen (program_of files file program held) (inr w) kept some
+
+    running : (file name : List ℕ) (program : List Item) → AsksToRun words file name program → AsksToChoose words file program
+    running file name program (AsksToRun.to_run w some) = AsksToChoose.to_run w some
+    running file name program (AsksToRun.to_tell w) = AsksToChoose.to_tell w
+
+    no_node_to_run : (file name : List ℕ) (program : List Item) → AsksToRun words file name program → (held : IsHeld (Some files) file program) → AllKept (program_of files file program held) →
+        node_among held.clocked name ≡ None → Ends words files input [] (no_node_line name) left 1
+    no_node_to_run file name program (AsksToRun.to_run w some) held kept unnamed =
+        at_left files [] (no_node_line name) 1 same (Ends.no_node_to_run (program_of files file program held) kept (inl w) unnamed)
+    no_node_to_run file name program (AsksToRun.to_tell w) held kept unnamed =
+        at_left files [] (no_node_line name) 1 same (Ends.no_node_to_run (program_of files file program held) kept (inr w) unnamed)
+
+    no_machine : (name : List ℕ) (o : Obc) → AreAskedFor words (Some files) name o → machine_named o.machines name ≡ None → Ends words files input [] (no_node_line name) left 1
+    no_machine name o (AreAskedFor.in_text w ms) unnamed = at_left files [] (no_node_line name) 1 same (Ends.no_machine w ms.held ms.read unnamed)
+    no_machine name o (AreAskedFor.of_program {file = f} w compiled) unnamed =
+        at_left files [] (no_node_line name) 1 same
+        (Ends.no_node_to_run (program_of files f compiled.program compiled.held) compiled.kept.safe (inl w)
+        (no_node_named compiled.held.clocked o.machines name compiled.machines.machines unnamed))
+
+    -- what is run on a trace
+    ran : (s : System) (bytes line : List ℕ) (status : ℕ) → IsAskedFor words (Some files) s → IsTrace s (lines_of true input) bytes line status → Ends words files input bytes line left status
+    ran s bytes line status (IsAskedFor.a_node {file = f} w compiled there) t =
+        at_left files bytes line status same (Ends.ran (program_of files f compiled.program compiled.held) w compiled.kept.safe compiled.uncontrolled t)
+    ran s bytes line status (IsAskedFor.a_machine w ms there) t = at_left files bytes line status same (Ends.executed there.machine w ms.held ms.read there.named t)
+    ran s bytes line status (IsAskedFor.a_chosen_node {file = f} n w chosen some named there is) t = Ends.chosen (program_of files f chosen.program chosen.held) (inl w) chosen.kept.safe some
+    ran s bytes line status (IsAskedFor.a_contract {file = f} n w chosen named some there is) t =
+        at_left files bytes line status same (Ends.told (program_of files f chosen.program chosen.held) w chosen.kept.safe)
+    ran s bytes line status (IsAskedFor.no_contract {file = f} n w chosen named without there is) t =
+        at_left files bytes line status same (Ends.told (program_of files f chosen.program chosen.held) w chosen.kept.safe)
+
+    -- the program without the formulas of its contracts was not written
+    past_refused : (file out line : List ℕ) (status : ℕ) → IsPastOf words file out → PastOutcome (Some files) file line status → status ≢ 0 → status ≢ 5 → Ends words files input [] line left status
+    past_refused file out line status w (PastOutcome.too_long long) f g = at_left files [] (too_long_line Size) 1 same (Ends.too_long (IsReadAs.a_tree w) long)
+    past_refused file out line status w (PastOutcome.refused text cause gives causes unread) f g = at_left files [] (refusal_line cause) 1 same (Ends.no_program cause w gives unread causes)
+    past_refused file out line status w (PastOutcome.too_long_unfolded holds long) f g = at_left files [] (too_long_line Size) 1 same (Ends.long_unfolded w holds.gives holds.program_of long)
+    past_refused file out line status w (PastOutcome.written holds short back tells) f g = absurd (f refl)
+    past_refused file out line status w (PastOutcome.not_written holds short) f g = absurd (g refl)
+
+  -- a program is written without them, or is not
+  past_ended : (law : WrittenLaw) (none : IsNoSegment words) (file out line : List ℕ) (status : ℕ) → IsPastOf words file out → PastOutcome (Some files) file line status →
+      Leaves words (Some files) (Some left) status → status ≢ 5 → status ≢ 6 → Ends words files input [] line left status
+  past_ended law none file out line status w (PastOutcome.written holds short back tells) leaves g h = wrote law none 0 leaves refl out (Writes.a_source w)
+  past_ended law none file out line status w (PastOutcome.not_written holds short) leaves g h = absurd (g refl)
+  past_ended law none file out line status w (PastOutcome.too_long long) leaves g h =
+      past_refused (untouched words files left 1 leaves g h (inl (λ e. omega (arith, e)))) file out (too_long_line Size) 1 w (PastOutcome.too_long long) (λ e. omega (arith, e)) g
+  past_ended law none file out line status w (PastOutcome.refused text cause gives causes unread) leaves g h =
+      past_refused (untouched words files left 1 leaves g h (inl (λ e. omega (arith, e)))) file out (refusal_line cause) 1 w (PastOutcome.refused text cause gives causes unread) (λ e. omega (arith, e)) g
+  past_ended law none file out line status w (PastOutcome.too_long_unfolded holds long) leaves g h =
+      past_refused (untouched words files left 1 leaves g h (inl (λ e. omega (arith, e)))) file out (too_long_line Size) 1 w (PastOutcome.too_long_unfolded holds long) (λ e. omega (arith, e)) g
+
+  module _ (law : WrittenLaw) (none : IsNoSegment words) where
+    -- the mark of a command that runs something
+    asked_mark : (s : System) → IsAskedFor words (Some files) s → (mark words ≡ 3114) ⊎ (mark words ≡ 4101)
+    asked_mark s (IsAskedFor.a_node {file = f} {node = n} w compiled there) = inl (run_mark words f n w)
+    asked_mark s (IsAskedFor.a_machine {file = f} {node = n} w ms there) = inr (exec_mark words f n w)
+    asked_mark s (IsAskedFor.a_chosen_node {file = f} {node = k} n w chosen some named there is) = inl (run_mark words f k w)
+    asked_mark s (IsAskedFor.a_contract {file = f} {node = k} n w chosen named some there is) = inl (tell_mark words f k w)
+    asked_mark s (IsAskedFor.no_contract {file = f} {node = k} n w chosen named without there is) = inl (tell_mark words f k w)
+
+    runs_write_nothing : (s : System) → IsAskedFor words (Some files) s → (out : List ℕ) → Writes words out → ⊥
+    runs_write_nothing s asked = elim (asked_mark s asked) [
+      | inl e ↦ writes_nothing 3114 (λ k. omega (arith, k)) (λ k. omega (arith, k)) (λ k. omega (arith, k)) words none e
+      | inr e ↦ writes_nothing 4101 (λ k. omega (arith, k)) (λ k. omega (arith, k)) (λ k. omega (arith, k)) words none e
+    ]
+
+    ended : (log : List Event) (line : List ℕ) (status : ℕ) → Outcome words (Some files) log line status → IsHeard input log → Leaves words (Some files) (Some left) status → status ≢ 4 → status ≢ 5 → status ≢ 6 →
+        Ends words files input (said log) line left status
+    ended log line status (Outcome.usage w) h leaves e f g = let same = untouched words files left 2 leaves f g (inl (λ k. omega (arith, k))) in at_left files [] line 2 same (Ends.usage w)
+    ended log line status (Outcome.unread w) h leaves e f g = absurd (e refl)
+    ended log line status Outcome.no_memory h leaves e f g = absurd (g refl)
+    ended log line status (Outcome.too_long w long) h leaves e f g = let same = untouched words files left 1 leaves f g (inl (λ k. omega (arith, k))) in at_left files [] line 1 same (Ends.too_long (IsReadAs.a_source w) long)
+    ended log line status (Outcome.refused text cause w gives causes unheld) h leaves e f g =
+        let same = untouched words files left 1 leaves f g (inl (λ k. omega (arith, k))) in at_left files [] line 1 same (Ends.refused cause w gives unheld causes)
+    ended log line status (Outcome.contract_refused {file = x} {program = p} cause over held some differs refuses) h leaves e f g =
+        first_refused (untouched words files left 1 leaves f g (inl (λ k. omega (arith, k)))) x p cause over held differs refuses
+    ended log line status (Outcome.not_built {file = x} {program = p} asks held kept) h leaves e f g =
+        choosing (untouched words files left 1 leaves f g (inl (λ k. omega (arith, k)))) x p [] line 1 asks held kept.safe
+    ended log line status (Outcome.no_node_to_run {file = x} {name = y} {program = p} asks held kept unnamed) h leaves e f g =
+        no_node_to_run (untouched words files left 1 leaves f g (inl (λ k. omega (arith, k)))) x y p asks held kept.safe unnamed
+    ended log line status (Outcome.chosen_too_large {file = x} {node = y} limit chosen asks for passed) h leaves e f g =
+        let same = untouched words files left 1 leaves f g (inl (λ k. omega (arith, k))) in choosing same x chosen.program [] line 1 (running same x y chosen.program asks) chosen.held chosen.kept.safe
+    ended log line status (Outcome.accepted {file = x} {program = p} print w held kept) h leaves e f g =
+        let same = untouched words files left 0 leaves f g (inr (writes_nothing 5099 (λ k. omega (arith, k)) (λ k. omega (arith, k)) (λ k. omega (arith, k)) words none (check_mark words x print w))) in
+        subst (λ z. Ends words files input z [] left 0) (sym (said_put (accepted_text print p))) (at_left files (accepted_text print p) [] 0 same (Ends.accepted print (program_of files x p held) w kept.safe))
+    ended log line status (Outcome.accepted_in_part print out rest w held kept k) h leaves e f g = absurd (f refl)
+    ended log line status (Outcome.no_node {file = x} {program = p} w held unnamed) h leaves e f g =
+        let same = untouched words files left 1 leaves f g (inl (λ k. omega (arith, k))) in at_left files [] line 1 same (Ends.no_node (program_of files x p held) w unnamed)
+    ended log line status (Outcome.no_contract {file = x} {program = p} n w held named without) h leaves e f g =
+        let same = untouched words files left 1 leaves f g (inl (λ k. omega (arith, k))) in at_left files [] line 1 same (Ends.no_contract n (program_of files x p held) w named without)
+    ended log line status (Outcome.no_verdict {file = x} {name = y} cause w c differs refuses) h leaves e f g =
+        no_verdict (untouched words files left 1 leaves f g (inl (λ k. omega (arith, k)))) x y cause w c differs refuses
+    ended log line status (Outcome.long_proof {file = x} w c has long) h leaves e f g =
+        let same = untouched words files left 1 leaves f g (inl (λ k. omega (arith, k))) in at_left files [] line 1 same (Ends.not_proved (program_of files x c.program c.held) w)
+    ended log line status (Outcome.proved {cert = o} w c proof) h leaves e f g = wrote law none 0 leaves refl o (Writes.a_certificate w)
+    ended log line status (Outcome.proof_not_written w c proof) h leaves e f g = absurd (f refl)
+    ended log line status (Outcome.unread_certificate w c has) h leaves e f g = absurd (e refl)
+    ended log line status (Outcome.long_certificate w c has long) h leaves e f g =
+        let same = untouched words files left 1 leaves f g (inl (λ k. omega (arith, k))) in at_left files [] line 1 same (Ends.too_long (IsReadAs.a_certificate w) long)
+    ended log line status (Outcome.verified {file = x} {name = y} {cert = z} text p w c gives shows) h leaves e f g =
+        let same = untouched words files left 0 leaves f g (inr (writes_nothing 6118 (λ k. omega (arith, k)) (λ k. omega (arith, k)) (λ k. omega (arith, k)) words none (verify_mark words x y z w))) in
+        subst (λ u. Ends words files input u [] left 0) (sym (said_put (verdict_text p)))
+        (at_left files (verdict_text p) [] 0 same (Ends.verified text c.node p (program_of files x c.program c.held) w c.named gives shows.holds))
+    ended log line status (Outcome.verified_in_part text p out rest w c gives shows k) h leaves e f g = absurd (f refl)
+    ended log line status (Outcome.certificate_refused {file = x} text cause w c gives differs refuses) h leaves e f g =
+        let same = untouched words files left (certificate_status cause) leaves f g (inl (refused_status cause)) in
+        at_left files [] line (certificate_status cause) same (Ends.not_verified text cause (program_of files x c.program c.held) w gives differs)
+    ended log line status (Outcome.long_text w long) h leaves e f g = let same = untouched words files left 1 leaves f g (inl (λ k. omega (arith, k))) in at_left files [] line 1 same (Ends.too_long (IsReadAs.machines w) long)
+    ended log line status (Outcome.no_text text at w gives r) h leaves e f g = let same = untouched words files left 8 leaves f g (inl (λ k. omega (arith, k))) in at_left files [] line 8 same (Ends.no_text at w gives r)
+    ended log line status (Outcome.no_form text at w gives b) h leaves e f g = let same = untouched words files left 8 leaves f g (inl (λ k. omega (arith, k))) in at_left files [] line 8 same (Ends.no_form at w gives b)
+    ended log line status (Outcome.no_machine {node = y} {o = o} asked unnamed) h leaves e f g = no_machine (untouched words files left 1 leaves f g (inl (λ k. omega (arith, k)))) y o asked unnamed
+    ended log line status (Outcome.too_large limit w ms passed) h leaves e f g =
+        let same = untouched words files left 1 leaves f g (inl (λ k. omega (arith, k))) in at_left files [] line 1 same (Ends.too_large limit w ms.held ms.read passed)
+    ended log line status (Outcome.compiled {out = o} w written) h leaves e f g = wrote law none 0 leaves refl o (Writes.machines w)
+    ended log line status (Outcome.not_written w written) h leaves e f g = absurd (f refl)
+    ended log line status (Outcome.chosen_compiled {out = o} w chosen some) h leaves e f g = wrote law none 0 leaves refl o (Writes.machines w)
+    ended log line status (Outcome.chosen_not_written w chosen some) h leaves e f g = absurd (f refl)
+    ended log line status (Outcome.past {file = x} {out = y} w past) h leaves e f g = past_ended law none x y line status w past leaves f g
+    ended log line status (Outcome.swept {tasks = t} {instants = i} text w summary) h leaves e f g =
+        let same = untouched words files left 0 leaves f g (inr (writes_nothing 5115 (λ k. omega (arith, k)) (λ k. omega (arith, k)) (λ k. omega (arith, k)) words none (sweep_mark words t i w))) in
+        subst (λ z. Ends words files input z [] left 0) (sym (said_put text)) (at_left files text [] 0 same (Ends.swept text w summary))
+    ended log line status (Outcome.swept_in_part text out rest w summary k) h leaves e f g = absurd (f refl)
+    ended log line status (Outcome.not_swept w) h leaves e f g = let same = untouched words files left 1 leaves f g (inl (λ k. omega (arith, k))) in at_left files [] line 1 same (Ends.not_swept w)
+    ended log line status (Outcome.done {s = s} asked step end answer good) h leaves e f g =
+        let same = untouched words files left 0 leaves f g (inr (runs_write_nothing s asked)) in ran same s (said log) [] 0 asked (whole_trace input log h s end answer good)
+    ended log line status (Outcome.bad_line {s = s} bad asked step answer fault) h leaves e f g =
+        let same = untouched words files left 3 leaves f g (inl (λ k. omega (arith, k))) in ran same s (said log) line 3 asked (broken_trace input log h s bad answer fault)
+    ended log line status (Outcome.take_failed asked step answer good) h leaves e f g = absurd (e refl)
+    ended log line status (Outcome.put_failed rest asked step answer) h leaves e f g = absurd (f refl)
+    ended log line status (Outcome.line_failed told b rest r) h leaves e f g = absurd (f refl)
+
+  -- the call ends so, where it is not for want of memory
+  call_ended : (law : WrittenLaw) (log : List Event) (line : List ℕ) (status : ℕ) → IsHeard input log → CallOutcome words (Some files) (Some left) log line status → Leaves words (Some files) (Some left) status →
+      status ≢ 4 → status ≢ 5 → status ≢ 6 → Ends words files input (said log) line left status
+  call_ended law log line status h CallOutcome.no_memory leaves e f g = absurd (g refl)
+  call_ended law log line status h (CallOutcome.command none o) leaves e f g = ended law none log line status o h leaves e f g
+  call_ended law log line status h (CallOutcome.segment s) leaves e f g = Ends.segment s.asked
+
+  -- the numbers of a status that is told
+  told_status : (law : WrittenLaw) (log : List Event) (line : List ℕ) (status : ℕ) → IsHeard input log → CallOutcome words (Some files) (Some left) log line status → Leaves words (Some files) (Some left) status →
+      status ≢ 4 → status ≢ 5 → Ends words files input (said log) line left status
+  told_status law log line status h o leaves e f = elim (eqb_tells status 6) [
+    | inl k ↦ subst (λ n. Ends words files input (said log) line left n) (sym k.1) Ends.lacking
+    | inr k ↦ call_ended law log line status h o leaves e f k.1
+  ]
+
+-- ---- what objects in memory tell
+
+same_said : (log : List Event) → said_bytes log ≡ said log
+same_said [] = refl
+same_said (Asked ∷ log) = same_said log
+same_said (Heard b ∷ log) = same_said log
+same_said (Ended ∷ log) = same_said log
+same_said (Said b ∷ log) = ap (λ z. b ∷ z) (same_said log)
+
+module _ (words : List (List ℕ)) (files left : Files) (input : List ℕ) where
+  -- a call in which no call of the outside failed
+  in_memory : WrittenLaw → (events : List Event) (rest took : List ℕ) (status : ℕ) → Happened (Some []) (Some events) (Some input) (Some rest) (Some []) (Some took) (λ log line. CallOutcome words (Some files) (Some left) log line status) →
+      Leaves words (Some files) (Some left) status → status ≢ 4 → status ≢ 5 → Ends words files input (said_bytes events) took left status
+  in_memory law events rest took status o leaves e f =
+      let log = o.0 in
+      let line = o.1 in
+      let events_are : events ≡ log = some_same events log o.2 in
+      let took_is : took ≡ line = some_same took line o.4 in
+      let h : IsHeard input log = record { rest = rest; are = some_same input (heard log ++ rest) o.3.0; end = o.3.1 } in
+      subst (λ z. Ends words files input z took left status) (sym (ap said_bytes events_are ∙ same_said log))
+      (subst (λ z. Ends words files input (said log) z left status) (sym took_is) (told_status words files left input law log line status h o.5 leaves e f))
+
+  -- what is answered then: what the objects took that were new
+  pub told_answer : WrittenLaw → (none events : List Event) (given rest nothing took : List ℕ) (status : ℕ) → none ≡ [] → given ≡ input → nothing ≡ [] →
+      Happened (Some none) (Some events) (Some given) (Some rest) (Some nothing) (Some took) (λ log line. CallOutcome words (Some files) (Some left) log line status) →
+      Leaves words (Some files) (Some left) status → status ≢ 4 → status ≢ 5 → (bytes line : List ℕ) (number : ℕ) → bytes ≡ said_bytes events → line ≡ took → number ≡ status →
+      Ends words files input bytes line left number
+  told_answer law none events given rest nothing took status p q r o leaves e f bytes line number u v w =
+      let done = λ (a : List Event) (b c : List ℕ). Happened (Some a) (Some events) (Some b) (Some rest) (Some c) (Some took) (λ log told. CallOutcome words (Some files) (Some left) log told status) in
+      let new : done [] input [] = subst (λ a. done a input []) p (subst (λ b. done none b []) q (subst (λ c. done none given c) r o)) in
+      subst (λ z. Ends words files input z line left number) (sym u)
+      (subst (λ z. Ends words files input (said_bytes events) z left number) (sym v)
+      (subst (λ z. Ends words files input (said_bytes events) took left z) (sym w) (in_memory law events rest took status new leaves e f)))
+
+  -- what is answered where a read or a take failed
+  pub unread_answer : (status : ℕ) → status ≡ 4 → Leaves words (Some files) (Some left) status → (why : Status) → (why ≡ NoMemory) ⊎ ((why ≡ ReadFailed) × LacksFile words left) →
+      (bytes line : List ℕ) (number : ℕ) → bytes ≡ [] → line ≡ [] → number ≡ code_of why → Ends words files input bytes line left number
+  unread_answer status e leaves why (inl m) bytes line number p q r = subst (λ z. Ends words files input bytes line left z) (sym (r ∙ ap code_of m)) Ends.lacking
+  unread_answer status e leaves why (inr k) bytes line number p q r =
+      let lacks = k.1 in
+      let same = untouched words files left status leaves (λ k. omega (arith, e, k)) (λ k. omega (arith, e, k)) (inl (λ k. omega (arith, e, k))) in
+      subst (λ z. Ends words files input z line left number) (sym p)
+      (subst (λ z. Ends words files input [] z left number) (sym q)
+      (subst (λ z. Ends words files input [] [] left z) (sym (r ∙ ap code_of k.0))
+      (at_left words files left input files [] [] 4 same (Ends.absent (lacks.0, lacks.1, subst (λ z. finmap.get z lacks.0 ≡ None) same lacks.2)))))
+
+  -- what is answered for want of memory
+  pub lacking_answer : (bytes line : List ℕ) (number : ℕ) → number ≡ 6 → Ends words files input bytes line left number
+  lacking_answer bytes line number e = subst (λ z. Ends words files input bytes line left z) (sym e) Ends.lacking
+
+-- ---- files that are not there
+
+pub lacks_of : (words : List (List ℕ)) (files : Files) (command : Command) → Spells words command → finmap.get files (file_of command) ≡ None → LacksFile words files
+lacks_of words files command spells none = (file_of command, over_of words command spells, none)
+
+pub lacks_cert : (words : List (List ℕ)) (files : Files) (source node cert : List ℕ) → IsVerifyOf words source node cert → finmap.get files cert ≡ None → LacksFile words files
+lacks_cert words files source node cert w none = (cert, IsOver.a_certificate w, none)
+
+pub lacks_source : (words : List (List ℕ)) (files : Files) (s : Segment) → SpellsSegment words s → finmap.get files s.file.now ≡ None → LacksFile words files
+lacks_source words files s w none = (s.file.now, IsOver.a_segment w, none)
+
+pub lacks_checkpoint : (words : List (List ℕ)) (files : Files) (s : Segment) (mem : Bor (List ℕ)) → s.from ≡ Some mem → SpellsSegment words s → finmap.get files mem.now ≡ None → LacksFile words files
+lacks_checkpoint words files s mem e w none = (mem.now, IsOver.a_checkpoint (subst (λ from. IsSegmentOf words s.file.now s.node.now (option_copied from) s.out.now) e w), none)
