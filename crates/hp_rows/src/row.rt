@@ -117,7 +117,12 @@ fn keep_rest(step: &Value, diagnostics: &[u8], files: &mut MemFolder) -> Result<
     Ok(())
 }
 
-fn compare_done(alloc: Global, step: &Value, done: &Answer, files: &MemFolder) -> Result<(), Fault> {
+fn compare_done(
+    alloc: Global,
+    step: &Value,
+    done: &Answer,
+    files: &MemFolder,
+) -> Result<(), Fault> {
     compare_status(alloc, step, done.status)?;
     compare_diagnostics(alloc, step, done.diagnostics.as_slice())?;
     compare_said(alloc, step, done.said.as_slice())?;
