@@ -5,7 +5,7 @@ use crate::label::{Call, Label, Subject, Values};
 use crate::scope::Scope;
 use hp_base::{Name, Span};
 use hp_tree::{
-    Block, Contract, Decl, Eqn, Expr, ExprKind, Item, Node, Program, State, Trans, controls_of,
+    Arm, Block, Cons, Contract, Decl, Eqn, Expr, ExprKind, Item, Node, Program, State, Trans, controls_of,
 };
 use std::alloc::{AllocError, Global};
 
@@ -167,24 +167,34 @@ impl<'w, 'a> Walk<'w, 'a> {
                 self.expression(a, &[])?;
                 self.expression(b, &[])
             }
-            ExprKind::Merge(_, parts) => {
-                for (_, part) in parts {
-                    self.expression(part, &[])?;
-                }
-                Ok(())
-            }
+            ExprKind::Merge(_, parts) => self.parts(parts),
             ExprKind::Call {
                 node,
                 inlined: _,
                 args,
             } => {
                 self.add_call(expr.span, node, names)?;
-                for arg in args {
-                    self.expression(arg, &[])?;
-                }
-                Ok(())
+                self.arguments(args)
             }
         }
+    }
+
+    #[cycle(expressions)]
+    #[tactic(auto, using(crate::proofs::Rules::nodes))]
+    fn parts(&mut self, parts: &'a [(Cons, Expr)]) -> Result<(), AllocError> {
+        for (_, part) in parts {
+            self.expression(part, &[])?;
+        }
+        Ok(())
+    }
+
+    #[cycle(expressions)]
+    #[tactic(auto, using(crate::proofs::Rules::nodes))]
+    fn arguments(&mut self, args: &'a [Expr]) -> Result<(), AllocError> {
+        for arg in args {
+            self.expression(arg, &[])?;
+        }
+        Ok(())
     }
 
     /// Labels the conditions of transitions.
@@ -196,16 +206,24 @@ impl<'w, 'a> Walk<'w, 'a> {
     }
 
     #[cycle(blocks)]
+    #[tactic(auto, using(crate::proofs::Rules::lines))]
     fn block(&mut self, block: &'a Block) -> Result<(), AllocError> {
         self.scope.add(&block.locals)?;
         self.add_lasts(&block.locals)?;
-        for eqn in &block.eqns {
+        self.equations(&block.eqns)
+    }
+
+    #[cycle(blocks)]
+    #[tactic(auto, using(crate::proofs::Rules::lines))]
+    fn equations(&mut self, eqns: &'a [Eqn]) -> Result<(), AllocError> {
+        for eqn in eqns {
             self.equation(eqn)?;
         }
         Ok(())
     }
 
     #[cycle(blocks)]
+    #[tactic(auto, using(crate::proofs::Rules::lines))]
     fn equation(&mut self, eqn: &'a Eqn) -> Result<(), AllocError> {
         match eqn {
             Eqn::Def {
@@ -219,10 +237,7 @@ impl<'w, 'a> Walk<'w, 'a> {
                 arms,
             } => {
                 self.expression(cond, &[])?;
-                for arm in arms {
-                    self.block(&arm.body)?;
-                }
-                Ok(())
+                self.arms(arms)
             }
             Eqn::Reset {
                 span: _,
@@ -235,15 +250,32 @@ impl<'w, 'a> Walk<'w, 'a> {
             Eqn::Automaton { span, states } => {
                 self.add(Subject::State, Values::States(states), *span)?;
                 self.add(Subject::Afresh, Values::Truth, *span)?;
-                for state in states {
-                    self.state(state)?;
-                }
-                Ok(())
+                self.states(states)
             }
         }
     }
 
     #[cycle(blocks)]
+    #[tactic(auto, using(crate::proofs::Rules::lines))]
+    fn arms(&mut self, arms: &'a [Arm]) -> Result<(), AllocError> {
+        for arm in arms {
+            self.block(&arm.body)?;
+        }
+        Ok(())
+    }
+
+    #[cycle(blocks)]
+    #[tactic(auto, using(crate::proofs::Rules::lines))]
+    fn states(&mut self, states: &'a [State]) -> Result<(), AllocError> {
+        for state in states {
+            self.state(state)?;
+        }
+        Ok(())
+    }
+
+    /// Labels the body of a state, and its transitions.
+    #[cycle(blocks)]
+    #[tactic(auto, using(crate::proofs::Rules::lines))]
     fn state(&mut self, state: &'a State) -> Result<(), AllocError> {
         self.block(&state.body)?;
         self.conditions(&state.until)?;

@@ -153,7 +153,11 @@ impl<'a> Names<'a> {
                 into.extend_from_slice(b"last ")?;
                 self.add_name(&decl.name, into)
             }
-            Subject::Comparison(expr) => self.add_quoted(expr.span, into),
+            Subject::Comparison(expr) => {
+                self.add_quoted(expr.span, into)?;
+                into.push(b'@')?;
+                add_place(expr.span, into)
+            }
             Subject::Output {
                 node,
                 output,

@@ -34,8 +34,11 @@ fn is_told(slot: &Slot, values: &[bool]) -> bool {
     }
 }
 
-/// Whether an early slot may as well have other values. The first early variable has this number.
+/// Whether an early slot may as well have other values than the first one, which it has. The first early variable has this number.
 fn is_free(slot: &Slot, first: usize, instant: &Instant) -> bool {
+    if number_at(slot, &instant.values) != 0 {
+        return false;
+    }
     for i in 0..slot.width {
         let place = slot.first.saturating_sub(first).saturating_add(i);
         if instant.free.get(place) != Some(&true) {
@@ -311,17 +314,17 @@ impl<'p, 'a> Play<'p, 'a> {
         let mut piece = Vec::new(self.alloc);
         self.names.add_label(&slot.label, &mut piece)?;
         match slot.label.subject {
-            Subject::Comparison(_) => piece.extend_from_slice(b": a comparison at ")?,
+            Subject::Comparison(_) => piece.extend_from_slice(b": a comparison")?,
             Subject::Output { node, output, .. } => {
                 piece.extend_from_slice(b": output ")?;
                 self.names.add_name(&output.name, &mut piece)?;
                 piece.extend_from_slice(b" of ")?;
                 self.names.add_name(node, &mut piece)?;
                 piece.extend_from_slice(b" at ")?;
+                add_place(slot.label.span, &mut piece)?;
             }
             _ => return Ok(()),
         }
-        add_place(slot.label.span, &mut piece)?;
         self.add_freedom(slot, &mut piece)?;
         if is_late {
             piece.extend_from_slice(b"; known after the choice")?;
