@@ -2,7 +2,7 @@
 
 use crate::names::Names;
 use crate::page::{Page, add_number, add_place};
-use crate::slots::{Row, Slot, Slots};
+use crate::slots::{Slot, Slots};
 use crate::values::{add_value, number_at};
 use hp_labels::{Call, Subject};
 use hp_play::Instant;
@@ -25,27 +25,28 @@ pub struct Play<'p, 'a> {
     pub instants: &'p [Instant],
 }
 
-/// Whether a slot is to be told of in the state of an instant.
-fn is_told(slot: &Slot, values: &[bool]) -> bool {
-    match slot.label.subject {
-        Subject::Past => false,
-        Subject::Afresh => number_at(slot, values) != 0,
-        _ => true,
-    }
-}
-
-/// Whether an early slot may as well have other values than the first one, which it has. The first early variable has this number.
-fn is_free(slot: &Slot, first: usize, instant: &Instant) -> bool {
-    if number_at(slot, &instant.values) != 0 {
-        return false;
-    }
+/// Whether a slot may as well have any other value at an instant: a violation is forced within as many instants.
+fn may_differ(slot: &Slot, instant: &Instant) -> bool {
     for i in 0..slot.width {
-        let place = slot.first.saturating_sub(first).saturating_add(i);
-        if instant.free.get(place) != Some(&true) {
+        if instant.free.get(slot.first.saturating_add(i)) != Some(&true) {
             return false;
         }
     }
     true
+}
+
+/// Whether a register is told of in the state of an instant.
+fn is_told(slot: &Slot, instant: &Instant) -> bool {
+    match slot.label.subject {
+        Subject::Past => false,
+        Subject::Afresh => number_at(slot, &instant.values) != 0 && !may_differ(slot, instant),
+        _ => !may_differ(slot, instant),
+    }
+}
+
+/// Whether an early slot has the first of its values, and may as well have any other one.
+fn is_free(slot: &Slot, instant: &Instant) -> bool {
+    number_at(slot, &instant.values) == 0 && may_differ(slot, instant)
 }
 
 impl<'p, 'a> Play<'p, 'a> {
@@ -78,12 +79,12 @@ impl<'p, 'a> Play<'p, 'a> {
     }
 
     /// Adds the values of registers.
-    fn add_registers(&self, values: &[bool], page: &mut Page) -> Result<(), AllocError> {
+    fn add_registers(&self, instant: &Instant, page: &mut Page) -> Result<(), AllocError> {
         let mut count: usize = 0;
         for slot in &self.slots.registers.slots {
-            if is_told(slot, values) {
+            if is_told(slot, instant) {
                 if count < SHOWN {
-                    page.item(&self.valued(slot, values)?, ",")?;
+                    page.item(&self.valued(slot, &instant.values)?, ",")?;
                 }
                 count = count.saturating_add(1);
             }
@@ -91,25 +92,35 @@ impl<'p, 'a> Play<'p, 'a> {
         self.add_more(count, page)
     }
 
-    /// Adds the line of the state, unless there is no register that is to be told of.
-    fn add_state(&self, place: usize, values: &[bool], page: &mut Page) -> Result<(), AllocError> {
+    /// Adds the line of the state, where there are registers. That the play can begin in any state is said of one behind the first.
+    fn add_state(
+        &self,
+        place: usize,
+        instant: &Instant,
+        page: &mut Page,
+    ) -> Result<(), AllocError> {
         let registers = &self.slots.registers.slots;
-        if !registers.iter().any(|slot| is_told(slot, values)) {
+        if registers.iter().any(|slot| is_told(slot, instant)) {
+            page.begin("state")?;
+            if place == 0 {
+                page.put(b"at the start: ")?;
+            }
+            self.add_registers(instant, page)?;
+            return page.end();
+        }
+        if place == 0 || !registers.iter().all(|slot| may_differ(slot, instant)) {
             return Ok(());
         }
         page.begin("state")?;
-        if place == 0 {
-            page.put(b"at the start: ")?;
-        }
-        self.add_registers(values, page)?;
+        page.put(b"any: this can begin at every instant")?;
         page.end()
     }
 
     /// Adds the early slots that may have any value.
-    fn add_free(&self, first: usize, instant: &Instant, page: &mut Page) -> Result<(), AllocError> {
+    fn add_free(&self, instant: &Instant, page: &mut Page) -> Result<(), AllocError> {
         let mut between = ";";
         for slot in &self.slots.early.slots {
-            if is_free(slot, first, instant) {
+            if is_free(slot, instant) {
                 let mut piece = Vec::new(self.alloc);
                 self.names.add_label(&slot.label, &mut piece)?;
                 page.item(&piece, between)?;
@@ -124,34 +135,21 @@ impl<'p, 'a> Play<'p, 'a> {
 
     /// Adds what is given at an instant.
     fn add_given(&self, instant: &Instant, page: &mut Page) -> Result<(), AllocError> {
-        let first = self.first_early();
         for slot in &self.slots.early.slots {
-            if !is_free(slot, first, instant) {
+            if !is_free(slot, instant) {
                 page.item(&self.valued(slot, &instant.values)?, ",")?;
             }
         }
-        self.add_free(first, instant, page)
+        self.add_free(instant, page)
     }
 
-    fn first_early(&self) -> usize {
-        match self.slots.early.slots.get(0) {
-            None => 0,
-            Some(slot) => slot.first,
-        }
-    }
-
-    fn add_row(
-        &self,
-        row: &Row<'a>,
-        word: &str,
-        values: &[bool],
-        page: &mut Page,
-    ) -> Result<(), AllocError> {
-        if row.slots.is_empty() {
+    /// Adds what comes behind the choice, if something does.
+    fn add_late(&self, values: &[bool], page: &mut Page) -> Result<(), AllocError> {
+        if self.slots.late.slots.is_empty() {
             return Ok(());
         }
-        page.begin(word)?;
-        for slot in &row.slots {
+        page.begin("then")?;
+        for slot in &self.slots.late.slots {
             page.item(&self.valued(slot, values)?, ",")?;
         }
         page.end()
@@ -163,7 +161,12 @@ impl<'p, 'a> Play<'p, 'a> {
             page.put(b"nothing is left to choose")?;
             return page.end();
         }
-        self.add_row(&self.slots.controls, "choice", values, page)
+        page.begin("choice")?;
+        for slot in &self.slots.controls.slots {
+            page.item(&self.valued(slot, values)?, ",")?;
+        }
+        page.put(b" (no other choice helps)")?;
+        page.end()
     }
 
     /// A change of an automaton's state, if there is one.
@@ -220,14 +223,14 @@ impl<'p, 'a> Play<'p, 'a> {
         page: &mut Page,
     ) -> Result<(), AllocError> {
         self.add_heading(place, page)?;
-        self.add_state(place, &instant.values, page)?;
+        self.add_state(place, instant, page)?;
         if !self.slots.early.slots.is_empty() {
             page.begin("given")?;
             self.add_given(instant, page)?;
             page.end()?;
         }
         self.add_choice(&instant.values, page)?;
-        self.add_row(&self.slots.late, "then", &instant.values, page)?;
+        self.add_late(&instant.values, page)?;
         match self.instants.get(place.saturating_add(1)) {
             None => Ok(()),
             Some(next) => self.add_moves(&instant.values, &next.values, page),
