@@ -318,16 +318,19 @@ impl<'w, 'a> Walk<'w, 'a> {
         for control in controls {
             self.add_declared(Subject::Control(control), control)?;
         }
-        self.scope.add(controls)
+        Ok(())
     }
 
     fn node(&mut self, node: &'a Node) -> Result<(), AllocError> {
         self.inputs(node)?;
         self.rows(node)?;
-        self.controls(controls_of(&node.contract))?;
+        let controls = controls_of(&node.contract);
+        self.controls(controls)?;
         if let Some(contract) = &node.contract {
             self.contract(contract)?;
         }
+        // The contract sees no controllable variable, and may have a variable of the same name.
+        self.scope.add(controls)?;
         self.block(&node.body)
     }
 }

@@ -35,6 +35,10 @@ fn may_differ(slot: &Slot, instant: &Instant) -> bool {
     true
 }
 
+fn is_input(slot: &Slot) -> bool {
+    matches!(slot.label.subject, Subject::Input(_))
+}
+
 /// Whether a register is told of in the state of an instant.
 fn is_told(slot: &Slot, instant: &Instant) -> bool {
     match slot.label.subject {
@@ -275,7 +279,7 @@ impl<'p, 'a> Play<'p, 'a> {
             };
             let line = self.given_line(instant)?;
             if place > from && line != given {
-                self.add_run(first, place - 1, &given, page)?;
+                self.add_run(first, place.saturating_sub(1), &given, page)?;
                 runs = runs.saturating_add(1);
                 first = place;
             }
@@ -354,8 +358,7 @@ impl<'p, 'a> Play<'p, 'a> {
     pub fn add_free_places(&self, page: &mut Page) -> Result<(), AllocError> {
         let early = &self.slots.early.slots;
         let late = &self.slots.late.slots;
-        let is_input = |slot: &Slot| matches!(slot.label.subject, Subject::Input(_));
-        if late.is_empty() && early.iter().all(is_input) {
+        if late.is_empty() && early.iter().all(|slot| is_input(slot)) {
             return Ok(());
         }
         page.end()?;
