@@ -19,7 +19,11 @@ fn add_codes(alloc: Global, slot: &Slot, page: &mut Page) -> Result<(), AllocErr
         let mut piece = Vec::new(alloc);
         for i in 0..slot.width {
             let shift = (slot.width - 1 - i).min(63) as u32;
-            piece.push(if (number >> shift) & 1 == 1 { b'1' } else { b'0' })?;
+            piece.push(if (number >> shift) & 1 == 1 {
+                b'1'
+            } else {
+                b'0'
+            })?;
         }
         piece.push(b' ')?;
         add_value(values, number, &mut piece)?;

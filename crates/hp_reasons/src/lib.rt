@@ -3,10 +3,12 @@
 //! Proved: what `reason_of` says of the machine and of the play. The text is tested alone (`tools/tests/test_why.py`).
 #![tactic(auto)]
 
+mod because;
 mod error;
 mod legend;
 mod names;
 mod page;
+mod parts;
 mod plays;
 mod reason;
 mod slots;

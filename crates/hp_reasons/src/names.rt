@@ -9,7 +9,7 @@ use hp_tree::{Eqn, Expr, ExprKind, Node, Program, State};
 use std::alloc::{AllocError, Global};
 
 /// The most bytes of an expression that is quoted.
-const QUOTED: usize = 60;
+pub const QUOTED: usize = 60;
 
 /// How the variables of a node are shown: those that inlining made have the name of the output that is a copy of them, if there is one.
 #[derive(Drop)]

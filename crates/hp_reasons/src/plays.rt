@@ -374,11 +374,7 @@ impl<'p, 'a> Play<'p, 'a> {
     }
 
     /// Adds the assumption of a node that is called, if it has one.
-    fn add_assumption(
-        &self,
-        call: Call<'a>,
-        page: &mut Page,
-    ) -> Result<(), AllocError> {
+    fn add_assumption(&self, call: Call<'a>, page: &mut Page) -> Result<(), AllocError> {
         let Some(callee) = self.names.nodes.find(call.node.bytes()) else {
             return Ok(());
         };

@@ -4,16 +4,18 @@ ghost use Rattle.hp_abstract.specs.Machines.{IsMachineOf};
 ghost use Rattle.hp_boolx.specs.Machine.{game};
 ghost use Rattle.hp_play.specs.Plays.{IsOutcome};
 
+use crate::because::Cause;
 use crate::error::WhyErr;
 use crate::legend::add_legend;
 use crate::names::Names;
 use crate::page::{Page, add_place};
+use crate::parts::Probe;
 use crate::plays::Play;
 use crate::slots::{Slots, slots_of};
 use hp_abstract::{Abstraction, abstraction};
-use hp_boolx::{BoolMachine, eval};
+use hp_boolx::BoolMachine;
 use hp_labels::labels_of;
-use hp_play::{Instant, Outcome, losing_play, replay};
+use hp_play::{Outcome, losing_play, replay};
 use hp_tree::{Expr, Node, Program};
 use std::alloc::{AllocError, Global};
 
@@ -67,25 +69,14 @@ pub fn reason_of<'a>(
     })
 }
 
-/// Whether a gate holds at an instant.
-fn holds(
-    alloc: Global,
-    m: &BoolMachine,
-    gate: usize,
-    instant: &Instant,
-) -> Result<bool, AllocError> {
-    if instant.values.len() != usize::from(m.vars()) {
-        return Ok(false);
-    }
-    let mut gates = vec![in alloc; false; m.gates.len()]?;
-    eval(m, &instant.values, &mut gates);
-    Ok(gates.get(gate) == Some(&true))
-}
-
 fn add_headline(count: usize, has_choice: bool, page: &mut Page) -> Result<(), AllocError> {
     page.put(b": a violation of the contract is forced in ")?;
     page.put_number(count)?;
-    page.put(if count == 1 { b" instant" } else { b" instants" })?;
+    page.put(if count == 1 {
+        b" instant"
+    } else {
+        b" instants"
+    })?;
     page.put(if has_choice {
         b", whatever is chosen."
     } else {
@@ -102,52 +93,70 @@ fn guarantee(node: &Node) -> Option<&Expr> {
     }
 }
 
-fn add_guarantee(
+/// Adds a part of the guarantee that is false.
+fn add_false_part(
     alloc: Global,
     names: &Names,
-    enforce: &Expr,
+    part: &Expr,
     page: &mut Page,
 ) -> Result<(), AllocError> {
     let mut piece = Vec::new(alloc);
-    names.add_quoted(enforce.span, &mut piece)?;
+    names.add_quoted(part.span, &mut piece)?;
     piece.extend_from_slice(b" (")?;
-    add_place(enforce.span, &mut piece)?;
+    add_place(part.span, &mut piece)?;
     piece.extend_from_slice(b") is false")?;
     page.begin("violated")?;
     page.put(&piece)?;
     page.end()
 }
 
+/// The node of which is told, and how its names are shown.
+#[derive(Clone, Copy)]
+struct Told<'t, 'a> {
+    program: &'a Program,
+    node: &'a Node,
+    names: &'t Names<'a>,
+}
+
 impl<'a> Reason<'a> {
-    /// Adds what is violated at the last instant.
+    /// Adds what is violated at the last instant: parts of the guarantee, and why, or else the assumption of a node that is called.
     fn add_violated(
         &self,
-        node: &Node,
+        told: &Told<'_, 'a>,
         play: &Play,
         page: &mut Page,
-    ) -> Result<(), AllocError> {
-        let m = &self.made.machine;
-        let Some(last) = play.instants.last() else {
-            return Ok(());
+    ) -> Result<(), WhyErr> {
+        let (Some(last), Some(guarantee)) = (play.instants.last(), guarantee(told.node)) else {
+            return Ok(play.add_assumptions(page)?);
         };
-        let is_kept = holds(play.alloc, m, self.made.enforce, last)?;
-        match guarantee(node) {
-            Some(enforce) if !is_kept => add_guarantee(play.alloc, play.names, enforce, page),
-            _ => play.add_assumptions(page),
+        let probe = Probe {
+            alloc: play.alloc,
+            program: told.program,
+            node: told.node,
+            machine: &self.made.machine,
+            values: &last.values,
+        };
+        let parts = probe.false_parts()?;
+        if parts.is_empty() {
+            return Ok(play.add_assumptions(page)?);
         }
+        for part in &parts {
+            add_false_part(play.alloc, told.names, part, page)?;
+        }
+        let cause = Cause {
+            names: told.names,
+            probe,
+            guarantee,
+        };
+        cause.add(told.node, &parts, page)
     }
 
-    fn add_play(
-        &self,
-        node: &Node,
-        play: &Play,
-        page: &mut Page,
-    ) -> Result<(), AllocError> {
+    fn add_play(&self, told: &Told<'_, 'a>, play: &Play, page: &mut Page) -> Result<(), WhyErr> {
         let has_choice = !self.slots.controls.slots.is_empty();
         add_headline(play.instants.len(), has_choice, page)?;
         play.add_free_places(page)?;
         play.add_instants(page)?;
-        self.add_violated(node, play, page)
+        self.add_violated(told, play, page)
     }
 }
 
@@ -158,7 +167,7 @@ pub fn explain<'a>(
     program: &'a Program,
     node: &'a Node,
     reason: &Reason<'a>,
-) -> Result<Vec<u8>, AllocError> {
+) -> Result<Vec<u8>, WhyErr> {
     let names = Names::new(alloc, text, program, node)?;
     let mut page = Page::new(alloc);
     page.put(node.name.bytes())?;
@@ -174,7 +183,12 @@ pub fn explain<'a>(
                 slots: &reason.slots,
                 instants: play,
             };
-            reason.add_play(node, &shown, &mut page)?;
+            let told = Told {
+                program,
+                node,
+                names: &names,
+            };
+            reason.add_play(&told, &shown, &mut page)?;
         }
     }
     Ok(page.into_text())

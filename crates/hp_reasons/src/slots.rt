@@ -1,8 +1,8 @@
 //! The slots of a node with their variables.
 
+use crate::values::count_of;
 use hp_abstract::{Abstraction, Given, Shape};
 use hp_boolx::BoolMachine;
-use crate::values::count_of;
 use hp_labels::{Label, Subject, Values};
 use std::alloc::{AllocError, Global};
 

@@ -22,7 +22,7 @@ impl<'s> Source<'s> {
     }
 
     /// The bytes at a place; none where it is no place of the text.
-    fn bytes(&self, span: Span) -> &'s [u8] {
+    pub fn bytes(&self, span: Span) -> &'s [u8] {
         let line = (span.line as usize).saturating_sub(1);
         let Some(first) = self.lines.get(line) else {
             return &[];

@@ -69,7 +69,10 @@ fn unexplained(e: &WhyErr) -> Fault {
 fn explained(alloc: Global, text: &[u8], program: &Program, node: &Node) -> Result<Vec<u8>, Fault> {
     match reason_of(alloc, program, node) {
         Err(e) => Err(unexplained(&e)),
-        Ok(reason) => Ok(explain(alloc, text, program, node, &reason)?),
+        Ok(reason) => match explain(alloc, text, program, node, &reason) {
+            Ok(text) => Ok(text),
+            Err(e) => Err(unexplained(&e)),
+        },
     }
 }
 
