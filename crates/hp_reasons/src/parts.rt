@@ -7,14 +7,18 @@ use hp_boolx::{BoolMachine, eval};
 use hp_tree::{Const, Contract, Expr, ExprKind, Node, Op2, Program, copy_decls};
 use std::alloc::{AllocError, Global};
 
+fn add_part<'e>(part: &'e Expr, into: &mut Vec<&'e Expr>) -> Result<(), AllocError> {
+    into.push(part)?;
+    Ok(())
+}
+
 /// Adds the parts of a conjunction, from left to right.
 fn add_parts<'e>(expr: &'e Expr, into: &mut Vec<&'e Expr>) -> Result<(), AllocError> {
     if let ExprKind::Two(Op2::And, a, b) = &*expr.kind {
         add_parts(a, into)?;
         return add_parts(b, into);
     }
-    into.push(expr)?;
-    Ok(())
+    add_part(expr, into)
 }
 
 /// The parts of what a node enforces.
@@ -135,7 +139,7 @@ impl<'p> Probe<'p> {
         for i in 0..parts.len() {
             let enforce = only(self.alloc, &parts, i)?;
             if self.holds(enforce)? == Some(false) {
-                found.push(parts[i])?;
+                add_part(parts[i], &mut found)?;
             }
         }
         Ok(found)
