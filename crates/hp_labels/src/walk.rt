@@ -5,7 +5,8 @@ use crate::label::{Call, Label, Subject, Values};
 use crate::scope::Scope;
 use hp_base::{Name, Span};
 use hp_tree::{
-    Arm, Block, Cons, Contract, Decl, Eqn, Expr, ExprKind, Item, Node, Program, State, Trans, controls_of,
+    Arm, Block, Cons, Contract, Decl, Eqn, Expr, ExprKind, Item, Node, Program, State, Trans,
+    controls_of,
 };
 use std::alloc::{AllocError, Global};
 
