@@ -103,9 +103,9 @@ impl<'a> Sights<'a> {
 /// What a reason is told by.
 #[derive(Clone, Copy)]
 pub struct Cause<'c, 'a> {
-    pub names: &'c Names<'a>,
-    pub probe: Probe<'c>,
-    pub guarantee: &'c Expr,
+    names: &'c Names<'a>,
+    probe: Probe<'c>,
+    guarantee: &'c Expr,
 }
 
 /// The words that are looked at, and the names that were told.
@@ -117,6 +117,14 @@ struct Queue<'a> {
 }
 
 impl<'c, 'a> Cause<'c, 'a> {
+    pub fn new(names: &'c Names<'a>, probe: Probe<'c>, guarantee: &'c Expr) -> Cause<'c, 'a> {
+        Cause {
+            names,
+            probe,
+            guarantee,
+        }
+    }
+
     /// Adds a truth value with its equation. One that has none is an input, or is defined in an inner block.
     fn add_value(
         &self,

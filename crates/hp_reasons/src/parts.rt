@@ -100,10 +100,10 @@ fn copy_node(alloc: Global, node: &Node, enforce: Option<Expr>) -> Result<Node, 
 #[derive(Clone, Copy)]
 pub struct Probe<'p> {
     pub alloc: Global,
-    pub program: &'p Program,
-    pub node: &'p Node,
-    pub machine: &'p BoolMachine,
-    pub values: &'p [bool],
+    program: &'p Program,
+    node: &'p Node,
+    machine: &'p BoolMachine,
+    values: &'p [bool],
 }
 
 /// The value of a gate, where variables have these values; none where they are not those of the machine.
@@ -122,11 +122,28 @@ fn gate_at(
 }
 
 impl<'p> Probe<'p> {
+    pub fn new(
+        alloc: Global,
+        program: &'p Program,
+        node: &'p Node,
+        machine: &'p BoolMachine,
+        values: &'p [bool],
+    ) -> Probe<'p> {
+        Probe {
+            alloc,
+            program,
+            node,
+            machine,
+            values,
+        }
+    }
+
     /// Whether a guarantee holds that is put in the place of the node's own; none where it has other slots.
     fn holds(&self, enforce: Option<Expr>) -> Result<Option<bool>, WhyErr> {
         let copy = copy_node(self.alloc, self.node, enforce)?;
         let made = abstraction(self.alloc, self.program, &copy)?;
-        if made.machine.counts != self.machine.counts {
+        let machine = self.machine;
+        if made.machine.counts != machine.counts {
             return Ok(None);
         }
         Ok(gate_at(self.alloc, &made.machine, made.enforce, self.values)?)

@@ -129,13 +129,13 @@ impl<'a> Reason<'a> {
         let (Some(last), Some(guarantee)) = (play.instants.last(), guarantee(told.node)) else {
             return Ok(play.add_assumptions(page)?);
         };
-        let probe = Probe {
-            alloc: play.alloc,
-            program: told.program,
-            node: told.node,
-            machine: &self.made.machine,
-            values: &last.values,
-        };
+        let probe = Probe::new(
+            play.alloc,
+            told.program,
+            told.node,
+            &self.made.machine,
+            &last.values,
+        );
         let parts = probe.false_parts()?;
         if parts.is_empty() {
             return Ok(play.add_assumptions(page)?);
@@ -143,12 +143,7 @@ impl<'a> Reason<'a> {
         for part in &parts {
             add_false_part(play.alloc, told.names, part, page)?;
         }
-        let cause = Cause {
-            names: told.names,
-            probe,
-            guarantee,
-        };
-        cause.add(told.node, &parts, page)
+        Cause::new(told.names, probe, guarantee).add(told.node, &parts, page)
     }
 
     fn add_play(&self, told: &Told<'_, 'a>, play: &Play, page: &mut Page) -> Result<(), WhyErr> {
