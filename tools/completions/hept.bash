@@ -63,6 +63,7 @@ _hept_tool() {
         hept-explain) options="--all --help" ;;
         hept-wave) options="--contract --svg --vcd --lines --width --ascii --help" ;;
         hept-try) options="--false --all --instants --runs --seed --help" ;;
+        hept-why) options="--help" ;;
     esac
     if [[ ${1##*/} == hept-explain ]]; then
         if [[ $COMP_CWORD == 1 ]]; then
@@ -80,4 +81,4 @@ _hept_tool() {
 }
 
 complete -F _hept hept
-complete -F _hept_tool hept-explain hept-wave hept-try
+complete -F _hept_tool hept-explain hept-wave hept-try hept-why

@@ -12,11 +12,13 @@ TOOLS = {
     'hept-explain': 'explains a diagnostic, or runs hept and explains what it says',
     'hept-wave': 'draws a run of a node as text, as SVG, or as a value change dump',
     'hept-try': 'tries inputs of a node until an output is false or its contract is broken',
+    'hept-why': 'says why the contract of a node is lost, or what the variables of its certificate stand for',
 }
 TOOL_OPTIONS = {
     'hept-explain': ['--all', '--help'],
     'hept-wave': ['--contract', '--svg', '--vcd', '--lines', '--width', '--ascii', '--help'],
     'hept-try': ['--false', '--all', '--instants', '--runs', '--seed', '--help'],
+    'hept-why': ['--help'],
 }
 
 

@@ -18,6 +18,21 @@ def places():
     yield os.path.join(os.path.dirname(top), 'bin', 'hept')
 
 
+def why_places():
+    """Where the program hp_why may stand: in the repository as it was built, and beside the installed tools."""
+    yield os.path.join(os.path.dirname(HOME), 'crates', 'hp_why', 'out', 'hp_why')
+    yield os.path.join(HOME, 'hp_why')
+
+
+def find_why():
+    """The program that explains contracts: $HEPT_WHY, else the one that belongs to the tools."""
+    named = os.environ.get('HEPT_WHY')
+    for place in [named] if named else why_places():
+        if os.path.isfile(place) and os.access(place, os.X_OK):
+            return place
+    raise Wrong(f'$HEPT_WHY names no program: {named}' if named else 'there is no program hp_why; build it with ./build, or name it in $HEPT_WHY', 70)
+
+
 def find():
     """The program that is called: $HEPT, else the one that belongs to the tools, else that of the search path."""
     named = os.environ.get('HEPT')

@@ -134,7 +134,7 @@ class Repository(unittest.TestCase):
         done = subprocess.run([f'{prefix}/bin/hept-explain', 'check', 'x'], capture_output=True, text=True, env=free)
         self.assertEqual((done.returncode, done.stdout), (3, 'check x\n'))
         for name in ('share/man/man1/hept.1', 'share/bash-completion/completions/hept', 'share/zsh/site-functions/_hept', 'share/fish/vendor_completions.d/hept.fish',
-                     'share/hept/editors/vscode/package.json', 'share/hept/editors/vim/syntax/hept.vim', 'bin/hept-wave', 'bin/hept-try'):
+                     'share/hept/editors/vscode/package.json', 'share/hept/editors/vim/syntax/hept.vim', 'bin/hept-wave', 'bin/hept-try', 'bin/hept-why'):
             self.assertTrue(os.path.isfile(f'{prefix}/{name}'), name)
 
     def test_hept_is_found_through_links_and_from_anywhere(self):

@@ -2,7 +2,7 @@
 #[derive(Debug, Drop)]
 pub struct Instant {
     pub values: Vec<bool>,
-    /// Of each early variable whether it may as well have the other value, with those before it that may. No clause promises this.
+    /// Of each register and early variable whether it may as well have the other value, with those before it that may: from each such state and by each such input a violation is forced within as many instants. At the first instant no register may, and at instants between the ends of a long play nothing is said. No clause promises this.
     pub free: Vec<bool>,
 }
 

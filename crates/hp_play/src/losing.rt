@@ -22,6 +22,11 @@ use hp_diagram::{Ref, Table, zero};
 use hp_synth::{Layout, Verdict, all_in, layout_of, placed, prepare, solve};
 use std::alloc::{AllocError, Global};
 
+/// The most instants of a play at each of which it is asked what is free, and at how many at each end of a longer one.
+const WHOLE: usize = 20;
+
+const ENDS: usize = 3;
+
 /// A lost machine: where its variables stand in a table, what a solver works on there, and the states from which a violation is forced in one instant, in two, and so on.
 #[derive(Drop)]
 struct Field {
@@ -104,29 +109,42 @@ fn preferred(alloc: Global, m: &BoolMachine, layout: &Layout) -> Result<Vec<bool
     Ok(values)
 }
 
-/// Which early values are free, where these force a violation from the state here.
-fn free_early(
+/// The first variable of which is asked whether it is free, at an instant behind which so many are left: at the first instant the state is known, and between the ends of a long play nothing is asked.
+fn first_asked(field: &Field, left: usize) -> u16
+    ensures { result ≤ field.now.layout.counts.registers + field.now.layout.counts.early }
+{
+    let counts = field.layout.counts;
+    let count = field.ranks.len();
+    if left.saturating_add(1) >= count {
+        return counts.registers;
+    }
+    if count > WHOLE && left >= ENDS && left.saturating_add(ENDS) < count {
+        return counts.registers.saturating_add(counts.early);
+    }
+    0
+}
+
+/// Which registers and early values are free, where these force a violation.
+fn free_at(
     alloc: Global,
     t: &mut Table,
     field: &Field,
     forcing: Ref,
-    here: Ref,
     placed: &[bool],
+    first: u16,
 ) -> Result<Vec<bool>, AllocError>
     requires layout { IsLayout t.old.vars field.now.layout }
     requires roots { 5 ≤ length field.now.roots.items }
     requires has { HasEach t.old field.now.roots.items }
     requires forcing { Has t.old forcing }
-    requires here { Has t.old here }
     requires placed { length placed.now ≡ t.old.vars }
-    ensures many { IfOk result (λ free. length free.items ≡ field.now.layout.counts.early) }
+    requires first { first ≤ field.now.layout.counts.registers + field.now.layout.counts.early }
+    ensures many { IfOk result (λ free. length free.items ≡ field.now.layout.counts.registers + field.now.layout.counts.early) }
     ensures keeps { OnOk result (Keeps t.old t.new) }
 {
     let invalid = t.not(field.roots[4])?;
-    let elsewhere = t.not(here)?;
-    let aside = t.or(invalid, elsewhere)?;
-    let serve = t.or(forcing, aside)?;
-    free_values(alloc, t, &field.layout, serve, placed)
+    let serve = t.or(forcing, invalid)?;
+    free_values(alloc, t, &field.layout, serve, placed, first)
 }
 
 /// An instant of a shortest play in this state, behind which so many are left.
@@ -154,7 +172,8 @@ fn instant_at(
     let mut placed = preferred(alloc, m, &field.layout)?;
     pick(t, moves, &mut placed);
     let values = own_values(alloc, m.vars(), &field.layout, &placed)?;
-    let free = free_early(alloc, t, field, threat.forcing, here, &placed)?;
+    let first = first_asked(field, left);
+    let free = free_at(alloc, t, field, threat.forcing, &placed, first)?;
     Ok(Instant { values, free })
 }
 

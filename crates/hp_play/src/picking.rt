@@ -95,25 +95,26 @@ pub fn own_values(
     Ok(values)
 }
 
-/// Of each early variable whether it may have the other value too, with those before it that may, where these are the valuations that serve.
+/// Of each register and early variable from the first one on whether it may have the other value too, with those before it that may, where these are the valuations that serve; those before the first one may not.
 pub fn free_values(
     alloc: Global,
     t: &mut Table,
     layout: &Layout,
     serve: Ref,
     placed: &[bool],
+    first: u16,
 ) -> Result<Vec<bool>, AllocError>
     requires layout { IsLayout t.old.vars layout.now }
     requires serve { Has t.old serve }
     requires placed { length placed.now ≡ t.old.vars }
-    ensures many { IfOk result (λ free. length free.items ≡ layout.now.counts.early) }
+    requires first { first ≤ layout.now.counts.registers + layout.now.counts.early }
+    ensures many { IfOk result (λ free. length free.items ≡ layout.now.counts.registers + layout.now.counts.early) }
     ensures keeps { OnOk result (Keeps t.old t.new) }
 {
     let _vars = t.vars();
     let mut left = serve;
-    let mut free = Vec::new(alloc);
-    for k in 0..layout.counts.early {
-        let x = layout.counts.registers + k;
+    let mut free = vec![in alloc; false; usize::from(first)]?;
+    for x in first..layout.counts.registers + layout.counts.early {
         let wider = all_in(alloc, t, layout, left, x, x + 1)?;
         let serves = t.value(wider, placed);
         left = either(serves, wider, left);

@@ -10,16 +10,13 @@ use Rattle.hp_play.specs.Fields.{Exactly}
 use Rattle.hp_play.proofs.FieldLaws.{field-has, field-keeps, instant-is, put-back, some-here, threat-keeps}
 use Rattle.hp_play.proofs.losing.instant_at.Goals as goal
 
-pub free_early-requires-clause-has : goal.free_early-requires-clause-has
-free_early-requires-clause-has c =
+pub free_at-requires-clause-has : goal.free_at-requires-clause-has
+free_at-requires-clause-has c =
     let k = Keeps-trans _ _ _ (Keeps-trans _ _ _ c.in_ok-threat.ensures.keeps c.in_ok-here.ensures.keeps) c.and.ensures.keeps in
     field-has (game c.args.m.now) _ c.args.field.now (field-keeps (game c.args.m.now) c.args.t.now c.args.field.now c.requires.field _ k)
 
-pub free_early-requires-clause-forcing : goal.free_early-requires-clause-forcing
-free_early-requires-clause-forcing c = c.and.ensures.keeps.has _ (c.in_ok-here.ensures.keeps.has _ c.in_ok-threat.ensures.threat.forcing)
-
-pub free_early-requires-clause-here : goal.free_early-requires-clause-here
-free_early-requires-clause-here c = c.and.ensures.keeps.has _ c.in_ok-here.ensures.ok.has
+pub free_at-requires-clause-forcing : goal.free_at-requires-clause-forcing
+free_at-requires-clause-forcing c = c.and.ensures.keeps.has _ (c.in_ok-here.ensures.keeps.has _ c.in_ok-threat.ensures.threat.forcing)
 
 pub returns-clause-instant : goal.returns-clause-instant
 returns-clause-instant c =

@@ -2,5 +2,5 @@ use Rattle.std.proofs.Common.{◌≡◌, length}
 use Rattle.hp_diagram.specs.Diagrams.{Has, Keeps}
 use Rattle.hp_play.proofs.picking.free_values.Given as goal
 
-abbrev pub invariant-loop-k : goal.invariant-loop-k
-invariant-loop-k l = (length l.free.items ≡ l.k) × Has l.t l.left × Keeps l.initial.t l.t
+abbrev pub invariant-loop-x : goal.invariant-loop-x
+invariant-loop-x l = (length l.free.items ≡ l.x) × Has l.t l.left × Keeps l.initial.t l.t
