@@ -157,16 +157,16 @@ pub record IsHeard (input : List ℕ) (log : List Event) : Type 0 where
   pub are : input ≡ heard log ++ rest
   pub end : has_ended log ≡ true → rest ≡ []
 
-module _ (input : List ℕ) (log : List Event) (h : IsHeard input log) (s : System) where
-  all_heard : has_ended log ≡ true → heard log ≡ input
-  all_heard e = sym (append-nil (heard log)) ∙ sym (ap (λ z. heard log ++ z) (h.end e)) ∙ sym h.are
+all_heard : (input : List ℕ) (log : List Event) → IsHeard input log → has_ended log ≡ true → heard log ≡ input
+all_heard input log h e = sym (append-nil (heard log)) ∙ sym (ap (λ z. heard log ++ z) (h.end e)) ∙ sym h.are
 
+module _ (input : List ℕ) (log : List Event) (h : IsHeard input log) (s : System) where
   whole_trace : has_ended log ≡ true → IsAnswer s (lines_of true (heard log)) (said log) → first_bad (inputs_of s) 1 (lines_of true (heard log)) ≡ None → IsTrace s (lines_of true input) (said log) [] 0
-  whole_trace e answer good = subst (λ z. IsTrace s (lines_of true z) (said log) [] 0) (all_heard e) (IsTrace.whole answer good)
+  whole_trace e answer good = subst (λ z. IsTrace s (lines_of true z) (said log) [] 0) (all_heard input log h e) (IsTrace.whole answer good)
 
   broken_by : (b : Bool) → has_ended log ≡ b → (bad : BadLine) → IsAnswer s (lines_of b (heard log)) (said log) → first_bad (inputs_of s) 1 (lines_of b (heard log)) ≡ Some bad →
       IsTrace s (lines_of true input) (said log) (bad_line_line bad) 3
-  broken_by true e bad answer fault = subst (λ z. IsTrace s (lines_of true z) (said log) (bad_line_line bad) 3) (all_heard e) (IsTrace.broken bad answer fault)
+  broken_by true e bad answer fault = subst (λ z. IsTrace s (lines_of true z) (said log) (bad_line_line bad) 3) (all_heard input log h e) (IsTrace.broken bad answer fault)
   broken_by false e bad answer fault =
       let all = lines_of true (heard log ++ h.rest) in
       let same = same_up_to (inputs_of s) (heard log) h.rest bad fault in
@@ -191,6 +191,10 @@ program_of files file program held = record {
   arranged = held.arranged;
 }
 
+-- machines that choose
+choosing : (files : Files) (file : List ℕ) (o : Obc) (chosen : AreChosen (Some files) file o) → Choose (program_of files file chosen.program chosen.held) o
+choosing files file o chosen = record { kept = chosen.kept.safe; says = chosen.says }
+
 -- what stands behind the line of a contract that is lost
 loss_text : (m : BoolMachine) (wide : Bool) (instants : ℕ) (text : Option (List ℕ)) → ShowsLoss m wide instants text → Certifies (behind_forced text) (Lose instants) ⊎ (behind_forced text ≡ too_long_line Text)
 loss_text m wide instants None h = inr refl
@@ -209,10 +213,6 @@ module _ (words : List (List ℕ)) (files left : Files) (input : List ℕ) where
   -- a row over the files that are left
   at_left : (z : Files) (bytes line : List ℕ) (status : ℕ) → left ≡ z → Does words files input bytes line z status → Does words files input bytes line left status
   at_left z bytes line status e row = subst (λ y. Does words files input bytes line y status) (sym e) row
-
-  -- machines that choose
-  choosing : (file : List ℕ) (o : Obc) (chosen : AreChosen (Some files) file o) → Choose (program_of files file chosen.program chosen.held) o
-  choosing file o chosen = record { kept = chosen.kept.safe; says = chosen.says }
 
   module _ (law : WrittenLaw) (none : IsNoSegment words) where
     does_the_same : (file text : List ℕ) (o : Obc) (written : AreWritten (Some files) file o) → IsPrinted o text → DoesTheSame text written.compiled.held.clocked
@@ -239,7 +239,7 @@ module _ (words : List (List ℕ)) (files left : Files) (input : List ℕ) where
     wrote status (Leaves.chosen_written {file = f} {out = o} {text = t} {o = ms} w chosen some printed same) e out x =
         let z = finmap.insert files o t in
         at_left z [] [] 0 (some_same left z same)
-        (Does.chosen_compiled t (program_of files f chosen.program chosen.held) w some (choosing f ms chosen) printed.stands)
+        (Does.chosen_compiled t (program_of files f chosen.program chosen.held) w some (choosing files f ms chosen) printed.stands)
     wrote status (Leaves.chosen_in_part why w chosen some printed b c) e out x = absurd (elim why [ inl k ↦ omega (arith, e, k) | inr k ↦ omega (arith, e, k) ])
     wrote status (Leaves.unfolded {file = f} {out = o} {program = p} w holds short same) e out x =
         let z = finmap.insert files o (unfolded_text p) in at_left z [] [] 0 (some_same left z same) (Does.unfolded w holds.gives holds.program_of)
@@ -312,11 +312,11 @@ module _ (words : List (List ℕ)) (files left : Files) (input : List ℕ) where
         at_left files bytes line status same (Does.ran (program_of files f compiled.program compiled.held) w compiled.kept.safe compiled.uncontrolled t)
     ran s bytes line status (IsAskedFor.a_machine w ms there) t = at_left files bytes line status same (Does.executed there.machine w ms.held ms.read there.named t)
     ran s bytes line status (IsAskedFor.a_chosen_node {file = f} {o = o} n w chosen some named there is) t =
-        at_left files bytes line status same (Does.chose (program_of files f chosen.program chosen.held) w some (choosing f o chosen) (IsOwnOf.own n named is) t)
+        at_left files bytes line status same (Does.chose (program_of files f chosen.program chosen.held) w some (choosing files f o chosen) (IsOwnOf.own n named is) t)
     ran s bytes line status (IsAskedFor.a_contract {file = f} {o = o} n w chosen named some there is) t =
-        at_left files bytes line status same (Does.told (program_of files f chosen.program chosen.held) w (choosing f o chosen) (IsTellerOf.with_contract n named some is) t)
+        at_left files bytes line status same (Does.told (program_of files f chosen.program chosen.held) w (choosing files f o chosen) (IsTellerOf.with_contract n named some is) t)
     ran s bytes line status (IsAskedFor.no_contract {file = f} {o = o} n w chosen named without there is) t =
-        at_left files bytes line status same (Does.told (program_of files f chosen.program chosen.held) w (choosing f o chosen) (IsTellerOf.without n named without is) t)
+        at_left files bytes line status same (Does.told (program_of files f chosen.program chosen.held) w (choosing files f o chosen) (IsTellerOf.without n named without is) t)
 
     -- the program without the formulas of its contracts was not written
     past_refused : (file out line : List ℕ) (status : ℕ) → IsPastOf words file out → PastOutcome (Some files) file line status → status ≢ 0 → status ≢ 5 → Does words files input [] line left status
@@ -369,7 +369,7 @@ module _ (words : List (List ℕ)) (files left : Files) (input : List ℕ) where
         no_node_to_run (untouched words files left 1 leaves f g (inl (λ k. omega (arith, k)))) x y p asks held kept.safe unnamed
     ended log line status (Outcome.chosen_too_large {file = x} {o = o} limit chosen asks for passed) h leaves e f g =
         let same = untouched words files left 1 leaves f g (inl (λ k. omega (arith, k))) in
-        at_left files [] line 1 same (Does.chosen_too_large limit (program_of files x chosen.program chosen.held) asks (choosing x o chosen) for passed)
+        at_left files [] line 1 same (Does.chosen_too_large limit (program_of files x chosen.program chosen.held) asks (choosing files x o chosen) for passed)
     ended log line status (Outcome.accepted {file = x} {program = p} print w held kept) h leaves e f g =
         let same = untouched words files left 0 leaves f g (inr (writes_nothing 5099 (λ k. omega (arith, k)) (λ k. omega (arith, k)) (λ k. omega (arith, k)) words none (check_mark words x print w))) in
         subst (λ z. Does words files input z [] left 0) (sym (said_put (accepted_text print p))) (at_left files (accepted_text print p) [] 0 same (Does.accepted print (program_of files x p held) w kept.safe))
@@ -444,7 +444,7 @@ module _ (law : CompiledLaw) (files : Files) (file node : List ℕ) (o : Obc) wh
   runs_by s (AreRun.of_program compiled) m named =
       (program_of files file compiled.program compiled.held, Runs.the_node compiled.uncontrolled compiled.kept.safe (law (Some files) file o compiled node m named))
   runs_by s (AreRun.that_choose n chosen some found is) m named =
-      (program_of files file chosen.program chosen.held, Runs.the_machine some (record { kept = chosen.kept.safe; says = chosen.says }) (IsOwnOf.own n found is))
+      (program_of files file chosen.program chosen.held, Runs.the_machine some (choosing files file o chosen) (IsOwnOf.own n found is))
 
   runs_of : (there : IsRunnable (Some files) file node o) → (p : Program files file) × Runs p o node there.system
   runs_of there = runs_by there.system there.are there.machine.machine there.machine.named
@@ -485,7 +485,7 @@ module _ (words : List (List ℕ)) (files : Files) (input : List ℕ) (law : Wri
   saves o memory s log text begins a h is =
       let start = starts_of compiled files file node o from memory s begins in
       Ends.saved start.0 asked start.1 (whole_trace input log h s a.end a.answer a.good)
-      (subst (λ z. IsCheckpointOf o node (memory_past o node memory (lines_of true z)) text) (all_heard input log h s a.end) is)
+      (subst (λ z. IsCheckpointOf o node (memory_past o node memory (lines_of true z)) text) (all_heard input log h a.end) is)
 
   segment_ended : (left : Files) (log : List Event) (line : List ℕ) (status : ℕ) → SegmentRun (Some files) (Some left) file node from out log line status → IsHeard input log →
       status ≢ 4 → status ≢ 5 → status ≢ 6 → Ends words files input (said log) line left status
