@@ -33,12 +33,11 @@ use Rattle.hp_driver.specs.BadLines.{bad_line_line}
 use Rattle.hp_driver.specs.Asking.{AsksToChoose, AsksToRun}
 use Rattle.hp_driver.specs.Claim.{Does, Ends}
 use Rattle.hp_driver.specs.ClaimTerms.{AllKept, Certifies, Choose, DoesTheSame, IsOwnOf, IsReadAs, IsTellerOf, IsTrace, LacksFile, Program, Runs, Starts}
-use Rattle.hp_driver.specs.Checkpoints.{IsCheckpointOf}
+use Rattle.hp_driver.specs.Checkpoints.{IsCheckpointOf, memory_past}
 use Rattle.hp_driver.specs.Command.{IsRunOf, IsTellOf, IsCheckOf, IsExecOf, IsPastOf, IsVerifyOf, IsSweepOf, IsNoSegment, IsSegmentOf, IsOver, IsOverSource, IsOverContract, Writes, no_node_line, verdict_text, accepted_text}
 use Rattle.hp_driver.specs.Commanded.{Spells, SpellsSegment, file_of}
 use Rattle.hp_driver.specs.Diagnostics.{behind_forced, certificate_status, contract_line, forced_line, refusal_line, too_long_line}
 use Rattle.hp_driver.specs.Happened.{Happened}
-use Rattle.hp_driver.specs.Joined.{memory_past}
 use Rattle.hp_driver.specs.Leaves.{IsPrinted, Leaves}
 use Rattle.hp_driver.specs.Lines.{lines_of}
 use Rattle.hp_driver.specs.Log.{heard, said, has_ended}

@@ -1,8 +1,12 @@
--- Words that ask for machines which choose the values of controllable variables.
-use Rattle.std.specs.Prelude.{◌≡◌, ◌⊎◌, ◌++◌, true, List, ℕ, codes}
+-- Words that ask for a run, or for machines that choose the values of controllable variables.
+use Rattle.std.specs.Prelude.{◌≡◌, ◌⊎◌, ℕ, true, List, [], ◌∷◌, ◌++◌, codes}
 use Rattle.hp_tree.specs.declared.program.Item.{Item}
 use Rattle.hp_driver.specs.Command.{IsRunOf, IsTellOf, IsCompileOf}
 use Rattle.hp_driver.specs.Controls.{has_controls}
+
+-- the words of `run` for a node
+abbrev pub run_words : List ℕ → List ℕ → List (List ℕ)
+run_words file node = codes "run" ∷ file ∷ node ∷ []
 
 -- The words ask for the machines of a program that choose the values of its controllable variables, or for what its contracts assume and enforce.
 pub data AsksToChoose (words : List (List ℕ)) (file : List ℕ) (program : List Item) : Type 0 where

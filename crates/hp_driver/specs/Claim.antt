@@ -35,10 +35,8 @@ use Rattle.hp_driver.specs.Lines.{lines_of}
 use Rattle.hp_driver.specs.PastOutcome.{unfolded_text}
 use Rattle.hp_driver.specs.Systems.{System, of_node, of_machine}
 use Rattle.hp_obc.specs.Steps.{Memory}
-use Rattle.hp_driver.specs.Asking.{AsksToChoose, AsksToRun, IsRunFor}
-use Rattle.hp_driver.specs.Checkpoints.{IsCheckpointOf, RefusesCheckpoint}
-use Rattle.hp_driver.specs.Joined.{memory_past}
-use Rattle.hp_driver.specs.Segments.{run_words}
+use Rattle.hp_driver.specs.Asking.{AsksToChoose, AsksToRun, IsRunFor, run_words}
+use Rattle.hp_driver.specs.Checkpoints.{IsCheckpointOf, RefusesCheckpoint, memory_past}
 use Rattle.hp_obctext.specs.declared.memory.error.MemErr.{MemErr}
 use Rattle.hp_driver.specs.ClaimTerms.{Program, AllKept, IsFirst, Certifies, IsUndecidable, IsTrace, DoesTheSame, Choose, IsOwnOf, IsTellerOf, Runs, Starts, IsReadAs, LacksFile}
 
