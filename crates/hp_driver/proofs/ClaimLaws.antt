@@ -41,7 +41,7 @@ use Rattle.hp_driver.specs.Happened.{Happened}
 use Rattle.hp_driver.specs.Leaves.{IsPrinted, Leaves}
 use Rattle.hp_driver.specs.Lines.{lines_of}
 use Rattle.hp_driver.specs.Log.{heard, said, has_ended}
-use Rattle.hp_driver.specs.Outcome.{Outcome, IsHeld, AreChosen, AreWritten, AreAskedFor, HasContract, IsAskedFor}
+use Rattle.hp_driver.specs.Outcome.{Outcome, IsHeld, AreChosen, AreWritten, AreAskedFor, HasContract, IsAskedFor, LacksNode}
 use Rattle.hp_driver.specs.PastOutcome.{PastOutcome, unfolded_text}
 use Rattle.hp_driver.specs.Segments.{AreRun, Begins, CallOutcome, IsRunnable, SegmentRun, Stops, Traced, memory_after, run_words}
 use Rattle.hp_driver.specs.Status.{code_of}
@@ -56,7 +56,7 @@ use Rattle.hp_driver.specs.declared.words.Command.{Command}
 use Rattle.hp_driver.specs.declared.words.Segment.{Segment}
 use Rattle.hp_driver.proofs.GoodLines.{same_up_to}
 use Rattle.hp_driver.proofs.OutcomeLaws.{over_of}
-use Rattle.hp_driver.proofs.SourceCalls.{first_heading, other_headings}
+use Rattle.hp_driver.proofs.NamedLaws.{machine_of_node}
 
 some_same : {A : Type 0} (a b : A) → Some a ≡ Some b → a ≡ b
 some_same a b e = ap (λ o. unwrap_or o a) e
@@ -120,30 +120,6 @@ module _ (words : List (List ℕ)) (files left : Files) where
   untouched status (Leaves.proof_in_part why w there proof b c) f g h = absurd (elim why [ inl e ↦ f e | inr e ↦ g e ])
   untouched status (Leaves.saved {out = o} w there is same) f g h = absurd (elim h [ inl n ↦ n refl | inr n ↦ n o (Writes.a_checkpoint w) ])
   untouched status (Leaves.saved_in_part why w there is b c) f g h = absurd (elim why [ inl e ↦ f e | inr e ↦ g e ])
-
--- ---- the machine of a node
-
-machine_of_node : (items : List Item) (ms : List Machine) (f : List ℕ) (n : Node) → map heading_of_machine ms ≡ headings_of items → node_among items f ≡ Some n → (m : Machine) × (machine_named ms f ≡ Some m)
-machine_of_node [] ms f n e h = absurd cc
-machine_of_node (TypeItem t ∷ items) ms f n e h = machine_of_node items ms f n e h
-machine_of_node (NodeItem k ∷ items) [] f n e h = absurd cc
-machine_of_node (NodeItem k ∷ items) (m ∷ ms) f n e h =
-    by (bytes_eq m.name f) refl (λ named. machine_of_node items ms f n (other_headings (heading_of_machine m) (heading_of_node k) (map heading_of_machine ms) (headings_of items) e) named)
-  where
-    same : bytes_eq k.name f ≡ bytes_eq m.name f
-    same = ap (λ z. bytes_eq z.name f) (sym (first_heading (heading_of_machine m) (heading_of_node k) (map heading_of_machine ms) (headings_of items) e))
-
-    by : (b : Bool) → bytes_eq m.name f ≡ b → (node_among items f ≡ Some n → (x : Machine) × (machine_named ms f ≡ Some x)) → (x : Machine) × (machine_named (m ∷ ms) f ≡ Some x)
-    by true q rest = (m, ap (λ d. if d then Some m else machine_named ms f) q)
-    by false q rest =
-        let found = rest (sym (ap (λ d. if d then Some k else node_among items f) (same ∙ q)) ∙ h) in (found.0, ap (λ d. if d then Some m else machine_named ms f) q ∙ found.1)
-
-no_node_named : (items : List Item) (ms : List Machine) (f : List ℕ) → map heading_of_machine ms ≡ headings_of items → machine_named ms f ≡ None → node_among items f ≡ None
-no_node_named items ms f e none = by (node_among items f) refl
-  where
-    by : (o : Option Node) → node_among items f ≡ o → node_among items f ≡ None
-    by None h = h
-    by (Some n) h = let found = machine_of_node items ms f n e h in absurd (cc (found.1, none))
 
 -- ---- traces
 
@@ -298,12 +274,11 @@ module _ (words : List (List ℕ)) (files left : Files) (input : List ℕ) where
     no_node_to_run file name program (AsksToRun.to_tell w) held kept unnamed =
         at_left files [] (no_node_line name) 1 same (Does.no_node_to_run (program_of files file program held) kept (inr w) unnamed)
 
-    no_machine : (name : List ℕ) (o : Obc) → AreAskedFor words (Some files) name o → machine_named o.machines name ≡ None → Does words files input [] (no_node_line name) left 1
+    no_machine : (name : List ℕ) (o : Obc) (asked : AreAskedFor words (Some files) name o) → LacksNode words (Some files) name o asked → Does words files input [] (no_node_line name) left 1
     no_machine name o (AreAskedFor.in_text w ms) unnamed = at_left files [] (no_node_line name) 1 same (Does.no_machine w ms.held ms.read unnamed)
     no_machine name o (AreAskedFor.of_program {file = f} w compiled) unnamed =
         at_left files [] (no_node_line name) 1 same
-        (Does.no_node_to_run (program_of files f compiled.program compiled.held) compiled.kept.safe (inl w)
-        (no_node_named compiled.held.clocked o.machines name compiled.machines.machines unnamed))
+        (Does.no_node_to_run (program_of files f compiled.program compiled.held) compiled.kept.safe (inl w) unnamed)
 
     -- what is run on a trace
     ran : (s : System) (bytes line : List ℕ) (status : ℕ) → IsAskedFor words (Some files) s → IsTrace s (lines_of true input) bytes line status → Does words files input bytes line left status

@@ -107,6 +107,11 @@ pub data AreAskedFor (words : List (List ℕ)) (files : Option Files) (node : Li
   in_text : {file : List ℕ} → IsExecOf words file node → AreMachines files file o → AreAskedFor words files node o
   of_program : {file : List ℕ} → IsRunOf words file node → AreCompiled files file o → AreAskedFor words files node o
 
+-- What is asked for has no such name: no machine of the text has it, or no node of the program.
+abbrev pub LacksNode : (words : List (List ℕ)) (files : Option Files) (node : List ℕ) (o : Obc) → AreAskedFor words files node o → Type 0
+LacksNode words files node o (AreAskedFor.in_text w machines) = machine_named o.machines node ≡ None
+LacksNode words files node o (AreAskedFor.of_program w compiled) = node_among compiled.held.clocked node ≡ None
+
 -- the machine of this name among some, which is within the limits of what is executed
 pub record IsMachine (node : List ℕ) (o : Obc) : Type 0 where
   pub machine : Machine
@@ -198,8 +203,8 @@ module _ (words : List (List ℕ)) (files : Option Files) where
     no_text : {file node : List ℕ} (text : List ℕ) (at : Span) → IsExecOf words file node → Gives files file text → IsRefused text at → Outcome [] (no_text_line at) 8
     -- a word of the text is the first that breaks a rule of form
     no_form : {file node : List ℕ} (text : List ℕ) (at : Span) → IsExecOf words file node → Gives files file text → BreaksForm text at → Outcome [] (no_form_line at) 8
-    -- there is no machine of this name
-    no_machine : {node : List ℕ} {o : Obc} → AreAskedFor words files node o → machine_named o.machines node ≡ None → Outcome [] (no_node_line node) 1
+    -- there is no machine of this name in the text, or no node in the program
+    no_machine : {node : List ℕ} {o : Obc} (asked : AreAskedFor words files node o) → LacksNode words files node o asked → Outcome [] (no_node_line node) 1
     -- the machine of this name, of a text of machines, passes a limit: that on the machines on a chain of instances comes first, and then that on all instances
     too_large : {file node : List ℕ} {o : Obc} (limit : Limit) → IsExecOf words file node → AreMachines files file o → IsPassed o node limit → Outcome [] (executor_line limit) 1
     -- the machines of the program were written, which has no controllable variables
