@@ -97,23 +97,3 @@ fn declarations_expressions_and_automata_have_places(rt: HostRuntime) -> Result<
     }
     Ok(())
 }
-
-/// A node with two declarations and so many equations of one place.
-fn node_of(alloc: Global, equations: usize) -> Result<Vec<u8>, Fail> {
-    let mut text = Vec::from_slice(alloc, b"node f(x : int) returns (y : int) let y = 1")?;
-    for _ in 1..equations {
-        text.extend_from_slice(b"; y = 1")?;
-    }
-    text.extend_from_slice(b" tel")?;
-    Ok(text)
-}
-
-#[test]
-fn places_are_told_as_far_as_their_limit(rt: HostRuntime) -> Result<(), Fail> {
-    for (equations, count) in [(59_998, 60_000), (59_999, 60_001), (60_000, 60_001)] {
-        let text = node_of(rt.alloc(), equations)?;
-        let program = program_of(rt.alloc(), text.as_slice())?;
-        assert_eq!(rt; places_of(&program), count, "at {equations}");
-    }
-    Ok(())
-}
