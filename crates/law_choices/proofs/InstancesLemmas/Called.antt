@@ -188,79 +188,79 @@ module _ (told : Told) (types : List TypeDecl) (N : Nodes) (word : (f : List ℕ
 
   -- ---- expressions
 
-  first_in : (d e : Expr) (there : Bool) (w : Whereabouts) (c inner : Clock) (names last : Names) (past : Past) (now : Instant) → At false there w past now → Met now (if there then expr types real N e c names last (given past nothing) now else nothing) → part First (expr types real N e c names last (given past nothing) now) ≡ expr types real N d inner names last (given (parts First past) nothing) (part First now) → At false there (below First w) (parts First past) (part First now) × Met (part First now) (if there then expr types real N d inner names last (given (parts First past) nothing) (part First now) else nothing)
+  first_in : (d e : Expr) (there : Bool) (w : Whereabouts) (c inner : Clock) (names last : Names) (past : Past) (now : Instant) → At there w past now → Met now (if there then expr types real N e c names last (given past nothing) now else nothing) → part First (expr types real N e c names last (given past nothing) now) ≡ expr types real N d inner names last (given (parts First past) nothing) (part First now) → At there (below First w) (parts First past) (part First now) × Met (part First now) (if there then expr types real N d inner names last (given (parts First past) nothing) (part First now) else nothing)
   first_in d e there w c inner names last past now a met same =
-      into First false refl refl there w past now (expr types real N e c names last (given past nothing) now) (expr types real N d inner names last (given (parts First past) nothing) (part First now)) a met same (expr_fresh d inner names last (given (parts First past) nothing) (part First now))
+      into First there w past now (expr types real N e c names last (given past nothing) now) (expr types real N d inner names last (given (parts First past) nothing) (part First now)) a met same (expr_fresh d inner names last (given (parts First past) nothing) (part First now))
 
-  second_in : (d e : Expr) (there : Bool) (w : Whereabouts) (c inner : Clock) (names last : Names) (past : Past) (now : Instant) → At false there w past now → Met now (if there then expr types real N e c names last (given past nothing) now else nothing) → part Second (expr types real N e c names last (given past nothing) now) ≡ expr types real N d inner names last (given (parts Second past) nothing) (part Second now) → At false there (below Second w) (parts Second past) (part Second now) × Met (part Second now) (if there then expr types real N d inner names last (given (parts Second past) nothing) (part Second now) else nothing)
+  second_in : (d e : Expr) (there : Bool) (w : Whereabouts) (c inner : Clock) (names last : Names) (past : Past) (now : Instant) → At there w past now → Met now (if there then expr types real N e c names last (given past nothing) now else nothing) → part Second (expr types real N e c names last (given past nothing) now) ≡ expr types real N d inner names last (given (parts Second past) nothing) (part Second now) → At there (below Second w) (parts Second past) (part Second now) × Met (part Second now) (if there then expr types real N d inner names last (given (parts Second past) nothing) (part Second now) else nothing)
   second_in d e there w c inner names last past now a met same =
-      into Second false refl refl there w past now (expr types real N e c names last (given past nothing) now) (expr types real N d inner names last (given (parts Second past) nothing) (part Second now)) a met same (expr_fresh d inner names last (given (parts Second past) nothing) (part Second now))
+      into Second there w past now (expr types real N e c names last (given past nothing) now) (expr types real N d inner names last (given (parts Second past) nothing) (part Second now)) a met same (expr_fresh d inner names last (given (parts Second past) nothing) (part Second now))
 
   mutual
-    expr_calls : (e : Expr) (there : Bool) (w : Whereabouts) (c : Clock) (names last : Names) (past : Past) (now : Instant) → At false there w past now → Met now (if there then expr types real N e c names last (given past nothing) now else nothing) → EachCall Held (calls e w)
-    expr_calls (constant s k) there w c names last past now a met = tt
-    expr_calls (variable s x) there w c names last past now a met = tt
-    expr_calls (last_of s x) there w c names last past now a met = tt
-    expr_calls (one s o d) there w c names last past now a met = (let u = first_in d (one s o d) there w c c names last past now a met refl in expr_calls d there (below First w) c names last (parts First past) (part First now) u.0 u.1)
-    expr_calls (two s o d f) there w c names last past now a met =
-        each_append Held (calls d (below First w)) (calls f (below Second w))
-        (let u = first_in d (two s o d f) there w c c names last past now a met refl in expr_calls d there (below First w) c names last (parts First past) (part First now) u.0 u.1)
-        (let u = second_in f (two s o d f) there w c c names last past now a met refl in expr_calls f there (below Second w) c names last (parts Second past) (part Second now) u.0 u.1)
-    expr_calls (choose s d f h) there w c names last past now a met =
+    expr_calls : (e : Expr) → CallsFit told e → (there : Bool) (w : Whereabouts) (c : Clock) (names last : Names) (past : Past) (now : Instant) → At there w past now → Met now (if there then expr types real N e c names last (given past nothing) now else nothing) → EachCall Called (calls e w)
+    expr_calls (constant s k) fit there w c names last past now a met = tt
+    expr_calls (variable s x) fit there w c names last past now a met = tt
+    expr_calls (last_of s x) fit there w c names last past now a met = tt
+    expr_calls (one s o d) fit there w c names last past now a met = (let u = first_in d (one s o d) there w c c names last past now a met refl in expr_calls d fit there (below First w) c names last (parts First past) (part First now) u.0 u.1)
+    expr_calls (two s o d f) fit there w c names last past now a met =
+        each_append Called (calls d (below First w)) (calls f (below Second w))
+        (let u = first_in d (two s o d f) there w c c names last past now a met refl in expr_calls d fit.0 there (below First w) c names last (parts First past) (part First now) u.0 u.1)
+        (let u = second_in f (two s o d f) there w c c names last past now a met refl in expr_calls f fit.1 there (below Second w) c names last (parts Second past) (part Second now) u.0 u.1)
+    expr_calls (choose s d f h) fit there w c names last past now a met =
         let X = expr types real N (choose s d f h) c names last (given past nothing) now in
         let Y = expr types real N h c names last (given (parts Third past) nothing) (part Third now) in
-        let u = into Third false refl refl there w past now X Y a met refl (expr_fresh h c names last (given (parts Third past) nothing) (part Third now)) in
-        each_append Held (calls d (below First w)) (calls f (below Second w) ++ calls h (below Third w))
-        (let u = first_in d (choose s d f h) there w c c names last past now a met refl in expr_calls d there (below First w) c names last (parts First past) (part First now) u.0 u.1)
-        (each_append Held (calls f (below Second w)) (calls h (below Third w))
-        (let u = second_in f (choose s d f h) there w c c names last past now a met refl in expr_calls f there (below Second w) c names last (parts Second past) (part Second now) u.0 u.1)
-        (expr_calls h there (below Third w) c names last (parts Third past) (part Third now) u.0 u.1))
-    expr_calls (pre s d) there w c names last past now a met = (let u = first_in d (pre s d) there w c c names last past now a met refl in expr_calls d there (below First w) c names last (parts First past) (part First now) u.0 u.1)
-    expr_calls (fby s d f) there w c names last past now a met =
-        each_append Held (calls d (below First w)) (calls f (below Second w))
-        (let u = first_in d (fby s d f) there w c c names last past now a met refl in expr_calls d there (below First w) c names last (parts First past) (part First now) u.0 u.1)
-        (let u = second_in f (fby s d f) there w c c names last past now a met refl in expr_calls f there (below Second w) c names last (parts Second past) (part Second now) u.0 u.1)
-    expr_calls (arrow s d f) there w c names last past now a met =
-        each_append Held (calls d (below First w)) (calls f (below Second w))
-        (let u = first_in d (arrow s d f) there w c c names last past now a met refl in expr_calls d there (below First w) c names last (parts First past) (part First now) u.0 u.1)
-        (let u = second_in f (arrow s d f) there w c c names last past now a met refl in expr_calls f there (below Second w) c names last (parts Second past) (part Second now) u.0 u.1)
-    expr_calls (when_is s d k x) there w c names last past now a met = (let u = first_in d (when_is s d k x) there w c (without c) names last past now a met refl in expr_calls d there (below First w) (without c) names last (parts First past) (part First now) u.0 u.1)
-    expr_calls (merge s x ps) there w c names last past now a met =
+        let u = into Third there w past now X Y a met refl (expr_fresh h c names last (given (parts Third past) nothing) (part Third now)) in
+        each_append Called (calls d (below First w)) (calls f (below Second w) ++ calls h (below Third w))
+        (let u = first_in d (choose s d f h) there w c c names last past now a met refl in expr_calls d fit.0 there (below First w) c names last (parts First past) (part First now) u.0 u.1)
+        (each_append Called (calls f (below Second w)) (calls h (below Third w))
+        (let u = second_in f (choose s d f h) there w c c names last past now a met refl in expr_calls f fit.1 there (below Second w) c names last (parts Second past) (part Second now) u.0 u.1)
+        (expr_calls h fit.2 there (below Third w) c names last (parts Third past) (part Third now) u.0 u.1))
+    expr_calls (pre s d) fit there w c names last past now a met = (let u = first_in d (pre s d) there w c c names last past now a met refl in expr_calls d fit there (below First w) c names last (parts First past) (part First now) u.0 u.1)
+    expr_calls (fby s d f) fit there w c names last past now a met =
+        each_append Called (calls d (below First w)) (calls f (below Second w))
+        (let u = first_in d (fby s d f) there w c c names last past now a met refl in expr_calls d fit.0 there (below First w) c names last (parts First past) (part First now) u.0 u.1)
+        (let u = second_in f (fby s d f) there w c c names last past now a met refl in expr_calls f fit.1 there (below Second w) c names last (parts Second past) (part Second now) u.0 u.1)
+    expr_calls (arrow s d f) fit there w c names last past now a met =
+        each_append Called (calls d (below First w)) (calls f (below Second w))
+        (let u = first_in d (arrow s d f) there w c c names last past now a met refl in expr_calls d fit.0 there (below First w) c names last (parts First past) (part First now) u.0 u.1)
+        (let u = second_in f (arrow s d f) there w c c names last past now a met refl in expr_calls f fit.1 there (below Second w) c names last (parts Second past) (part Second now) u.0 u.1)
+    expr_calls (when_is s d k x) fit there w c names last past now a met = (let u = first_in d (when_is s d k x) there w c (without c) names last past now a met refl in expr_calls d fit there (below First w) (without c) names last (parts First past) (part First now) u.0 u.1)
+    expr_calls (merge s x ps) fit there w c names last past now a met =
         let X = expr types real N (merge s x ps) c names last (given past nothing) now in
         let is = merged types real N ps x c names last (given (parts Args past) nothing) (part Args now) in
-        let u = into Args false refl refl there w past now X (in_row is) a met refl (row_fresh is) in
-        parts_calls ps there (below Args w) x c names last (parts Args past) (part Args now) u.0 u.1
-    expr_calls (call s f inlined es) there w c names last past now a met =
+        let u = into Args there w past now X (in_row is) a met refl (row_fresh is) in
+        parts_calls ps fit there (below Args w) x c names last (parts Args past) (part Args now) u.0 u.1
+    expr_calls (call s f inlined es) fit there w c names last past now a met =
         let X = expr types real N (call s f inlined es) c names last (given past nothing) now in
         let is = exprs types real N es c names last (given (parts Args past) nothing) (part Args now) in
-        let u = into Args false refl refl there w past now X (in_row is) a met refl (row_fresh is) in (
-          (λ e. instance_holds there (holds types c names) w past now s f (map top is) a (lower there now X Instance met)),
-          exprs_calls es there (below Args w) c names last (parts Args past) (part Args now) u.0 u.1,
+        let u = into Args there w past now X (in_row is) a met refl (row_fresh is) in (
+          (λ e. instance_holds there (holds types c names) w past now s f (map top is) (as_given f es is (many es c names last (given (parts Args past) nothing) (part Args now)) fit.0) a (lower there now X Instance met)),
+          exprs_calls es fit.2 there (below Args w) c names last (parts Args past) (part Args now) u.0 u.1,
         )
 
-    exprs_calls : (es : Exprs) (there : Bool) (w : Whereabouts) (c : Clock) (names last : Names) (past : Past) (now : Instant) → At false there w past now → Met now (if there then in_row (exprs types real N es c names last (given past nothing) now) else nothing) → EachCall Held (calls_in_all es w)
-    exprs_calls no_expr there w c names last past now a met = tt
-    exprs_calls (more_exprs d es) there w c names last past now a met =
+    exprs_calls : (es : Exprs) → CallsInAllFit told es → (there : Bool) (w : Whereabouts) (c : Clock) (names last : Names) (past : Past) (now : Instant) → At there w past now → Met now (if there then in_row (exprs types real N es c names last (given past nothing) now) else nothing) → EachCall Called (calls_in_all es w)
+    exprs_calls no_expr fit there w c names last past now a met = tt
+    exprs_calls (more_exprs d es) fit there w c names last past now a met =
         let X = in_row (exprs types real N (more_exprs d es) c names last (given past nothing) now) in
         let Y = expr types real N d c names last (given (parts Head past) nothing) (part Head now) in
         let is = exprs types real N es c names last (given (parts Tail past) nothing) (part Tail now) in
-        let u = into Head false refl refl there w past now X Y a met refl (expr_fresh d c names last (given (parts Head past) nothing) (part Head now)) in
-        let v = into Tail false refl refl there w past now X (in_row is) a met refl (row_fresh is) in
-        each_append Held (calls d (below Head w)) (calls_in_all es (below Tail w))
-        (expr_calls d there (below Head w) c names last (parts Head past) (part Head now) u.0 u.1)
-        (exprs_calls es there (below Tail w) c names last (parts Tail past) (part Tail now) v.0 v.1)
+        let u = into Head there w past now X Y a met refl (expr_fresh d c names last (given (parts Head past) nothing) (part Head now)) in
+        let v = into Tail there w past now X (in_row is) a met refl (row_fresh is) in
+        each_append Called (calls d (below Head w)) (calls_in_all es (below Tail w))
+        (expr_calls d fit.0 there (below Head w) c names last (parts Head past) (part Head now) u.0 u.1)
+        (exprs_calls es fit.1 there (below Tail w) c names last (parts Tail past) (part Tail now) v.0 v.1)
 
-    parts_calls : (ps : Parts) (there : Bool) (w : Whereabouts) (x : List ℕ) (c : Clock) (names last : Names) (past : Past) (now : Instant) → At false there w past now → Met now (if there then in_row (merged types real N ps x c names last (given past nothing) now) else nothing) → EachCall Held (calls_in_parts ps w)
-    parts_calls no_part there w x c names last past now a met = tt
-    parts_calls (more_parts k d ps) there w x c names last past now a met =
+    parts_calls : (ps : Parts) → CallsInPartsFit told ps → (there : Bool) (w : Whereabouts) (x : List ℕ) (c : Clock) (names last : Names) (past : Past) (now : Instant) → At there w past now → Met now (if there then in_row (merged types real N ps x c names last (given past nothing) now) else nothing) → EachCall Called (calls_in_parts ps w)
+    parts_calls no_part fit there w x c names last past now a met = tt
+    parts_calls (more_parts k d ps) fit there w x c names last past now a met =
         let X = in_row (merged types real N (more_parts k d ps) x c names last (given past nothing) now) in
         let Y = expr types real N d ((k, x) ∷ c) names last (given (parts Head past) nothing) (part Head now) in
         let is = merged types real N ps x c names last (given (parts Tail past) nothing) (part Tail now) in
-        let u = into Head false refl refl there w past now X Y a met refl (expr_fresh d ((k, x) ∷ c) names last (given (parts Head past) nothing) (part Head now)) in
-        let v = into Tail false refl refl there w past now X (in_row is) a met refl (row_fresh is) in
-        each_append Held (calls d (below Head w)) (calls_in_parts ps (below Tail w))
-        (expr_calls d there (below Head w) ((k, x) ∷ c) names last (parts Head past) (part Head now) u.0 u.1)
-        (parts_calls ps there (below Tail w) x c names last (parts Tail past) (part Tail now) v.0 v.1)
+        let u = into Head there w past now X Y a met refl (expr_fresh d ((k, x) ∷ c) names last (given (parts Head past) nothing) (part Head now)) in
+        let v = into Tail there w past now X (in_row is) a met refl (row_fresh is) in
+        each_append Called (calls d (below Head w)) (calls_in_parts ps (below Tail w))
+        (expr_calls d fit.0 there (below Head w) ((k, x) ∷ c) names last (parts Head past) (part Head now) u.0 u.1)
+        (parts_calls ps fit.1 there (below Tail w) x c names last (parts Tail past) (part Tail now) v.0 v.1)
 
   -- the right side of a definition
   right_calls : (ys : List (List ℕ × Span)) (e : Expr) → RightFits told e ys → (there : Bool) (w : Whereabouts) (c : Clock) (names last : Names) (past : Past) (now : Instant) → At there w past now → Met now (if there then expr types real N e c names last (given past nothing) now else nothing) → EachCall Called (calls e w)
@@ -283,108 +283,108 @@ module _ (told : Told) (types : List TypeDecl) (N : Nodes) (word : (f : List ℕ
         exprs_calls es fit.2 there (below Args w) c names last (parts Args past) (part Args now) u.0 u.1,
       )
 
-  conditions_calls : (ts : List Trans) (there : Bool) (w : Whereabouts) (names last : Names) (past : Past) (now : Instant) → At false there w past now → Met now (if there then in_row (conditions types real N ts names last (given past nothing) now) else nothing) → EachCall Held (points_of_conditions ts w)
-  conditions_calls [] there w names last past now a met = tt
-  conditions_calls (t ∷ ts) there w names last past now a met =
+  conditions_calls : (ts : List Trans) → ConditionsFit told ts → (there : Bool) (w : Whereabouts) (names last : Names) (past : Past) (now : Instant) → At there w past now → Met now (if there then in_row (conditions types real N ts names last (given past nothing) now) else nothing) → EachCall Called (points_of_conditions ts w)
+  conditions_calls [] fit there w names last past now a met = tt
+  conditions_calls (t ∷ ts) fit there w names last past now a met =
       let X = in_row (conditions types real N (t ∷ ts) names last (given past nothing) now) in
       let Y = expr types real N t.cond [] names last (given (parts Head past) nothing) (part Head now) in
       let is = conditions types real N ts names last (given (parts Tail past) nothing) (part Tail now) in
-      let u = into Head false refl refl there w past now X Y a met refl (expr_fresh t.cond [] names last (given (parts Head past) nothing) (part Head now)) in
-      let v = into Tail false refl refl there w past now X (in_row is) a met refl (row_fresh is) in (
+      let u = into Head there w past now X Y a met refl (expr_fresh t.cond [] names last (given (parts Head past) nothing) (part Head now)) in
+      let v = into Tail there w past now X (in_row is) a met refl (row_fresh is) in (
         (λ e. no_call_true e),
-        each_append Held (calls t.cond (below Head w)) (points_of_conditions ts (below Tail w))
-            (expr_calls t.cond there (below Head w) [] names last (parts Head past) (part Head now) u.0 u.1)
-            (conditions_calls ts there (below Tail w) names last (parts Tail past) (part Tail now) v.0 v.1),
+        each_append Called (calls t.cond (below Head w)) (points_of_conditions ts (below Tail w))
+            (expr_calls t.cond fit.0 there (below Head w) [] names last (parts Head past) (part Head now) u.0 u.1)
+            (conditions_calls ts fit.1 there (below Tail w) names last (parts Tail past) (part Tail now) v.0 v.1),
       )
 
   -- ---- blocks
 
   mutual
-    pub block_calls : (b : Block) (declared : List (List ℕ)) (there : Bool) (w : Whereabouts) (fresh : Bool) (names last : Names) (past : Past) (now : Instant) → At false there w past now → Met now (if there then scope types real N b fresh names last (given past nothing) now else nothing) → EachCall Held (points_of declared b w)
-    block_calls (block ds es) declared there w fresh names last past now a met =
+    pub block_calls : (b : Block) → BlockFits told b → (declared : List (List ℕ)) (there : Bool) (w : Whereabouts) (fresh : Bool) (names last : Names) (past : Past) (now : Instant) → At there w past now → Met now (if there then scope types real N b fresh names last (given past nothing) now else nothing) → EachCall Called (points_of declared b w)
+    block_calls (block ds es) fit declared there w fresh names last past now a met =
         let inner = inside es names now in
         let last' = lasts (constant_of types) ds past last in
         let X = scope types real N (block ds es) fresh names last (given past nothing) now in
         let Y = equations types real N ds es inner last' (given (parts Equations past) nothing) (part Equations now) in
-        let u = into Equations false refl refl there w past now X Y a met refl (equations_fresh ds es inner last' (given (parts Equations past) nothing) (part Equations now)) in
-        equations_calls ds es (declared ++ names_of ds) (λ x. w (Named x ∷ [])) there (below Equations w) inner last' (parts Equations past) (part Equations now) u.0 u.1
+        let u = into Equations there w past now X Y a met refl (equations_fresh ds es inner last' (given (parts Equations past) nothing) (part Equations now)) in
+        equations_calls ds es fit (declared ++ names_of ds) (λ x. w (Named x ∷ [])) there (below Equations w) inner last' (parts Equations past) (part Equations now) u.0 u.1
 
-    equations_calls : (ds : List Decl) (es : Eqns) (declared : List (List ℕ)) (named : List ℕ → Place) (there : Bool) (w : Whereabouts) (names last : Names) (past : Past) (now : Instant) → At false there w past now → Met now (if there then equations types real N ds es names last (given past nothing) now else nothing) → EachCall Held (points_of_all declared named es w)
-    equations_calls ds no_eqn declared named there w names last past now a met = tt
-    equations_calls ds (more_eqns d es) declared named there w names last past now a met =
+    equations_calls : (ds : List Decl) (es : Eqns) → EqnsFit told es → (declared : List (List ℕ)) (named : List ℕ → Place) (there : Bool) (w : Whereabouts) (names last : Names) (past : Past) (now : Instant) → At there w past now → Met now (if there then equations types real N ds es names last (given past nothing) now else nothing) → EachCall Called (points_of_all declared named es w)
+    equations_calls ds no_eqn fit declared named there w names last past now a met = tt
+    equations_calls ds (more_eqns d es) fit declared named there w names last past now a met =
         let X = equations types real N ds (more_eqns d es) names last (given past nothing) now in
         let Y = equation types real N ds d names last (given (parts Head past) nothing) (part Head now) in
         let Z = equations types real N ds es names last (given (parts Tail past) nothing) (part Tail now) in
-        let u = into Head false refl refl there w past now X Y a met refl (equation_fresh ds d names last (given (parts Head past) nothing) (part Head now)) in
-        let v = into Tail false refl refl there w past now X Z a met refl (equations_fresh ds es names last (given (parts Tail past) nothing) (part Tail now)) in
-        each_append Held (points_of_one declared named d (below Head w)) (points_of_all declared named es (below Tail w))
-        (equation_calls ds d declared named there (below Head w) names last (parts Head past) (part Head now) u.0 u.1)
-        (equations_calls ds es declared named there (below Tail w) names last (parts Tail past) (part Tail now) v.0 v.1)
+        let u = into Head there w past now X Y a met refl (equation_fresh ds d names last (given (parts Head past) nothing) (part Head now)) in
+        let v = into Tail there w past now X Z a met refl (equations_fresh ds es names last (given (parts Tail past) nothing) (part Tail now)) in
+        each_append Called (points_of_one declared named d (below Head w)) (points_of_all declared named es (below Tail w))
+        (equation_calls ds d fit.0 declared named there (below Head w) names last (parts Head past) (part Head now) u.0 u.1)
+        (equations_calls ds es fit.2 declared named there (below Tail w) names last (parts Tail past) (part Tail now) v.0 v.1)
 
-    equation_calls : (ds : List Decl) (e : Eqn) (declared : List (List ℕ)) (named : List ℕ → Place) (there : Bool) (w : Whereabouts) (names last : Names) (past : Past) (now : Instant) → At false there w past now → Met now (if there then equation types real N ds e names last (given past nothing) now else nothing) → EachCall Held (points_of_one declared named e w)
-    equation_calls ds (define s ys d) declared named there w names last past now a met =
+    equation_calls : (ds : List Decl) (e : Eqn) → EqnFits told e → (declared : List (List ℕ)) (named : List ℕ → Place) (there : Bool) (w : Whereabouts) (names last : Names) (past : Past) (now : Instant) → At there w past now → Met now (if there then equation types real N ds e names last (given past nothing) now else nothing) → EachCall Called (points_of_one declared named e w)
+    equation_calls ds (define s ys d) fit declared named there w names last past now a met =
         let c = clock_of ds ys d in
         let X = equation types real N ds (define s ys d) names last (given past nothing) now in
         let Y = expr types real N d c names last (given (parts Right past) nothing) (part Right now) in
-        let u = into Right false refl refl there w past now X Y a met refl (expr_fresh d c names last (given (parts Right past) nothing) (part Right now)) in
-        each_append Held (lefts ys named) (calls d (below Right w)) (each_left Held ys named)
-        (expr_calls d there (below Right w) c names last (parts Right past) (part Right now) u.0 u.1)
-    equation_calls ds (switch s d arms) declared named there w names last past now a met =
+        let u = into Right there w past now X Y a met refl (expr_fresh d c names last (given (parts Right past) nothing) (part Right now)) in
+        each_append Called (lefts ys named) (calls d (below Right w)) (each_left Called ys named)
+        (right_calls ys d fit there (below Right w) c names last (parts Right past) (part Right now) u.0 u.1)
+    equation_calls ds (switch s d arms) fit declared named there w names last past now a met =
         let out = within (switch s d arms) names last in
         let X = equation types real N ds (switch s d arms) names last (given past nothing) now in
         let Y = expr types real N d [] names last (given (parts Test past) nothing) (part Test now) in
         let Z = arm types real N arms (top Y) out last (given (parts ArmsOf past) nothing) (part ArmsOf now) in
-        let u = into Test false refl refl there w past now X Y a met refl (expr_fresh d [] names last (given (parts Test past) nothing) (part Test now)) in
-        let v = into ArmsOf false refl refl there w past now X Z a met refl (arms_fresh arms (top Y) out last (given (parts ArmsOf past) nothing) (part ArmsOf now)) in
-        each_append Held (defined_by (switch s d arms) s declared named) (calls d (below Test w) ++ points_of_arms declared arms (below ArmsOf w))
-        (each_def Held (filter (defines (switch s d arms)) declared) s named)
-        (each_append Held (calls d (below Test w)) (points_of_arms declared arms (below ArmsOf w))
-        (expr_calls d there (below Test w) [] names last (parts Test past) (part Test now) u.0 u.1)
-        (arms_calls arms (top Y) declared there (below ArmsOf w) out last (parts ArmsOf past) (part ArmsOf now) v.0 v.1))
-    equation_calls ds (reset s b d) declared named there w names last past now a met =
+        let u = into Test there w past now X Y a met refl (expr_fresh d [] names last (given (parts Test past) nothing) (part Test now)) in
+        let v = into ArmsOf there w past now X Z a met refl (arms_fresh arms (top Y) out last (given (parts ArmsOf past) nothing) (part ArmsOf now)) in
+        each_append Called (defined_by (switch s d arms) s declared named) (calls d (below Test w) ++ points_of_arms declared arms (below ArmsOf w))
+        (each_def Called (filter (defines (switch s d arms)) declared) s named)
+        (each_append Called (calls d (below Test w)) (points_of_arms declared arms (below ArmsOf w))
+        (expr_calls d fit.0 there (below Test w) [] names last (parts Test past) (part Test now) u.0 u.1)
+        (arms_calls arms fit.1 (top Y) declared there (below ArmsOf w) out last (parts ArmsOf past) (part ArmsOf now) v.0 v.1))
+    equation_calls ds (reset s b d) fit declared named there w names last past now a met =
         let out = within (reset s b d) names last in
         let X = equation types real N ds (reset s b d) names last (given past nothing) now in
         let Y = expr types real N d [] names last (given (parts Test past) nothing) (part Test now) in
         let fresh = is_true (top Y) in
         let q = if fresh then [] else own (parts Body past) in
-        let u = into Test false refl refl there w past now X Y a met refl (expr_fresh d [] names last (given (parts Test past) nothing) (part Test now)) in
+        let u = into Test there w past now X Y a met refl (expr_fresh d [] names last (given (parts Test past) nothing) (part Test now)) in
         let m = lower there now X Body met in
-        each_append Held (defined_by (reset s b d) s declared named) (points_of declared b (below Body w) ++ calls d (below Test w))
-        (each_def Held (filter (defines (reset s b d)) declared) s named)
-        (each_append Held (points_of declared b (below Body w)) (calls d (below Test w))
-        (block_calls b declared there (below Body w) fresh out last q (part Body now) (into_block Body false refl refl there w past now b fresh out last a m) m)
-        (expr_calls d there (below Test w) [] names last (parts Test past) (part Test now) u.0 u.1))
-    equation_calls ds (automaton s ss) declared named there w names last past now a met =
+        each_append Called (defined_by (reset s b d) s declared named) (points_of declared b (below Body w) ++ calls d (below Test w))
+        (each_def Called (filter (defines (reset s b d)) declared) s named)
+        (each_append Called (points_of declared b (below Body w)) (calls d (below Test w))
+        (block_calls b fit.0 declared there (below Body w) fresh out last q (part Body now) (into_block Body there w past now b fresh out last a m) m)
+        (expr_calls d fit.1 there (below Test w) [] names last (parts Test past) (part Test now) u.0 u.1))
+    equation_calls ds (automaton s ss) fit declared named there w names last past now a met =
         let out = within (automaton s ss) names last in
         let X = equation types real N ds (automaton s ss) names last (given past nothing) now in
         let j = strong types real N ss ss 0 (selected past) names last (given (parts StatesOf past) nothing) (part StatesOf now) in
         let Y = states types real N ss 0 j names out last (given (parts StatesOf past) nothing) (part StatesOf now) in
-        let u = into StatesOf false refl refl there w past now X Y a met refl (states_fresh ss 0 j names out last (given (parts StatesOf past) nothing) (part StatesOf now)) in (
+        let u = into StatesOf there w past now X Y a met refl (states_fresh ss 0 j names out last (given (parts StatesOf past) nothing) (part StatesOf now)) in (
           (λ e. no_call_true e),
           (
             (λ e. no_call_true e),
-            each_append Held (defined_by (automaton s ss) s declared named) (points_of_states declared ss (below StatesOf w))
-                (each_def Held (filter (defines (automaton s ss)) declared) s named)
-                (states_calls ss 0 j declared there (below StatesOf w) names out last (parts StatesOf past) (part StatesOf now) u.0 u.1),
+            each_append Called (defined_by (automaton s ss) s declared named) (points_of_states declared ss (below StatesOf w))
+                (each_def Called (filter (defines (automaton s ss)) declared) s named)
+                (states_calls ss fit 0 j declared there (below StatesOf w) names out last (parts StatesOf past) (part StatesOf now) u.0 u.1),
           ),
         )
 
-    arms_calls : (arms : Arms) (v : Value) (declared : List (List ℕ)) (there : Bool) (w : Whereabouts) (names last : Names) (past : Past) (now : Instant) → At true there w past now → Met now (if there then arm types real N arms v names last (given past nothing) now else nothing) → EachCall Held (points_of_arms declared arms w)
-    arms_calls no_arm v declared there w names last past now a met = tt
-    arms_calls (more_arms c b s arms) v declared there w names last past now a met =
+    arms_calls : (arms : Arms) → ArmsFit told arms → (v : Value) (declared : List (List ℕ)) (there : Bool) (w : Whereabouts) (names last : Names) (past : Past) (now : Instant) → At there w past now → Met now (if there then arm types real N arms v names last (given past nothing) now else nothing) → EachCall Called (points_of_arms declared arms w)
+    arms_calls no_arm fit v declared there w names last past now a met = tt
+    arms_calls (more_arms c b s arms) fit v declared there w names last past now a met =
         let d = is_cons types v c in
         let X = arm types real N (more_arms c b s arms) v names last (given past nothing) now in
         let Y = arm types real N arms v names last (given (parts Tail past) nothing) (part Tail now) in
         let S = scope types real N b false names last (given (own (parts Head past)) nothing) (part Head now) in
         let m = both_there there d (part Head now) S (lower there now X Head met) in
-        let u = into Tail true refl refl there w past now X Y a met refl (arms_fresh arms v names last (given (parts Tail past) nothing) (part Tail now)) in
-        each_append Held (points_of declared b (below Head w)) (points_of_arms declared arms (below Tail w))
-        (block_calls b declared (there && d) (below Head w) false names last (own (parts Head past)) (part Head now) (into_block Head true refl refl (there && d) w past now b false names last (weaker true there d w past now a) m) m)
-        (arms_calls arms v declared there (below Tail w) names last (parts Tail past) (part Tail now) u.0 u.1)
+        let u = into Tail there w past now X Y a met refl (arms_fresh arms v names last (given (parts Tail past) nothing) (part Tail now)) in
+        each_append Called (points_of declared b (below Head w)) (points_of_arms declared arms (below Tail w))
+        (block_calls b fit.0 declared (there && d) (below Head w) false names last (own (parts Head past)) (part Head now) (into_block Head (there && d) w past now b false names last (weaker there d w past now a) m) m)
+        (arms_calls arms fit.1 v declared there (below Tail w) names last (parts Tail past) (part Tail now) u.0 u.1)
 
-    states_calls : (ss : States) (k : ℕ) (j : Jump) (declared : List (List ℕ)) (there : Bool) (w : Whereabouts) (out names last : Names) (past : Past) (now : Instant) → At false there w past now → Met now (if there then states types real N ss k j out names last (given past nothing) now else nothing) → EachCall Held (points_of_states declared ss w)
-    states_calls no_state k j declared there w out names last past now a met = tt
-    states_calls (more_states f b until unless s ss) k j declared there w out names last past now a met =
+    states_calls : (ss : States) → StatesFit told ss → (k : ℕ) (j : Jump) (declared : List (List ℕ)) (there : Bool) (w : Whereabouts) (out names last : Names) (past : Past) (now : Instant) → At there w past now → Met now (if there then states types real N ss k j out names last (given past nothing) now else nothing) → EachCall Called (points_of_states declared ss w)
+    states_calls no_state fit k j declared there w out names last past now a met = tt
+    states_calls (more_states f b until unless s ss) fit k j declared there w out names last past now a met =
         let d = nat_eq k j.state in
         let here = part Head now in
         let w' = below Head w in
@@ -394,21 +394,21 @@ module _ (told : Told) (types : List TypeDecl) (N : Nodes) (word : (f : List ℕ
         let Y = weak_in types real N b until j names last (given q nothing) here in
         let Z = conditions types real N unless out last (given (parts Unless q) nothing) (part Unless here) in
         let V = states types real N ss (suc k) j out names last (given (parts Tail past) nothing) (part Tail now) in
-        let head = into Head false refl refl there w past now X (part Head X) a met refl refl in
-        let inner = weaker false there d w' q here head.0 in
+        let head = into Head there w past now X (part Head X) a met refl refl in
+        let inner = weaker there d w' q here head.0 in
         let m = both_there there d (part Body here) S (lower there here (part Head X) Body head.1) in
         let n = both_there there d (part Until here) (in_row Y) (lower there here (part Head X) Until head.1) in
-        let until_at = plain_step Until false refl refl (there && d) w' q here inner (row_absent (there && d) here Until Y n) in
-        let u = into Unless false refl refl there w' q here (part Head X) (in_row Z) head.0 head.1 refl (row_fresh Z) in
-        let v = into Tail false refl refl there w past now X V a met refl (states_fresh ss (suc k) j out names last (given (parts Tail past) nothing) (part Tail now)) in
+        let until_at = plain_step Until (there && d) w' q here inner (row_absent (there && d) here Until Y n) in
+        let u = into Unless there w' q here (part Head X) (in_row Z) head.0 head.1 refl (row_fresh Z) in
+        let v = into Tail there w past now X V a met refl (states_fresh ss (suc k) j out names last (given (parts Tail past) nothing) (part Tail now)) in
         let inner_last = last_in types real N b (if j.restart then [] else own (parts Body q)) last in
-        each_append Held (points_of declared b (below Body w')) (points_of_conditions until (below Until w') ++ (points_of_conditions unless (below Unless w') ++ points_of_states declared ss (below Tail w)))
-        (block_calls b declared (there && d) (below Body w') j.restart names last (if j.restart then [] else own (parts Body q)) (part Body here) (into_block Body false refl refl (there && d) w' q here b j.restart names last inner m) m)
-        (each_append Held (points_of_conditions until (below Until w')) (points_of_conditions unless (below Unless w') ++ points_of_states declared ss (below Tail w))
-        (conditions_calls until (there && d) (below Until w') (read_in types real N b names (part Body here)) inner_last (parts Until q) (part Until here) until_at n)
-        (each_append Held (points_of_conditions unless (below Unless w')) (points_of_states declared ss (below Tail w))
-        (conditions_calls unless there (below Unless w') out last (parts Unless q) (part Unless here) u.0 u.1)
-        (states_calls ss (suc k) j declared there (below Tail w) out names last (parts Tail past) (part Tail now) v.0 v.1)))
+        each_append Called (points_of declared b (below Body w')) (points_of_conditions until (below Until w') ++ (points_of_conditions unless (below Unless w') ++ points_of_states declared ss (below Tail w)))
+        (block_calls b fit.0 declared (there && d) (below Body w') j.restart names last (if j.restart then [] else own (parts Body q)) (part Body here) (into_block Body (there && d) w' q here b j.restart names last inner m) m)
+        (each_append Called (points_of_conditions until (below Until w')) (points_of_conditions unless (below Unless w') ++ points_of_states declared ss (below Tail w))
+        (conditions_calls until fit.1 (there && d) (below Until w') (read_in types real N b names (part Body here)) inner_last (parts Until q) (part Until here) until_at n)
+        (each_append Called (points_of_conditions unless (below Unless w')) (points_of_states declared ss (below Tail w))
+        (conditions_calls unless fit.2 there (below Unless w') out last (parts Unless q) (part Unless here) u.0 u.1)
+        (states_calls ss fit.3 (suc k) j declared there (below Tail w) out names last (parts Tail past) (part Tail now) v.0 v.1)))
 
 -- ---- a node
 
