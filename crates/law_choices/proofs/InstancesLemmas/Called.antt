@@ -300,7 +300,7 @@ module _ (told : Told) (types : List TypeDecl) (N : Nodes) (word : (f : List ℕ
   -- ---- blocks
 
   mutual
-    pub block_calls : (b : Block) → BlockFits told b → (declared : List (List ℕ)) (there : Bool) (w : Whereabouts) (fresh : Bool) (names last : Names) (past : Past) (now : Instant) → At there w past now → Met now (if there then scope types real N b fresh names last (given past nothing) now else nothing) → EachCall Called (points_of declared b w)
+    block_calls : (b : Block) → BlockFits told b → (declared : List (List ℕ)) (there : Bool) (w : Whereabouts) (fresh : Bool) (names last : Names) (past : Past) (now : Instant) → At there w past now → Met now (if there then scope types real N b fresh names last (given past nothing) now else nothing) → EachCall Called (points_of declared b w)
     block_calls (block ds es) fit declared there w fresh names last past now a met =
         let inner = inside es names now in
         let last' = lasts (constant_of types) ds past last in

@@ -42,7 +42,7 @@ use Rattle.law_values.specs.Valued.Values.{AreAccepted, Classing, class_behind, 
 use Rattle.law_values.proofs.ValuedLemmas.Loosen.{node_loose}
 use Rattle.law_choices.specs.Choosing.Choices.{Choices}
 use Rattle.law_choices.specs.Instances.Reacting.{InstanceReacts, ReactsChosen}
-use Rattle.law_choices.specs.Runs.Chosen.{ChosenReaction, chosen_given, chosen_meaning, chosen_nodes}
+use Rattle.law_choices.specs.Runs.Chosen.{ChosenReaction, chosen_given, chosen_meaning, chosen_nodes, inputs_at}
 use Rattle.law_choices.specs.Runs.Laws.{ChoosesValues}
 use Rattle.law_choices.proofs.InstancesLemmas.Called.{Called, all_called}
 use Rattle.law_choices.proofs.PlayingLemmas.Holding.{chosen-found, own-among, runs-of}
@@ -142,17 +142,17 @@ module _ (told : Told) (after earlier : List Item) (n : Node) (stands : Stands a
   -- ---- one instant
 
   module _ (older : Past) (now : Instant) (h : Reacts older now) where
-    abbrev vs : List Value
-    vs = h.0.0
+    abbrev inputs : List Value
+    inputs = h.0.0
 
     abbrev g : Given
-    g = chosen_given (choices n.name) n vs (given older nothing)
+    g = chosen_given (choices n.name) n inputs (given older nothing)
 
     held : All (Held types nodes word older now) (calls_of n)
-    held = calls_held types nodes word n known.quiet vs older g.free now h.0.1
+    held = calls_held types nodes word n known.quiet inputs older g.free now h.0.1
 
     called : All (Called told types nodes word older now) (calls_of n)
-    called = all_called told types nodes word n known.fit known.quiet vs older (λ p. g.free p) now h.0.1
+    called = all_called told types nodes word n known.fit known.quiet inputs older (in_row (map alone (choices n.name inputs (map (inputs_at n) older)))) now h.0.1
 
     fits : All (CallFits types W now) (calls_of n)
     fits = each_all (CallFits types W now) (points n) (node_calls types W now n (scope_behind earlier) (seen_in_node (class_here class) n) (node_loose types true W (scope_behind earlier) (seen_in_node (class_here class) n) n now h.1.0))
