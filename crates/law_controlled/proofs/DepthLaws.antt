@@ -1,6 +1,6 @@
 -- In the runs that the machines of a program say, each instance that knows all has the greatest permitted values, at every depth.
 use Rattle.std.proofs.Common.{◌≡◌, ℕ, inl, inr, List, [], ◌∷◌, ◌++◌, reverse, Some, refl, sym, ap, subst, ◌∙◌, append_assoc}
-use Rattle.std.specs.Prelude.{Bool, true, false, if◌then◌else◌, IsTrue, All}
+use Rattle.std.specs.Prelude.{Bool, true, false, if◌then◌else◌, IsTrue, All, slice_index_or}
 use Rattle.std.specs.Bool.{MatchBool}
 use Rattle.std.specs.List.{AllByRecursion}
 use Rattle.std.specs.Str.{bytes_eq}
@@ -52,14 +52,14 @@ short_of types ty.Int (I n) i h = absurd cc
 short_of types (ty.Enum x) (I n) i h = absurd h
 
 row_kinds : (types : List TypeDecl) (ds : List Decl) (vs : List Value) → ConstructorsDiffer types → AllByRecursion (λ (d : Decl). is_int d.ty ≡ false) ds → AreOf types ds vs → AreOfKinds (kinds_of_decls types ds) vs
-row_kinds types [] [] differ i h = tt
-row_kinds types [] (v ∷ vs) differ i h = absurd h
-row_kinds types (d ∷ ds) [] differ i h = absurd h
-row_kinds types (d ∷ ds) (v ∷ vs) differ i h = (kind_is types d.ty v differ (short_of types d.ty v i.0 h.0) h.0, row_kinds types ds vs differ i.1 h.1)
+row_kinds types [] [] distinct i h = tt
+row_kinds types [] (v ∷ vs) distinct i h = absurd h
+row_kinds types (d ∷ ds) [] distinct i h = absurd h
+row_kinds types (d ∷ ds) (v ∷ vs) distinct i h = (kind_is types d.ty v distinct (short_of types d.ty v i.0 h.0) h.0, row_kinds types ds vs distinct i.1 h.1)
 
 all_kinds : (types : List TypeDecl) (ds : List Decl) (rows : List (List Value)) → ConstructorsDiffer types → AllByRecursion (λ (d : Decl). is_int d.ty ≡ false) ds → AllByRecursion (AreOf types ds) rows → AllByRecursion (AreOfKinds (kinds_of_decls types ds)) rows
-all_kinds types ds [] differ i h = tt
-all_kinds types ds (row ∷ rows) differ i h = (row_kinds types ds row differ i h.0, all_kinds types ds rows differ i h.1)
+all_kinds types ds [] distinct i h = tt
+all_kinds types ds (row ∷ rows) distinct i h = (row_kinds types ds row distinct i h.0, all_kinds types ds rows distinct i h.1)
 
 some_same : {A : Type 0} (x y : A) → Some x ≡ Some y → x ≡ y
 some_same x y e = cc
@@ -96,11 +96,9 @@ module _ (laws : SteeringLaws) (program after : List Item) (ranks : List (List �
   deep : (items : List Item) (later : List Item) → reverse after ≡ later ++ items → (f : List ℕ) (past : Past) (now : Instant) → Reacts f (now ∷ past) → InEach (IsGreatestIfKnown after) items f past now
   deep [] later e f past now h = tt
   deep (TypeItem t ∷ items) later e f past now h = deep items (later ++ (TypeItem t ∷ [])) (e ∙ sym (append_assoc later (TypeItem t ∷ []) items)) f past now h
-  deep (NodeItem n ∷ items) later e f past now h = by (bytes_eq n.name f) refl
+  deep (NodeItem n ∷ items) later e f past now h =
+      by (bytes_eq n.name f) refl (λ g older i k. deep items (later ++ (NodeItem n ∷ [])) (e ∙ sym (append_assoc later (NodeItem n ∷ []) items)) g older i k)
     where
-      behind : reverse after ≡ (later ++ (NodeItem n ∷ [])) ++ items
-      behind = e ∙ sym (append_assoc later (NodeItem n ∷ []) items)
-
       apart : NamesApart (reverse after)
       apart = ready_apart program after order.ready
 
@@ -108,19 +106,22 @@ module _ (laws : SteeringLaws) (program after : List Item) (ranks : List (List �
       Below k = IsTrue (is_there (instance_at k now (Fresh ∷ []))) → InEach (IsGreatestIfKnown after) items k.point.name (own_past (k.place ++ (Instance ∷ [])) past now) (instance_at k now)
 
       found : bytes_eq n.name f ≡ true → node_among (reverse after) f ≡ Some n
-      found same =
-          ap (λ xs. node_among xs f) e
-          ∙ found_among later (NodeItem n ∷ items) f n (subst NamesApart e apart) (ap (λ b. if b then Some n else node_among items f) same)
+      found same = ap (λ xs. node_among xs f) e ∙ found_among later (NodeItem n ∷ items) f n (subst NamesApart e apart) (ap (λ b. if b then Some n else node_among items f) same)
 
-      by : (d : Bool) → bytes_eq n.name f ≡ d → MatchBool d (IsGreatestIfKnown after n past now × All Below (calls_of n)) (InEach (IsGreatestIfKnown after) items f past now)
-      by true same =
+      by : (d : Bool) → bytes_eq n.name f ≡ d → ((g : List ℕ) (older : Past) (i : Instant) → Reacts g (i ∷ older) → InEach (IsGreatestIfKnown after) items g older i)
+          → MatchBool d (IsGreatestIfKnown after n past now × All Below (calls_of n)) (InEach (IsGreatestIfKnown after) items f past now)
+      by true same rest =
           let is : node_among (reverse after) f ≡ Some n = found same in
           let node : h.node ≡ n = some_same h.node n (sym h.is_node ∙ is) in
           let typed : AllByRecursion (AreOf types n.inputs) h.rows = subst (λ (m : Node). AllByRecursion (AreOf types m.inputs) h.rows) node h.typed in
           let are = ((r.allowed).allowed).allowed in
-          let below : All (InstanceReacts ((r.allowed).allowed).choices after past now) (calls_of n) = laws.instances program after ranks order ((r.allowed).allowed).choices are.values f n h.rows past now is typed h.chosen in
-          (one f n h.rows past now is typed h.chosen, λ j d b t. deep items (later ++ (NodeItem n ∷ [])) behind _ _ _ (below j d b t))
-      by false same = deep items (later ++ (NodeItem n ∷ [])) behind f past now h
+          let below : All (InstanceReacts ((r.allowed).allowed).choices after past now) (calls_of n) = laws.instances program after ranks order ((r.allowed).allowed).choices are.values f n h.rows past now is typed h.chosen in (
+            one f n h.rows past now is typed h.chosen,
+            λ j d b t.
+                let k = slice_index_or (calls_of n) j d in
+                rest k.point.name (own_past (k.place ++ (Instance ∷ [])) past now) (instance_at k now) (below j d b t),
+          )
+      by false same rest = rest f past now h
 
   -- the run
   pub at_depth : (f : List ℕ) (n : Node) (rows : List (List Value)) (past : Past) → node_among (reverse after) f ≡ Some n → AllByRecursion (AreOf types n.inputs) rows → ChosenReaction ((r.allowed).allowed).choices after f rows past → AreGreatestAtDepth after f past

@@ -11,7 +11,7 @@ ghost use Rattle.law_controlled.specs.Observers.{ObserversSuitLaw};
 ghost use Rattle.law_controlled.specs.Parts.{MadePartLaw};
 ghost use Rattle.law_controlled.specs.Said.{GreatestSaidLaw, SaidLaw};
 ghost use Rattle.law_controlled.specs.Program.{ChoosingNamesLaw, MadeNamesLaw, MadeNodesLaw};
-ghost use Rattle.law_controlled.specs.Worked.{HeaterLaw};
+ghost use Rattle.law_controlled.specs.Worked.{HeaterLaw, HouseLaw};
 
 use hp_form::regular::regular_equations_have_form;
 use hp_meaning::contract::{
@@ -143,4 +143,9 @@ pub fn machines_of_texts_choose_the_greatest()
 /// Of a heater with three modes, one of which is chosen, nothing is free but the inputs.
 pub fn a_worked_heater()
     ensures { HeaterLaw }
+{}
+
+/// The heater has the greatest permitted values in a house that calls it, and keeps its contract there.
+pub fn a_worked_house()
+    ensures { HouseLaw }
 {}
