@@ -18,5 +18,6 @@ pub mod Part
 pub mod Adding
 pub mod Coded
 pub mod InTurn
+pub mod Instances
 pub mod Observed
 pub mod Playing

@@ -12,6 +12,7 @@ pub mod filled;
 pub mod flat;
 pub mod in_turn;
 pub mod independent;
+pub mod instances;
 pub mod observed;
 pub mod on_clocks;
 pub mod once;
