@@ -20,3 +20,4 @@ mod CodedLemmas
 mod InTurnLemmas
 mod ObservedLemmas
 pub mod PlayingLemmas
+mod SeeingLemmas

@@ -20,3 +20,4 @@ pub mod Coded
 pub mod InTurn
 pub mod Observed
 pub mod Playing
+pub mod Seeing

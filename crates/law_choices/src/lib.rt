@@ -21,5 +21,6 @@ pub mod part;
 pub mod places;
 pub mod playing;
 pub mod runs;
+pub mod seeing;
 pub mod streams;
 pub mod undisturbed;
