@@ -49,11 +49,11 @@ is_among (q ∷ qs) p = same_place q.0 p || is_among qs p
 
 among-free : (ps : List FreePlace) (p : Place) → is_among ps p ≡ true → IsFree ps p
 among-free [] p h = absurd cc
-among-free (q ∷ qs) p h = by (same_place q.0 p) refl h
+among-free (q ∷ qs) p h = by (same_place q.0 p) refl h (among-free qs p)
   where
-    by : (b : Bool) → same_place q.0 p ≡ b → (b || is_among qs p) ≡ true → IsFree (q ∷ qs) p
-    by true e h = inl (sym (place_same q.0 p e))
-    by false e h = inr (among-free qs p h)
+    by : (b : Bool) → same_place q.0 p ≡ b → (b || is_among qs p) ≡ true → (is_among qs p ≡ true → IsFree qs p) → IsFree (q ∷ qs) p
+    by true e h more = inl (sym (place_same q.0 p e))
+    by false e h more = inr (more h)
 
 or-right : (a b : Bool) → b ≡ true → (a || b) ≡ true
 or-right true b e = refl
@@ -169,7 +169,7 @@ module _ (program after : List Item) (ranks : List (List ℕ)) (o : IsInOrder pr
   given = made program after ranks o earlier n st mixed
 
   -- it is of its types, so it stays
-  IsRoot : Place → Type 0
+  abbrev IsRoot : Place → Type 0
   IsRoot q = root q ≡ mixed q
 
   typed-mixed : All (λ q. IsRoot q.0 → IsAbstractOf (types_of after) q.1 (mixed q.0)) places
@@ -266,11 +266,23 @@ module _ (program after : List Item) (ranks : List (List ℕ)) (o : IsInOrder pr
       let r = node_fits after earlier n (found program after ranks o earlier n st) (declared program after ranks o earlier n st) c is begun mixed in
       record { others = given; values = wires; given = r.0; fits = r.2 (map marked inputs) wires; fills = r.1; agrees = λ p e. refl; meets = meets-given }
 
-  pub early-codes : (is_early : Place → Bool) → codes_at (types_of after) (early_among is_early (slots_of_node after n)) (given_with (map marked inputs) given c) ≡ codes_at (types_of after) (early_among is_early (slots_of_node after n)) root
-  early-codes is_early = same-early (types_of after) is_early (given_with (map marked inputs) given c) root (slots_of_node after n) same-code typed
+  others-here : (fitting-here).others ≡ given
+  unfolding fitting-here
+  others-here = refl
 
-  pub late-codes : (is_early : Place → Bool) → codes_at (types_of after) (late_among is_early (slots_of_node after n)) (given_with (map marked inputs) given c) ≡ codes_at (types_of after) (late_among is_early (slots_of_node after n)) root
-  late-codes is_early = same-late (types_of after) is_early (given_with (map marked inputs) given c) root (slots_of_node after n) same-code typed
+  pub given-codes : (is_early : Place → Bool) → codes_at (types_of after) (early_among is_early (slots_of_node after n)) (given_with (map marked inputs) given c) ≡ codes_at (types_of after) (early_among is_early (slots_of_node after n)) root
+  given-codes is_early = same-early (types_of after) is_early (given_with (map marked inputs) given c) root (slots_of_node after n) same-code typed
+
+  pub early-codes : (is_early : Place → Bool)
+      → codes_at (types_of after) (early_among is_early (slots_of_node after n)) (given_with (map marked inputs) (fitting-here).others c) ≡ codes_at (types_of after) (early_among is_early (slots_of_node after n)) root
+  early-codes is_early =
+      ap (λ g. codes_at (types_of after) (early_among is_early (slots_of_node after n)) (given_with (map marked inputs) g c)) others-here ∙ given-codes is_early
+
+  pub late-codes : (is_early : Place → Bool)
+      → codes_at (types_of after) (late_among is_early (slots_of_node after n)) (given_with (map marked inputs) (fitting-here).others c) ≡ codes_at (types_of after) (late_among is_early (slots_of_node after n)) root
+  late-codes is_early =
+      ap (λ g. codes_at (types_of after) (late_among is_early (slots_of_node after n)) (given_with (map marked inputs) g c)) others-here
+      ∙ same-late (types_of after) is_early (given_with (map marked inputs) given c) root (slots_of_node after n) same-code typed
 
   -- early values are the instant's own wherever it looks
   mixed-now : (q : Place) → IsEarly after n q → IsTrue (is_seen here q) → mixed q ≡ now q

@@ -1,17 +1,16 @@
 -- A machine that is asked, and sees values of free places, plays along with the game and chooses.
-use Rattle.std.proofs.Common.{◌≡◌, List, [], ◌∷◌, map, refl, sym, ap, ◌∙◌}
+use Rattle.std.proofs.Common.{◌≡◌, ◌↔◌, ℕ, List, [], ◌∷◌, map, sym, ◌∙◌}
 use Rattle.hp_base.specs.declared.value.Value.{Value}
 use Rattle.hp_boolx.specs.Machine.{Machine}
 use Rattle.hp_tree.specs.declared.program.Item.{Item}
 use Rattle.hp_tree.specs.Programs.{Node}
 use Rattle.hp_tree.specs.Operators.{marked}
 use Rattle.hp_tree.specs.Instant.{Place, Instant, Past}
-use Rattle.hp_tree.specs.Meaning.{types_of}
 use Rattle.hp_tree.specs.Reaction.{controls_at}
-use Rattle.std.specs.Prelude.{ℕ}
+use Rattle.std.specs.Prelude.{IsTrue}
 use Rattle.hp_meaning.specs.Contract.Forgetting.{erased, erase}
 use Rattle.hp_meaning.specs.Contract.FreePlaces.{IsEarly}
-use Rattle.hp_meaning.specs.Contract.Game.{Choice, IsChoiceOf, IsChosen, IsNext, Permitted}
+use Rattle.hp_meaning.specs.Contract.Game.{Choice, IsChoiceOf, IsChosen, Permitted}
 use Rattle.law_equations.specs.Meaning.Instants as flat
 use Rattle.law_games.specs.Forced.Twins.{PlayedChoiceLaw}
 use Rattle.law_games.specs.Mirror.Mirrored.{Mirrors}
@@ -19,13 +18,14 @@ use Rattle.law_games.specs.ReadyGames.FittingHistories.{AllFitting}
 use Rattle.law_games.specs.ReadyGames.Laws.{IsInOrder, Stands}
 use Rattle.hp_controller.specs.Steps.{Placing, control_places}
 use Rattle.law_choices.specs.Playing.Given.{GivesSame, GiveSame}
+use Rattle.law_choices.specs.Chosen.Laws.{is_seen}
 use Rattle.law_choices.specs.Seeing.Laws.{GivenLaw, ValuesPlayLaw, ValuesChoiceLaw}
 use Rattle.law_choices.specs.Seeing.Values.{SeesValues, SeeValues}
 use Rattle.law_choices.proofs.ChosenLemmas.Chosen.{seen_alike}
-use Rattle.law_choices.proofs.ChosenLemmas.Seen.{made, slots_fit, same_chosen}
+use Rattle.law_choices.proofs.ChosenLemmas.Seen.{slots_fit, same_chosen}
 use Rattle.law_choices.proofs.PlayingLemmas.Playing.{bits-given, playing_law, steered_choice_law}
-use Rattle.law_choices.proofs.SeeingLemmas.Given.{mixed, given, fitting-here, early-codes, late-codes, given-now}
-use Rattle.law_choices.proofs.SeeingLemmas.Other.{SameWhereSeen, permitted-other}
+use Rattle.law_choices.proofs.SeeingLemmas.Given.{mixed, given, fitting-here, early-codes, given-codes, late-codes, given-now}
+use Rattle.law_choices.proofs.SeeingLemmas.Other.{permitted-other}
 
 pub given_law : GivenLaw
 given_law program after ranks o earlier n st h inputs values c now fit is x typed own =
@@ -69,29 +69,22 @@ module _ (program after : List Item) (ranks : List (List ℕ)) (o : IsInOrder pr
       let g = one-same past i now s.1 in
       (all-fit instants past s.0, (g.inputs, g.early, g.chosen, g.is_choice, g.fits))
 
-  -- what is chosen with the given values is chosen with those that the instant has, Nil where they may be
-  pub chosen-now : (older : Past) (i : flat.Instant) (now : Instant) (s : SeesValues after earlier n m M p older i now) → AllFitting after earlier n (erase older)
-      → IsChosen after n (erase older) s.inputs (given-at older i now s) (controls_at n now) → IsChosen after n (erase older) s.inputs now (controls_at n now)
-  chosen-now older i now s all =
-      (same_chosen program after ranks o earlier n st h s.inputs now G c s.is_choice both).1
-    where
-      abbrev h : Past
-      h = erase older
+  module _ (older : Past) (i : flat.Instant) (now : Instant) (s : SeesValues after earlier n m M p older i now) (all : AllFitting after earlier n (erase older)) where
+    same : (q : Place) → IsEarly after n q → IsTrue (is_seen (erased now) q) → now q ≡ given-at older i now s q
+    same q e seen = sym (given-now program after ranks o earlier n st (erase older) s.inputs s.values (controls_at n now) now s.fit s.is_choice s.next s.typed s.own q e seen)
 
-      abbrev c : Choice
-      c = controls_at n now
+    permitted-both : (d : Choice) → IsChoiceOf after n d → Permitted after n (erase older) s.inputs now d ↔ Permitted after n (erase older) s.inputs (given-at older i now s) d
+    permitted-both d isd = (
+      permitted-other after n (erase older) s.inputs now (given-at older i now s) d
+          (λ other x q e seen. sym (same q e (seen_alike program after ranks o earlier n st (erase older) s.inputs (given-at older i now s) now d (controls_at n now) other (erased now) all s.fit isd s.is_choice x s.next q e seen))),
+      permitted-other after n (erase older) s.inputs (given-at older i now s) now d
+          (λ other x q e seen. same q e (seen_alike program after ranks o earlier n st (erase older) s.inputs now now d (controls_at n now) other (erased now) all s.fit isd s.is_choice x s.next q e seen)),
+    )
 
-      abbrev G : Instant
-      G = given-at older i now s
-
-      same : (q : Place) → IsEarly after n q → IsTrue (is_seen (erased now) q) → now q ≡ G q
-      same q e seen = sym (given-now program after ranks o earlier n st h s.inputs s.values c now s.fit s.is_choice s.next s.typed s.own q e seen)
-
-      both : (d : Choice) → IsChoiceOf after n d → Permitted after n h s.inputs now d ↔ Permitted after n h s.inputs G d
-      both d isd = (
-        permitted-other after n h s.inputs G now d (λ other x q e seen. same q e (seen_alike program after ranks o earlier n st h s.inputs now now d c other (erased now) all s.fit isd s.is_choice x s.next q e seen)),
-        permitted-other after n h s.inputs now G d (λ other x q e seen. sym (same q e (seen_alike program after ranks o earlier n st h s.inputs G now d c other (erased now) all s.fit isd s.is_choice x s.next q e seen))),
-      )
+    -- what is chosen with the given values is chosen with those that the instant has, Nil where they may be
+    pub chosen-now : IsChosen after n (erase older) s.inputs (given-at older i now s) (controls_at n now) → IsChosen after n (erase older) s.inputs now (controls_at n now)
+    chosen-now =
+        (same_chosen program after ranks o earlier n st (erase older) s.inputs now (given-at older i now s) (controls_at n now) s.is_choice permitted-both).1
 
 pub values_play_law : ValuesPlayLaw
 values_play_law program after ranks o earlier n st m M p instants past steered s =
@@ -106,7 +99,7 @@ values_choice_law played program after ranks o earlier n st m M prefer many p i 
     let all = all-fit program after ranks o earlier n st m M p instants past given.0 in
     let same = all-same program after ranks o earlier n st m M p instants past given.0 in
     let G = given-at program after ranks o earlier n st m M p past i now s in
-    let codes = early-codes program after ranks o earlier n st h s.inputs s.values c now s.fit s.is_choice s.next s.typed s.own M.is_early in
+    let codes = given-codes program after ranks o earlier n st h s.inputs s.values c now s.fit s.is_choice s.next s.typed s.own M.is_early in
     chosen-now program after ranks o earlier n st m M p past i now s all
     (steered_choice_law played program after ranks o earlier n st m M prefer many p i instants h steered same s.inputs G s.fit
     (slots_fit program after ranks o earlier n st s.inputs (mixed program after ranks o earlier n st h s.inputs s.values c now s.fit s.is_choice s.next s.typed s.own) s.fit)

@@ -3,7 +3,9 @@
 use Rattle.std.specs.Prelude.{◌≡◌, Bool, List, ◌∷◌, length, map}
 use Rattle.hp_base.specs.declared.value.Value.{Value}
 use Rattle.hp_boolx.specs.Machine.{Machine}
+use Rattle.hp_tree.specs.declared.program.Item.{Item}
 use Rattle.hp_tree.specs.Operators.{marked}
+use Rattle.hp_tree.specs.Programs.{Node}
 use Rattle.hp_tree.specs.Instant.{Place, Instant, Past}
 use Rattle.hp_tree.specs.Meaning.{types_of}
 use Rattle.hp_tree.specs.Reaction.{controls_at}
