@@ -3,6 +3,7 @@
 //! The functions here do nothing: each is a law, which its contract states.
 #![tactic(auto)]
 
+ghost use Rattle.law_choices.specs.Seeing.Found.{FilledFoundLaw};
 ghost use Rattle.law_choices.specs.Seeing.Laws.{GivenLaw, ValuesChoiceLaw, ValuesPlayLaw};
 
 use law_games::forced::machines_go_along;
@@ -19,3 +20,8 @@ pub fn machines_that_see_values_choose()
 {
     machines_go_along();
 }
+
+/// Outside of transitions, what a walk over a node finds has its value in the filled form of the program without automata too, wherever it is there and not Nil: in the one reaction with chosen values.
+pub fn found_places_keep_their_values()
+    ensures { FilledFoundLaw }
+{}

@@ -25,16 +25,16 @@ use Rattle.law_choices.proofs.RunsLemmas.Chosen.{of_program}
 -- ---- one place
 
 not-nil : (v w : Value) → Under v w → (v ≡ Nil → ⊥) → w ≡ v
-not-nil Nil w u no = absurd (no refl)
-not-nil Absent w u no = u
-not-nil (B b) w u no = u
-not-nil (E t k) w u no = u
-not-nil (I n) w u no = u
-not-nil Star w u no = u
+not-nil Nil w u known = absurd (known refl)
+not-nil Absent w u known = u
+not-nil (B b) w u known = u
+not-nil (E t k) w u known = u
+not-nil (I n) w u known = u
+not-nil Star w u known = u
 
 module _ (now low filled : Instant) (under : (p : Place) → Under (low p) (filled p)) where
   one-known : (p q : Place) → SameWhereThere now low p q → KnownAlike now filled p q
-  one-known p q same outside there no = let e = same outside there in not-nil (now p) (filled q) (subst (λ v. Under v (filled q)) e (under q)) no
+  one-known p q same outside there known = let e = same outside there in not-nil (now p) (filled q) (subst (λ v. Under v (filled q)) e (under q)) known
 
   all-known : (ps qs : List Place) → Along (SameWhereThere now low) ps qs → Along (KnownAlike now filled) ps qs
   all-known [] [] a = tt
