@@ -21,3 +21,4 @@ mod InTurnLemmas
 mod InstancesLemmas
 mod ObservedLemmas
 pub mod PlayingLemmas
+mod SeeingLemmas

@@ -21,3 +21,4 @@ pub mod InTurn
 pub mod Instances
 pub mod Observed
 pub mod Playing
+pub mod Seeing

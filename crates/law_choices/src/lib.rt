@@ -22,5 +22,6 @@ pub mod part;
 pub mod places;
 pub mod playing;
 pub mod runs;
+pub mod seeing;
 pub mod streams;
 pub mod undisturbed;

@@ -1,0 +1,4 @@
+pub mod Other
+pub mod Given
+pub mod Values
+pub mod Found
