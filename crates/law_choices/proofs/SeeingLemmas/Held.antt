@@ -8,7 +8,7 @@ use Rattle.hp_flat.specs.Nodes.{FlatNode}
 use Rattle.hp_tree.specs.Programs.{TypeDecl}
 use Rattle.hp_tree.specs.Instant.{Place, Instant}
 use Rattle.hp_meaning.specs.Contract.Codes.{code}
-use Rattle.hp_meaning.specs.Contract.Slots.{Slot, register, free, input, control, FreePlace}
+use Rattle.hp_meaning.specs.Contract.Slots.{Slot, register, free, input, control}
 use Rattle.law_equations.specs.Meaning.Instants as flat
 use Rattle.law_games.specs.Mirror.Mirrored.{codes_at, early_among, late_among}
 use Rattle.hp_watch.specs.declared.watching.Free.{Free}
