@@ -62,7 +62,7 @@ use Rattle.law_wellmade.proofs.BegunLemmas.Items.{types_low}
 use Rattle.law_choices.proofs.OnClocksLemmas.Programs.{some_of}
 use Rattle.law_choices.proofs.PlayingLemmas.Greatest.{ChoiceLaws, Known as KnownNode, node-greatest, range-long}
 use Rattle.law_choices.specs.Seeing.Greatest.{SeenGreatestLaw}
-use Rattle.law_choices.specs.Seeing.Held.{IsOneOf, SeesOwn}
+use Rattle.law_choices.specs.Seeing.Held.{IsMadeOf, SeesOwn}
 use Rattle.law_choices.proofs.PlayingLemmas.Holding.{Runs, runs-of}
 use Rattle.law_choices.proofs.SeeingLemmas.Watching.{node-seen}
 use Rattle.law_choices.proofs.RunsLemmas.Chosen.{of_program}
@@ -161,7 +161,7 @@ module _ (laws : GreatestLaws) (program after : List Item) (ranks : List (List �
     count : length (controls_in after made.plant.name) ≡ length (controls_of n.contract)
     controller : Answered answers all.takes made.controller
     its : IsItsChoice answers ((callees_of after).takes made.plant.name) (length (controls_in after made.plant.name)) made.own (choices made.plant.name)
-    among : IsOneOf ms (contracted made)
+    among : IsMadeOf after ms n made
 
   abbrev Found : Node → Type 0
   Found n = (n.contract ≡ None) ⊎ FoundMade n
@@ -169,7 +169,7 @@ module _ (laws : GreatestLaws) (program after : List Item) (ranks : List (List �
   abbrev GroundedHere : Made → Type 0
   GroundedHere m = Grounded laws.turn types k enums observers all (have_bytes laws.turn program after observers ms h) h.suit h.alone (all_old laws.turn program after observers ms h) HasOwn m
 
-  find : (items earlier : List Item) (made : List Made) → ((x : Made) → IsOneOf made x → IsOneOf ms x) → reverse after ≡ reverse items ++ earlier → AreAllMade types observers items made → AreMadeOf k (map (lowered_item enums) items) (loop.plants (loops made)) → AreMirrored types observers after earlier items made
+  find : (items earlier : List Item) (made : List Made) → ((k : Node) (x : Contracted) → IsMadeOf items made k x → IsMadeOf after ms k x) → reverse after ≡ reverse items ++ earlier → AreAllMade types observers items made → AreMadeOf k (map (lowered_item enums) items) (loop.plants (loops made)) → AreMirrored types observers after earlier items made
       → EachNode HasOwn items → AllByRecursion GroundedHere made → AllByRecursion (Answered answers all.takes) (all_nodes made) → AreTheirChoices answers (callees_of after).takes (controls_in after) choices (loops made) → EachNode Found items
   find [] earlier made one e is of mirrored own grounded given their = tt
   find (TypeItem t ∷ items) earlier made one e is of mirrored own grounded given their =
@@ -177,7 +177,7 @@ module _ (laws : GreatestLaws) (program after : List Item) (ranks : List (List �
   find (NodeItem n ∷ items) earlier [] one e is of mirrored own grounded given their = absurd is
   find (NodeItem n ∷ items) earlier (plain f ∷ made) one e is of mirrored own grounded given their = (
     inl (none n.contract refl is.0),
-    find items (NodeItem n ∷ earlier) made (λ x i. one x (inr i)) (e ∙ ap (λ xs. xs ++ earlier) (reverse-append (NodeItem n ∷ []) items) ∙ append_assoc (reverse items) (NodeItem n ∷ []) earlier) is.1 of.1 mirrored own.1 grounded.1 given.1 their.1,
+    find items (NodeItem n ∷ earlier) made (λ k x i. one k x (inr i)) (e ∙ ap (λ xs. xs ++ earlier) (reverse-append (NodeItem n ∷ []) items) ∙ append_assoc (reverse items) (NodeItem n ∷ []) earlier) is.1 of.1 mirrored own.1 grounded.1 given.1 their.1,
   )
     where
       none : (o : Option Contract) → n.contract ≡ o → IsMade types observers n o (plain f) → n.contract ≡ None
@@ -198,9 +198,9 @@ module _ (laws : GreatestLaws) (program after : List Item) (ranks : List (List �
           count = subst (λ (z : Node). length (controls_in after c.plant.name) ≡ length (controls_of z.contract)) same it.4;
           controller = given.0;
           its = their.0;
-          among = one (contracted c) (inl refl);
+          among = one n c (inl (refl, refl));
         }),
-        find items (NodeItem n ∷ earlier) made (λ x i. one x (inr i)) behind is.1 of.1 mirrored.1 own.1 grounded.1 given.1.1.1 their.1,
+        find items (NodeItem n ∷ earlier) made (λ k x i. one k x (inr i)) behind is.1 of.1 mirrored.1 own.1 grounded.1 given.1.1.1 their.1,
       )
 
   -- ---- a node
@@ -329,7 +329,7 @@ greatest_law laws program after ranks observers ms order h mirrored allowed f n 
     let P = Found laws program after ranks observers ms order h allowed in
     let stand = all_stand laws.turn program after observers ms h in
     let found =
-    find laws program after ranks observers ms order h allowed after [] ms (λ x i. i) (sym (append-nil (reverse after))) h.made h.equations mirrored (all_own after (ready_apart program after h.ready)) stand.2 (allowed.one).answered (allowed.allowed).theirs in
+    find laws program after ranks observers ms order h allowed after [] ms (λ k x i. i) (sym (append-nil (reverse after))) h.made h.equations mirrored (all_own after (ready_apart program after h.ready)) stand.2 (allowed.one).answered (allowed.allowed).theirs in
     by knows own (each_found P (reverse after) f n (each_reverse P after found) e) (subst (λ x. ChosenReaction choices after x inputs past) (sym named) reaction)
   where
     by : KnowsAll after n → node_among (reverse after) n.name ≡ Some n → Found laws program after ranks observers ms order h allowed n → ChosenReaction (allowed.allowed).choices after n.name inputs past → Through (ChoosesGreatest after n) past
@@ -356,7 +356,7 @@ seen_greatest_law laws program after ranks observers ms order h mirrored allowed
     let P = Found laws program after ranks observers ms order h allowed in
     let stand = all_stand laws.turn program after observers ms h in
     let found =
-    find laws program after ranks observers ms order h allowed after [] ms (λ x i. i) (sym (append-nil (reverse after))) h.made h.equations mirrored (all_own after (ready_apart program after h.ready)) stand.2 (allowed.one).answered (allowed.allowed).theirs in
+    find laws program after ranks observers ms order h allowed after [] ms (λ k x i. i) (sym (append-nil (reverse after))) h.made h.equations mirrored (all_own after (ready_apart program after h.ready)) stand.2 (allowed.one).answered (allowed.allowed).theirs in
     by (ap (node_among (reverse after)) named ∙ e) (each_found P (reverse after) f n (each_reverse P after found) e) (subst (λ x. ChosenReaction choices after x inputs past) (sym named) reaction)
   where
     by : node_among (reverse after) n.name ≡ Some n → Found laws program after ranks observers ms order h allowed n → ChosenReaction (allowed.allowed).choices after n.name inputs past → Through (ChoosesGreatest after n) past

@@ -5,6 +5,7 @@ use Rattle.hp_base.specs.declared.value.Value.{Value}
 use Rattle.hp_obc.specs.Machines.{ObcType}
 use Rattle.hp_flat.specs.Nodes.{FlatNode}
 use Rattle.hp_tree.specs.declared.program.Item.{Item}
+use Rattle.hp_tree.specs.declared.program.Item.TheVariants.{TypeItem, NodeItem}
 use Rattle.hp_tree.specs.Programs.{Node, TypeDecl}
 use Rattle.hp_tree.specs.Operators.{marked}
 use Rattle.hp_tree.specs.Instant.{Place, Instant, Past}
@@ -52,10 +53,12 @@ HoldThroughout types program n s [] [] = ⊤
 HoldThroughout types program n s (i ∷ instants) (now ∷ past) = HoldThroughout types program n s instants past × HoldsValues types program n s i now
 HoldThroughout types program n s instants past = ⊥
 
--- one of what is made of a program
-abbrev pub IsOneOf : List Made → Made → Type 0
-IsOneOf [] m = ⊥
-IsOneOf (x ∷ xs) m = (m ≡ x) ⊎ IsOneOf xs m
+-- what is made of a node with a contract, among what is made of some items, in order
+abbrev pub IsMadeOf : List Item → List Made → Node → Contracted → Type 0
+IsMadeOf [] ms n c = ⊥
+IsMadeOf (TypeItem t ∷ items) ms n c = IsMadeOf items ms n c
+IsMadeOf (NodeItem k ∷ items) [] n c = ⊥
+IsMadeOf (NodeItem k ∷ items) (m ∷ ms) n c = ((k ≡ n) × (m ≡ contracted c)) ⊎ IsMadeOf items ms n c
 
 -- The equations that are made of a node with a contract, with its observers.
 abbrev pub survey_of : (types : List ObcType) (observers : Observing) (n : Node) (c : Contracted) → IsContracted types observers n c → Surveyed
@@ -64,5 +67,5 @@ survey_of types observers n c is = let fits = (is.is_watched).fits in surveyed o
 -- In each reaction of the equations that choose, over some inputs, they hold so the values of a reaction of the node.
 abbrev pub SeesOwn : List ObcType → Observing → List Item → List Made → Node → Answers → List (List Value) → Past → Type 0
 SeesOwn types observers program ms n answers rows past =
-    (earlier : List Item) (c : Contracted) (x : IsMirrored types observers program earlier n c) → IsOneOf ms (contracted c) → (instants : List flat.Instant) → Reaction answers c.chosen.node rows instants
+    (earlier : List Item) (c : Contracted) (x : IsMirrored types observers program earlier n c) → IsMadeOf program ms n c → (instants : List flat.Instant) → Reaction answers c.chosen.node rows instants
     → HoldThroughout types program n (survey_of types observers n c x.is) instants past
