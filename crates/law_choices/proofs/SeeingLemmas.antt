@@ -2,3 +2,5 @@ pub mod Other
 pub mod Given
 pub mod Values
 pub mod Found
+pub mod Held
+pub mod Watching

@@ -1,3 +1,5 @@
 pub mod Values
 pub mod Laws
 pub mod Found
+pub mod Held
+pub mod Greatest

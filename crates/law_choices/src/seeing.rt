@@ -4,9 +4,26 @@
 #![tactic(auto)]
 
 ghost use Rattle.law_choices.specs.Seeing.Found.{FilledFoundLaw};
+ghost use Rattle.law_choices.specs.Seeing.Greatest.{SeenGreatestLaw};
+ghost use Rattle.law_choices.specs.Seeing.Held.{HeldCodesLaw};
 ghost use Rattle.law_choices.specs.Seeing.Laws.{GivenLaw, ValuesChoiceLaw, ValuesPlayLaw};
 
-use law_games::forced::machines_go_along;
+use crate::adding::{
+    callees_may_differ_elsewhere, equations_may_be_added, made_nodes_may_be_added_to,
+    watched_nodes_choose,
+};
+use crate::answered::extended_nodes_close;
+use hp_controller::{
+    added_equations_give_inputs, controlled_nodes_follow_their_controller,
+    controllers_answer_with_the_choice,
+};
+use hp_meaning::contract::{
+    choices_are_values, codes_of_values, reactions_are_instants_of_the_game,
+};
+use law_drawing::mirrors::machine_choices_are_kept;
+use law_equations::fitting::{calls_are_kept, targets_differ};
+use law_equations::meaning::nodes_have_one_reaction;
+use law_games::forced::{machines_go_along, permitted_is_fitting};
 
 /// An instant of the game of a contract is also one for all values of free places that are of their types, and its own wherever it looks at them.
 pub fn instants_may_be_given_more()
@@ -25,3 +42,27 @@ pub fn machines_that_see_values_choose()
 pub fn found_places_keep_their_values()
     ensures { FilledFoundLaw }
 {}
+
+/// In the nodes of a program that ask controllers of machines which mirror their contracts, the controllable variables of a node have the greatest permitted values at each instant of each reaction with which the nodes answer, where the equations of the node hold values of its free places: of their types, and the reaction's own wherever an instant looks at them. Then early and late variables have their codes.
+pub fn nodes_that_see_values_choose_the_greatest()
+    ensures codes { HeldCodesLaw }
+    ensures greatest { SeenGreatestLaw }
+{
+    callees_may_differ_elsewhere();
+    equations_may_be_added();
+    made_nodes_may_be_added_to();
+    watched_nodes_choose();
+    extended_nodes_close();
+    targets_differ();
+    calls_are_kept();
+    nodes_have_one_reaction();
+    added_equations_give_inputs();
+    controlled_nodes_follow_their_controller();
+    controllers_answer_with_the_choice();
+    codes_of_values();
+    choices_are_values();
+    reactions_are_instants_of_the_game();
+    permitted_is_fitting();
+    machines_go_along();
+    machine_choices_are_kept();
+}
