@@ -1,0 +1,225 @@
+-- What the code makes is the order by clock.
+use Rattle.std.proofs.Common.{◌≡◌, ℕ, zero, suc, ◌+◌, ◌-◌, ◌<◌, ◌≤◌, get_or, length, Bool, true, false, not, ◌&&◌, cond, if◌then◌else◌, List, [], ◌∷◌, ◌++◌, map, refl, sym, ap, subst, ◌∙◌, arith}
+use Rattle.std.specs.List.{AllByRecursion, filter}
+use Rattle.std.specs.List.Sorted.{IsPermutation, IsSortedBy, IsStableBy, ties}
+use Rattle.std.specs.Ordering.{is_lt, nat_cmp, ordering_then}
+use Rattle.std.proofs.lemmas.Bool.{lt-ltb}
+use Rattle.std.proofs.lemmas.List.{append_assoc, get_or-map, length-append, length-map, length-replicate}
+use Rattle.std.proofs.lemmas.List.Elements.{All-from_recursion, recursion_from_All}
+use Rattle.std.proofs.lemmas.List.Sorted.{All-permutation, IsPermutation-map, IsPermutation-sym}
+use Rattle.std.proofs.Math.ListN.{get_or-map as get_or-mapped, replicate}
+use Rattle.hp_flat.specs.Equations.{FlatEqn}
+use Rattle.hp_schedule.specs.Order.{IsInOrder}
+use Rattle.law_equations.specs.Meaning.Reactions.{has}
+use Rattle.law_equations.specs.Meaning.Scheduling.{AreBelow, reads, IsDefinedBelow, IsRanked, IsScheduled}
+use Rattle.law_equations.specs.Made.Laws.{unplaced}
+use Rattle.law_equations.proofs.FewerLemmas.Members.{each_map}
+use Rattle.law_equations.proofs.FewerLemmas.OrderLaws.{order_law, each_moved}
+use Rattle.hp_order.specs.declared.order.Turn.{Turn}
+use Rattle.hp_order.specs.declared.order.Weighed.{Weighed}
+use Rattle.hp_order.specs.declared.reach.Reach.{Reach}
+use Rattle.hp_order.specs.ByClock.{change, one, IsLongest, comes_before, numbered, IsByClock}
+use Rattle.hp_order.specs.Reaching.{unmet, weight_of, noted, noted_eqns}
+use Rattle.hp_order.specs.Turning.{IsNoted, turns_from, blank, eqn_at, noted_turns, weighed_by, weighed_before}
+use Rattle.hp_order.proofs.PathLaws.{control_of_weight, levels_by, heights_by}
+use Rattle.hp_order.proofs.UniqueLaws.{longest-moved}
+
+moved : {A : Type 0} (P : A → Type 0) (xs ys : List A) → IsPermutation xs ys → AllByRecursion P xs → AllByRecursion P ys
+moved P xs ys p h = recursion_from_All P ys (All-permutation P xs ys p (All-from_recursion P xs h))
+
+each : {A : Type 0} (P Q : A → Type 0) → ((a : A) → P a → Q a) → (xs : List A) → AllByRecursion P xs → AllByRecursion Q xs
+each P Q f [] h = tt
+each P Q f (x ∷ xs) h = (f x h.0, each P Q f xs h.1)
+
+-- ---- turns
+
+-- a turn is that of the equation at its number
+record IsTurn (es : List FlatEqn) (t : Turn) : Type 0 where
+  inside : t.index < length es
+  place : (eqn_at es t).at ≡ t.at
+
+-- of the equations from a number on
+record IsTurnFrom (k : ℕ) (es : List FlatEqn) (t : Turn) : Type 0 where
+  later : k ≤ t.index
+  inside : t.index < k + length es
+  place : (get_or es (t.index - k) blank).at ≡ t.at
+
+turns_are : (k : ℕ) (es : List FlatEqn) → AllByRecursion (IsTurnFrom k es) (turns_from k es)
+turns_are k [] = tt
+turns_are k (e ∷ es) = (
+  record { later = omega arith; inside = omega arith; place = ap (λ n. (get_or (e ∷ es) n blank).at) (let zero_is : k - k ≡ 0 = omega arith in zero_is) },
+  each (IsTurnFrom (suc k) es) (IsTurnFrom k (e ∷ es)) (λ t h. let m = h.later in let q = h.inside in record {
+    later = omega arith;
+    inside = omega arith;
+    place = ap (λ n. (get_or (e ∷ es) n blank).at) (let next : t.index - k ≡ suc (t.index - suc k) = omega arith in next) ∙ h.place;
+  }) (turns_from (suc k) es) (turns_are (suc k) es),
+)
+
+middle : (ds es : List FlatEqn) (e : FlatEqn) → get_or (ds ++ e ∷ es) (length ds) blank ≡ e
+middle [] es e = refl
+middle (d ∷ ds) es e = middle ds es e
+
+eqns_back : (es before : List FlatEqn) (k : ℕ) → k ≡ length before → map (λ (t : Turn). get_or (before ++ es) t.index blank) (turns_from k es) ≡ es
+eqns_back [] before k h = refl
+eqns_back (e ∷ es) before k h =
+    let here : get_or (before ++ e ∷ es) k blank ≡ e = ap (λ n. get_or (before ++ e ∷ es) n blank) h ∙ middle before es e in
+    let next : map (λ (t : Turn). get_or (before ++ e ∷ es) t.index blank) (turns_from (suc k) es) ≡ es =
+    ap (λ (ds : List FlatEqn). map (λ (t : Turn). get_or ds t.index blank) (turns_from (suc k) es)) (sym (append_assoc before (e ∷ []) es))
+    ∙ eqns_back es (before ++ e ∷ []) (suc k) (omega (arith, length-append before (e ∷ []))) in
+    (λ i. here i ∷ next i)
+
+turns_noted : (base : ℕ) (es : List FlatEqn) (ts : List Turn) (table : List Reach) → AllByRecursion (IsTurn es) ts → noted_turns base es ts table ≡ noted_eqns base (map (eqn_at es) ts) table
+turns_noted base es [] table h = refl
+turns_noted base es (t ∷ ts) table h =
+    ap (λ b. noted_turns base es ts (if b then noted base (eqn_at es t) table else table)) (lt-ltb t.index (length es) (h.0).inside) ∙ turns_noted base es ts (noted base (eqn_at es t) table) h.1
+
+module _ (base : ℕ) (es : List FlatEqn) (table : List Reach) (h : IsNoted base es table) (ranked : IsRanked es) (within : AllByRecursion (λ (d : FlatEqn). AreBelow base d.targets) es) where
+  abbrev turned : List FlatEqn
+  turned = map (eqn_at es) h.turns
+
+  are_turns : AllByRecursion (IsTurn es) h.turns
+  are_turns = moved (IsTurn es) (turns_from 0 es) h.turns h.all
+      (each (IsTurnFrom 0 es) (IsTurn es) (λ t q. let inside : t.index < 0 + length es = q.inside in record { inside = omega arith; place = ap (λ n. (get_or es n blank).at) (let same : t.index ≡ t.index - 0 = omega arith in same) ∙ q.place }) (turns_from 0 es) (turns_are 0 es))
+
+  same_turned : IsPermutation es turned
+  same_turned = subst (λ ds. IsPermutation ds turned) (eqns_back es [] 0 refl) (IsPermutation-map (eqn_at es) (turns_from 0 es) h.turns h.all)
+
+  in_order : IsInOrder turned
+  in_order i j d le lt =
+      let none : Turn = record { at = 0; index = 0 } in
+      let count : length turned ≡ length h.turns = length-map h.turns (eqn_at es) in
+      let j_in : j < length h.turns = omega (arith, count) in
+      let i_in : i < length h.turns = omega arith in
+      let at_i : (get_or turned i d).at ≡ (get_or h.turns i none).at = ap (λ (e : FlatEqn). e.at) (get_or-map (eqn_at es) h.turns i none d i_in) ∙ (All-from_recursion (IsTurn es) h.turns are_turns i none i_in).place in
+      let at_j : (get_or turned j d).at ≡ (get_or h.turns j none).at = ap (λ (e : FlatEqn). e.at) (get_or-map (eqn_at es) h.turns j none d j_in) ∙ (All-from_recursion (IsTurn es) h.turns are_turns j none j_in).place in
+      omega (arith, at_i, at_j, h.order i j none le j_in)
+
+  ranked_turned : IsRanked turned
+  ranked_turned =
+      each_moved (λ (e : FlatEqn). AllByRecursion (IsDefinedBelow turned e) (reads e)) es turned same_turned
+      (each_map (λ (e : FlatEqn). AllByRecursion (IsDefinedBelow es e) (reads e)) (λ (e : FlatEqn). AllByRecursion (IsDefinedBelow turned e) (reads e))
+      (λ e r. each_map (IsDefinedBelow es e) (IsDefinedBelow turned e) (λ x q. each_moved (λ (d : FlatEqn). has d.targets x ≡ true → d.at < e.at) es turned same_turned q) (reads e) r) es ranked)
+
+  scheduled : IsScheduled turned
+  scheduled = order_law turned ranked_turned in_order
+
+  noted_is : noted_eqns base turned (replicate base unmet) ≡ table
+  noted_is = sym (turns_noted base es h.turns (replicate base unmet) are_turns) ∙ sym h.noted_are
+
+  targets : AllByRecursion (λ (d : FlatEqn). AreBelow (length (replicate base unmet)) d.targets) turned
+  targets = each_map (λ (d : FlatEqn). AreBelow base d.targets) (λ (d : FlatEqn). AreBelow (length (replicate base unmet)) d.targets)
+      (λ d q. subst (λ n. AreBelow n d.targets) (sym (length-replicate base unmet)) q) turned (each_moved (λ (d : FlatEqn). AreBelow base d.targets) es turned same_turned within)
+
+  pub levels_are : IsLongest (change base) (λ e. (weight_of base table e).level) es
+  levels_are = longest-moved (change base) (λ e. (weight_of base table e).level) turned es (IsPermutation-sym es turned same_turned) (levels_by base turned table noted_is scheduled targets)
+
+  pub heights_are : IsLongest one (λ e. (weight_of base table e).height) es
+  heights_are = longest-moved one (λ e. (weight_of base table e).height) turned es (IsPermutation-sym es turned same_turned) (heights_by base turned table noted_is scheduled targets)
+
+-- ---- weights
+
+module _ (base : ℕ) (table : List Reach) where
+  abbrev weigh : FlatEqn → Weighed
+  weigh e = weighed_by base table e
+
+  abbrev plain : Weighed → FlatEqn
+  plain w = w.eqn
+
+  abbrev level : FlatEqn → ℕ
+  level e = (weight_of base table e).level
+
+  abbrev height : FlatEqn → ℕ
+  height e = (weight_of base table e).height
+
+  back : (es : List FlatEqn) → map plain (map weigh es) ≡ es
+  back [] = refl
+  back (e ∷ es) = ap (λ ds. e ∷ ds) (back es)
+
+  before_same : (d e : FlatEqn) → weighed_before (weigh d) (weigh e) ≡ comes_before base level height d e
+  before_same d e = λ i. is_lt (ordering_then (nat_cmp (level d) (level e)) (ordering_then (nat_cmp (control_of_weight base table d i) (control_of_weight base table e i)) (nat_cmp (height d) (height e))))
+
+  ties_same : (x e : FlatEqn) → ties weighed_before (weigh x) (weigh e) ≡ ties (comes_before base level height) x e
+  ties_same x e = λ i. not (before_same x e i) && not (before_same e x i)
+
+  filtered : (p : Weighed → Bool) (q : FlatEqn → Bool) → ((e : FlatEqn) → p (weigh e) ≡ q e) → (es : List FlatEqn) → filter p (map weigh es) ≡ map weigh (filter q es)
+  filtered p q h [] = refl
+  filtered p q h (e ∷ es) = by (q e) (h e) (filtered p q h es)
+    where
+      by : (b : Bool) → p (weigh e) ≡ b → filter p (map weigh es) ≡ map weigh (filter q es) → cond (p (weigh e)) (weigh e ∷ filter p (map weigh es)) (filter p (map weigh es)) ≡ map weigh (cond b (e ∷ filter q es) (filter q es))
+      by true g r = λ i. cond (g i) (weigh e ∷ r i) (r i)
+      by false g r = λ i. cond (g i) (weigh e ∷ r i) (r i)
+
+  are_weighed : (es : List FlatEqn) → AllByRecursion (λ (w : Weighed). weigh w.eqn ≡ w) (map weigh es)
+  are_weighed [] = tt
+  are_weighed (e ∷ es) = (refl, are_weighed es)
+
+  weighed_again : (ws : List Weighed) → AllByRecursion (λ (w : Weighed). weigh w.eqn ≡ w) ws → map weigh (map plain ws) ≡ ws
+  weighed_again [] h = refl
+  weighed_again (w ∷ ws) h = λ i. h.0 i ∷ weighed_again ws h.1 i
+
+  module _ (es : List FlatEqn) (ordered : List Weighed) (same : IsPermutation (map weigh es) ordered) where
+    abbrev eqns : List FlatEqn
+    eqns = map plain ordered
+
+    again : map weigh eqns ≡ ordered
+    again = weighed_again ordered (moved (λ (w : Weighed). weigh w.eqn ≡ w) (map weigh es) ordered same (are_weighed es))
+
+    pub eqns_same : IsPermutation es eqns
+    eqns_same = subst (λ ds. IsPermutation ds eqns) (back es) (IsPermutation-map plain (map weigh es) ordered same)
+
+    pub eqns_sorted : IsSortedBy weighed_before ordered → IsSortedBy (comes_before base level height) eqns
+    eqns_sorted h k d le lt =
+        let up : IsSortedBy weighed_before (map weigh eqns) = subst (IsSortedBy weighed_before) (sym again) h in
+        let count : length (map weigh eqns) ≡ length eqns = length-map eqns weigh in
+        sym (before_same (get_or eqns (k + 1) d) (get_or eqns k d))
+        ∙ sym (λ i. weighed_before (get_or-mapped weigh eqns (k + 1) d i) (get_or-mapped weigh eqns k d i))
+        ∙ up k (weigh d) le (omega (arith, count))
+
+    pub eqns_stable : IsStableBy weighed_before (map weigh es) ordered → IsStableBy (comes_before base level height) es eqns
+    eqns_stable h x =
+        let t = ties weighed_before (weigh x) in
+        let u = ties (comes_before base level height) x in
+        let there : map weigh (filter u eqns) ≡ map weigh (filter u es) = sym (filtered t u (ties_same x) eqns) ∙ ap (filter t) again ∙ h (weigh x) ∙ filtered t u (ties_same x) es in
+        sym (back (filter u eqns)) ∙ ap (map plain) there ∙ back (filter u es)
+
+module _ (base : ℕ) (es : List FlatEqn) (table : List Reach) (weighed ordered : List Weighed) (scheduled : List FlatEqn) (is : weighed ≡ map (weighed_by base table) es)
+    (same : IsPermutation weighed ordered) (placed : scheduled ≡ numbered 0 (map (λ (w : Weighed). w.eqn) ordered)) where
+  same_weighed : IsPermutation (map (weighed_by base table) es) ordered
+  same_weighed = subst (λ ws. IsPermutation ws ordered) is same
+
+  unplaced_numbered : (k : ℕ) (ds : List FlatEqn) → map unplaced (numbered k ds) ≡ map unplaced ds
+  unplaced_numbered k [] = refl
+  unplaced_numbered k (d ∷ ds) = ap (λ cs. unplaced d ∷ cs) (unplaced_numbered (suc k) ds)
+
+  pub same-eqns : IsPermutation (map unplaced es) (map unplaced scheduled)
+  same-eqns = subst (IsPermutation (map unplaced es)) (sym (ap (map unplaced) placed ∙ unplaced_numbered 0 (map (λ (w : Weighed). w.eqn) ordered)))
+      (IsPermutation-map unplaced es (map (λ (w : Weighed). w.eqn) ordered) (eqns_same base table es ordered same_weighed))
+
+  pub made-by_clock : IsNoted base es table → IsSortedBy weighed_before ordered → IsStableBy weighed_before weighed ordered → IsRanked es → AllByRecursion (λ (d : FlatEqn). AreBelow base d.targets) es → IsByClock base es scheduled
+  made-by_clock noted_so sorted stable ranked within = record {
+    level = λ e. (weight_of base table e).level;
+    height = λ e. (weight_of base table e).height;
+    levels = levels_are base es table noted_so ranked within;
+    heights = heights_are base es table noted_so ranked within;
+    ordered = map (λ (w : Weighed). w.eqn) ordered;
+    same = eqns_same base table es ordered same_weighed;
+    sorted = eqns_sorted base table es ordered same_weighed sorted;
+    stable = eqns_stable base table es ordered same_weighed (subst (λ ws. IsStableBy weighed_before ws ordered) is stable);
+    places = placed;
+  }
+
+-- places in a row rise
+row_rises : (k : ℕ) (es : List FlatEqn) (i : ℕ) (d : FlatEqn) → i < length es → (get_or (numbered k es) i d).at ≡ k + i
+row_rises k [] i d h = absurd (omega arith)
+row_rises k (e ∷ es) zero d h = omega arith
+row_rises k (e ∷ es) (suc i) d h = row_rises (suc k) es i d (omega arith) ∙ (let next : suc k + i ≡ k + suc i = omega arith in next)
+
+row_count : (k : ℕ) (es : List FlatEqn) → length (numbered k es) ≡ length es
+row_count k [] = refl
+row_count k (e ∷ es) = ap suc (row_count (suc k) es)
+
+pub numbered-in_order : (es ds : List FlatEqn) → ds ≡ numbered 0 es → IsInOrder ds
+numbered-in_order es ds h = subst IsInOrder (sym h)
+    (λ i j d le lt.
+    let inside : j < length es = omega (arith, row_count 0 es) in
+    omega (arith, row_rises 0 es i d (omega arith), row_rises 0 es j d inside))

@@ -1,0 +1,8 @@
+-- Sets of lemmas that functions name.
+use Rattle.hp_order.proofs.TableLaws.{raised-append, raised-end, raised-next, each-next, each-end, clock-next, clock-end, noted-past, noted-next, noted-end}
+
+pub ruleset raising = (raised-end, raised-next, each-next, each-end, clock-next, clock-end)
+
+pub ruleset joining = raised-append
+
+pub ruleset noting = (noted-past, noted-next, noted-end)

@@ -1,0 +1,336 @@
+-- There is one order by clock, and in it each equation stands behind those that it reads.
+use Rattle.std.proofs.Common.{◌≡◌, ℕ, zero, suc, ◌+◌, ◌<◌, ◌≤◌, nat_eq, nat_lt, length, drop, get_or, Bool, true, false, not, ◌&&◌, cond, if◌then◌else◌, List, [], ◌∷◌, map, refl, sym, ap, subst, ◌∙◌, arith}
+use Rattle.std.specs.Cmp.{IsStrictWeakOrder}
+use Rattle.std.specs.List.{AllByRecursion, filter}
+use Rattle.std.specs.List.Sorted.{IsPermutation, IsSortedBy, IsStableBy, ties}
+use Rattle.std.specs.Ordering.{is_lt, nat_cmp, ordering_then}
+use Rattle.std.specs.declared.cmp.Ordering.TheVariants.{Less, Equal}
+use Rattle.std.specs.Cmp.{nat_cmp_is}
+use Rattle.std.proofs.lemmas.Bool.{eqb-true, ltb-true, ltb-false}
+use Rattle.std.proofs.lemmas.Cmp.{nat_cmp_total, on_total, then_total}
+use Rattle.std.proofs.lemmas.List.Elements.{recursion_from_All}
+use Rattle.std.proofs.lemmas.List.Sorted.{IsPermutation-sym, ranks_by, sorted_far}
+use Rattle.hp_flat.specs.Equations.{FlatEqn}
+use Rattle.law_equations.specs.Meaning.Reactions.{has}
+use Rattle.law_equations.specs.Meaning.Scheduling.{reads, IsDefinedBelow, IsRanked}
+use Rattle.law_equations.specs.Made.Laws.{unplaced}
+use Rattle.law_equations.proofs.FewerLemmas.Members.{each_map, each_both}
+use Rattle.law_equations.proofs.FewerLemmas.OrderLaws.{each_moved}
+use Rattle.hp_order.specs.ByClock.{control, change, one, IsLongest, comes_before, numbered, IsByClock}
+
+-- ---- longest paths
+
+abbrev Step : (FlatEqn → FlatEqn → ℕ) → (FlatEqn → ℕ) → FlatEqn → ℕ → ℕ → FlatEqn → Type 0
+Step cost path e n x d = has d.targets x ≡ true → path d + cost d e ≤ n
+
+-- in another order equations have the same longest paths
+pub longest-moved : (cost : FlatEqn → FlatEqn → ℕ) (path : FlatEqn → ℕ) (es ds : List FlatEqn) → IsPermutation es ds → IsLongest cost path es → IsLongest cost path ds
+longest-moved cost path es ds p h = record {
+  above = λ e. each_map (λ x. AllByRecursion (Step cost path e (path e) x) es) (λ x. AllByRecursion (Step cost path e (path e) x) ds) (λ x g. each_moved (Step cost path e (path e) x) es ds p g) (reads e) (h.above e);
+  least = λ e n g. h.least e n
+      (each_map (λ x. AllByRecursion (Step cost path e n x) ds) (λ x. AllByRecursion (Step cost path e n x) es) (λ x f. each_moved (Step cost path e n x) ds es (IsPermutation-sym es ds p) f) (reads e) g);
+}
+
+module _ (es : List FlatEqn) (height : FlatEqn → ℕ) (heights : IsLongest one height es) (cost : FlatEqn → FlatEqn → ℕ) where
+  module _ (p q : FlatEqn → ℕ) (n : ℕ) (e : FlatEqn) (shorter : (d : FlatEqn) → height d < n → p d ≤ q d) (h : height e < suc n) where
+    at : (x : ℕ) → AllByRecursion (Step one height e (height e) x) es → AllByRecursion (Step cost q e (q e) x) es → AllByRecursion (Step cost p e (q e) x) es
+    at x a b = each_both (Step one height e (height e) x) (Step cost q e (q e) x) (Step cost p e (q e) x)
+        (λ d s t g. let lower : height d + 1 ≤ height e = s g in let there : q d + cost d e ≤ q e = t g in let less : p d ≤ q d = shorter d (omega arith) in omega arith) es a b
+
+    at_all : (xs : List ℕ) → AllByRecursion (λ x. AllByRecursion (Step one height e (height e) x) es) xs → AllByRecursion (λ x. AllByRecursion (Step cost q e (q e) x) es) xs
+        → AllByRecursion (λ x. AllByRecursion (Step cost p e (q e) x) es) xs
+    at_all [] a b = tt
+    at_all (x ∷ xs) a b = (at x a.0 b.0, at_all xs a.1 b.1)
+
+  no_longer : (p q : FlatEqn → ℕ) → IsLongest cost p es → IsLongest cost q es → (n : ℕ) (e : FlatEqn) → height e < n → p e ≤ q e
+  no_longer p q P Q zero e h = absurd (omega arith)
+  no_longer p q P Q (suc n) e h = P.least e (q e) (at_all p q n e (no_longer p q P Q n) h (reads e) (heights.above e) (Q.above e))
+
+  pub one_longest : (p q : FlatEqn → ℕ) → IsLongest cost p es → IsLongest cost q es → (e : FlatEqn) → p e ≡ q e
+  one_longest p q P Q e = omega (arith, no_longer p q P Q (suc (height e)) e (omega arith), no_longer q p Q P (suc (height e)) e (omega arith))
+
+-- ---- the order
+
+module _ (base : ℕ) (level height : FlatEqn → ℕ) where
+  abbrev before : FlatEqn → FlatEqn → Bool
+  before d e = comes_before base level height d e
+
+  weak : IsStrictWeakOrder before
+  weak = ranks_by (then_total (on_total level nat_cmp_total) (then_total (on_total (control base) nat_cmp_total) (on_total height nat_cmp_total))) (λ (e : FlatEqn). e)
+
+  less : (a b : ℕ) → a < b → nat_cmp a b ≡ Less
+  less a b h = sym (nat_cmp_is a b Less h)
+
+  equal : (a b : ℕ) → a ≡ b → nat_cmp a b ≡ Equal
+  equal a b h = sym (nat_cmp_is a b Equal h)
+
+  by_level : (d e : FlatEqn) → level d < level e → before d e ≡ true
+  by_level d e h = ap (λ o. is_lt (ordering_then o (ordering_then (nat_cmp (control base d) (control base e)) (nat_cmp (height d) (height e))))) (less (level d) (level e) h)
+
+  by_height : (d e : FlatEqn) → level d ≡ level e → control base d ≡ control base e → height d < height e → before d e ≡ true
+  by_height d e l c h = λ i. is_lt (ordering_then (equal (level d) (level e) l i) (ordering_then (equal (control base d) (control base e) c i) (less (height d) (height e) h i)))
+
+  at_least : (d e : FlatEqn) (b : Bool) → nat_lt (level d) (level e) ≡ b → level d ≤ level e → control base d ≡ control base e → height d < height e → before d e ≡ true
+  at_least d e true q l c h = by_level d e (ltb-true (level d) (level e) q)
+  at_least d e false q l c h = let no_less : level e ≤ level d = ltb-false (level d) (level e) q in by_height d e (omega arith) c h
+
+  by_change : (d e : FlatEqn) (b : Bool) → nat_eq (control base d) (control base e) ≡ b → level d + (if b then 0 else 1) ≤ level e → height d + 1 ≤ height e → before d e ≡ true
+  by_change d e true q l h = at_least d e (nat_lt (level d) (level e)) refl (omega arith) (eqb-true (control base d) (control base e) q) (omega arith)
+  by_change d e false q l h = by_level d e (omega arith)
+
+  -- what is read comes before
+  read_before : (d e : FlatEqn) → level d + change base d e ≤ level e → height d + 1 ≤ height e → before d e ≡ true
+  read_before d e l h = by_change d e (nat_eq (control base d) (control base e)) refl l h
+
+-- no element comes before one in front of it
+abbrev Rises : {A : Type 0} → (A → A → Bool) → List A → Type 0
+Rises lt [] = Unit {0}
+Rises lt (x ∷ xs) = AllByRecursion (λ y. lt y x ≡ false) xs × Rises lt xs
+
+module _ {A : Type 0} (lt : A → A → Bool) where
+  abbrev Far : List A → Type 0
+  Far xs = (i j : ℕ) (d : A) → i ≤ j → j < length xs → lt (get_or xs j d) (get_or xs i d) ≡ false
+
+  far_rises : (xs : List A) → Far xs → Rises lt xs
+  far_rises [] h = tt
+  far_rises (x ∷ xs) h = (recursion_from_All (λ y. lt y x ≡ false) xs (λ k d k_lt. h 0 (suc k) d (omega arith) (omega arith)), far_rises xs (λ i j d le j_lt. h (suc i) (suc j) d (omega arith) (omega arith)))
+
+  pub sorted-rises : IsStrictWeakOrder lt → (xs : List A) → IsSortedBy lt xs → Rises lt xs
+  sorted-rises o xs h = far_rises xs (sorted_far lt o xs h)
+
+  -- ---- two stable orders of the same elements are one
+
+  filter_first : (t : A → Bool) (x : A) (xs : List A) → t x ≡ true → filter t (x ∷ xs) ≡ x ∷ filter t xs
+  filter_first t x xs h = ap (λ c. cond c (x ∷ filter t xs) (filter t xs)) h
+
+  filter_skip : (t : A → Bool) (x : A) (xs : List A) → t x ≡ false → filter t (x ∷ xs) ≡ filter t xs
+  filter_skip t x xs h = ap (λ c. cond c (x ∷ filter t xs) (filter t xs)) h
+
+  filter_none : (t : A → Bool) (xs : List A) → AllByRecursion (λ x. t x ≡ false) xs → filter t xs ≡ []
+  filter_none t [] h = refl
+  filter_none t (x ∷ xs) h = filter_skip t x xs h.0 ∙ filter_none t xs h.1
+
+  both_not : (b c : Bool) → b ≡ false → c ≡ false → (not b && not c) ≡ true
+  both_not b c h g = λ i. not (h i) && not (g i)
+
+  untied : (b c : Bool) → b ≡ true → (not b && not c) ≡ false
+  untied b c h = ap (λ d. not d && not c) h
+
+  module _ (o : IsStrictWeakOrder lt) where
+    ties_itself : (x : A) → ties lt x x ≡ true
+    ties_itself x = both_not (lt x x) (lt x x) (own (lt x x) refl) (own (lt x x) refl)
+      where
+        own : (b : Bool) → lt x x ≡ b → lt x x ≡ false
+        own true e = o.one_way x x e
+        own false e = e
+
+    -- what stands behind something greater is greater
+    greater : (x y z : A) (b : Bool) → lt x z ≡ b → lt x y ≡ true → lt z y ≡ false → ties lt x z ≡ false
+    greater x y z true e h g = untied (lt x z) (lt z x) e
+    greater x y z false e h g = let not_less : lt x y ≡ false = o.chain x z y e g in absurd (cc)
+
+    all_greater : (x y : A) → lt x y ≡ true → (zs : List A) → AllByRecursion (λ z. lt z y ≡ false) zs → AllByRecursion (λ z. ties lt x z ≡ false) zs
+    all_greater x y h [] g = tt
+    all_greater x y h (z ∷ zs) g = (greater x y z (lt x z) refl h g.0, all_greater x y h zs g.1)
+
+    none_tied : (x y : A) (ys : List A) → lt x y ≡ true → AllByRecursion (λ z. lt z y ≡ false) ys → filter (ties lt x) (y ∷ ys) ≡ []
+    none_tied x y ys h g = filter_none (ties lt x) (y ∷ ys) (untied (lt x y) (lt y x) h, all_greater x y h ys g)
+
+    not_less : (y z : A) (ys zs : List A) → AllByRecursion (λ x. lt x z ≡ false) zs → filter (ties lt y) (y ∷ ys) ≡ filter (ties lt y) (z ∷ zs) → (b : Bool) → lt y z ≡ b → lt y z ≡ false
+    not_less y z ys zs up same true e =
+        let there : y ∷ filter (ties lt y) ys ≡ [] = sym (filter_first (ties lt y) y ys (ties_itself y)) ∙ same ∙ none_tied y z zs e up in
+        absurd (cc)
+    not_less y z ys zs up same false e = e
+
+    behind : (t : A → Bool) (y z : A) (ys zs : List A) (b : Bool) → y ≡ z → t y ≡ b → filter t (y ∷ ys) ≡ filter t (z ∷ zs) → filter t ys ≡ filter t zs
+    behind t y z ys zs true s e h = ap (λ l. drop 1 l) (sym (filter_first t y ys e) ∙ h ∙ filter_first t z zs (ap t (sym s) ∙ e))
+    behind t y z ys zs false s e h = sym (filter_skip t y ys e) ∙ h ∙ filter_skip t z zs (ap t (sym s) ∙ e)
+
+    abbrev first_of : A → List A → A
+    first_of d [] = d
+    first_of d (x ∷ xs) = x
+
+    pub one_order : (ys zs : List A) → Rises lt ys → Rises lt zs → ((x : A) → filter (ties lt x) ys ≡ filter (ties lt x) zs) → ys ≡ zs
+    one_order [] [] u v h = refl
+    one_order [] (z ∷ zs) u v h = let there : [] ≡ z ∷ filter (ties lt z) zs = h z ∙ filter_first (ties lt z) z zs (ties_itself z) in absurd (cc)
+    one_order (y ∷ ys) [] u v h = let there : y ∷ filter (ties lt y) ys ≡ [] = sym (filter_first (ties lt y) y ys (ties_itself y)) ∙ h y in absurd (cc)
+    one_order (y ∷ ys) (z ∷ zs) u v h =
+        let below : lt y z ≡ false = not_less y z ys zs v.0 (h y) (lt y z) refl in
+        let above : lt z y ≡ false = not_less z y zs ys u.0 (sym (h z)) (lt z y) refl in
+        let fronts : y ∷ filter (ties lt y) ys ≡ z ∷ filter (ties lt y) zs = sym (filter_first (ties lt y) y ys (ties_itself y)) ∙ h y ∙ filter_first (ties lt y) z zs (both_not (lt y z) (lt z y) below above) in
+        let same : y ≡ z = ap (first_of y) fronts in
+        (λ i. same i ∷ one_order ys zs u.1 v.1 (λ x. behind (ties lt x) y z ys zs (ties lt x y) same refl (h x)) i)
+
+-- ---- the order by clock
+
+abbrev Reads : (FlatEqn → FlatEqn → Bool) → FlatEqn → ℕ → FlatEqn → Type 0
+Reads lt e x d = has d.targets x ≡ true → lt d e ≡ true
+
+module _ (lt : FlatEqn → FlatEqn → Bool) where
+  later : (k : ℕ) (es : List FlatEqn) → AllByRecursion (λ (f : FlatEqn). k ≤ f.at) (numbered k es)
+  later k [] = tt
+  later k (e ∷ es) = (omega arith, each_map (λ (f : FlatEqn). suc k ≤ f.at) (λ (f : FlatEqn). k ≤ f.at) (λ f h. omega (arith, h)) (numbered (suc k) es) (later (suc k) es))
+
+  unread : (x k n : ℕ) (e : FlatEqn) (es : List FlatEqn) → AllByRecursion (λ d. lt d e ≡ false) es → AllByRecursion (Reads lt e x) es → AllByRecursion (λ (d : FlatEqn). has d.targets x ≡ true → d.at < k) (numbered n es)
+  unread x k n e [] u h = tt
+  unread x k n e (d ∷ es) u h = ((λ q. let yes : lt d e ≡ true = h.0 q in let no : lt d e ≡ false = u.0 in absurd (cc)), unread x k (suc n) e es u.1 h.1)
+
+  first_ranked : (k : ℕ) (e : FlatEqn) (es : List FlatEqn) → lt e e ≡ false → AllByRecursion (λ d. lt d e ≡ false) es → (xs : List ℕ) → AllByRecursion (λ x. AllByRecursion (Reads lt e x) (e ∷ es)) xs
+      → AllByRecursion (IsDefinedBelow (numbered k (e ∷ es)) (record e { at = k })) xs
+  first_ranked k e es own u [] h = tt
+  first_ranked k e es own u (x ∷ xs) h =
+      (((λ q. let yes : lt e e ≡ true = h.0.0 q in absurd (cc)), unread x k (suc k) e es u h.0.1), first_ranked k e es own u xs h.1)
+
+  ranked_more : (k : ℕ) (e : FlatEqn) (es : List FlatEqn) → IsRanked (numbered (suc k) es)
+      → AllByRecursion (λ (f : FlatEqn). AllByRecursion (IsDefinedBelow (numbered k (e ∷ es)) f) (reads f)) (numbered (suc k) es)
+  ranked_more k e es h =
+      each_both (λ (f : FlatEqn). suc k ≤ f.at) (λ (f : FlatEqn). AllByRecursion (IsDefinedBelow (numbered (suc k) es) f) (reads f)) (λ (f : FlatEqn). AllByRecursion (IsDefinedBelow (numbered k (e ∷ es)) f) (reads f))
+      (λ f le r. each_map (IsDefinedBelow (numbered (suc k) es) f) (IsDefinedBelow (numbered k (e ∷ es)) f) (λ x d. ((λ q. omega (arith, le)), d)) (reads f) r) (numbered (suc k) es) (later (suc k) es) h
+
+  pub rises-ranked : ((e : FlatEqn) → lt e e ≡ false) → (k : ℕ) (es : List FlatEqn) → Rises lt es → AllByRecursion (λ (e : FlatEqn). AllByRecursion (λ x. AllByRecursion (Reads lt e x) es) (reads e)) es → IsRanked (numbered k es)
+  rises-ranked own k [] u h = tt
+  rises-ranked own k (e ∷ es) u h = (
+    first_ranked k e es (own e) u.0 (reads e) h.0,
+    ranked_more k e es (rises-ranked own (suc k) es u.1
+        (each_map (λ (f : FlatEqn). AllByRecursion (λ x. AllByRecursion (Reads lt f x) (e ∷ es)) (reads f)) (λ (f : FlatEqn). AllByRecursion (λ x. AllByRecursion (Reads lt f x) es) (reads f))
+        (λ f g. each_map (λ x. AllByRecursion (Reads lt f x) (e ∷ es)) (λ x. AllByRecursion (Reads lt f x) es) (λ x r. r.1) (reads f) g) es h.1)),
+  )
+
+own_not : (lt : FlatEqn → FlatEqn → Bool) → IsStrictWeakOrder lt → (e : FlatEqn) (b : Bool) → lt e e ≡ b → lt e e ≡ false
+own_not lt o e true q = o.one_way e e q
+own_not lt o e false q = q
+
+module _ (base : ℕ) (es scheduled : List FlatEqn) (h : IsByClock base es scheduled) where
+  all_read : AllByRecursion (λ (e : FlatEqn). AllByRecursion (λ x. AllByRecursion (Reads (before base h.level h.height) e x) h.ordered) (reads e)) h.ordered
+  all_read = each (h.ordered)
+    where
+      levels : IsLongest (change base) h.level h.ordered
+      levels = longest-moved (change base) h.level es h.ordered h.same h.levels
+
+      heights : IsLongest one h.height h.ordered
+      heights = longest-moved one h.height es h.ordered h.same h.heights
+
+      at : (e : FlatEqn) (x : ℕ) → AllByRecursion (Step (change base) h.level e (h.level e) x) h.ordered → AllByRecursion (Step one h.height e (h.height e) x) h.ordered → AllByRecursion (Reads (before base h.level h.height) e x) h.ordered
+      at e x a b = each_both (Step (change base) h.level e (h.level e) x) (Step one h.height e (h.height e) x) (Reads (before base h.level h.height) e x)
+          (λ d p q r. read_before base h.level h.height d e (p r) (q r)) h.ordered a b
+
+      at_all : (e : FlatEqn) (xs : List ℕ) → AllByRecursion (λ x. AllByRecursion (Step (change base) h.level e (h.level e) x) h.ordered) xs
+          → AllByRecursion (λ x. AllByRecursion (Step one h.height e (h.height e) x) h.ordered) xs → AllByRecursion (λ x. AllByRecursion (Reads (before base h.level h.height) e x) h.ordered) xs
+      at_all e [] a b = tt
+      at_all e (x ∷ xs) a b = (at e x a.0 b.0, at_all e xs a.1 b.1)
+
+      each : (ds : List FlatEqn) → AllByRecursion (λ (e : FlatEqn). AllByRecursion (λ x. AllByRecursion (Reads (before base h.level h.height) e x) h.ordered) (reads e)) ds
+      each [] = tt
+      each (e ∷ ds) = (at_all e (reads e) (levels.above e) (heights.above e), each ds)
+
+  -- In the order by clock each equation stands behind those that it reads.
+  pub ranked-by_clock : IsRanked scheduled
+  ranked-by_clock =
+      let lt = before base h.level h.height in
+      subst IsRanked (sym h.places)
+      (rises-ranked (before base h.level h.height) (λ e. own_not (before base h.level h.height) (weak base h.level h.height) e (before base h.level h.height e e) refl) 0 h.ordered
+      (sorted-rises (before base h.level h.height) (weak base h.level h.height) h.ordered h.sorted) all_read)
+
+-- ---- the order does not depend on places
+
+level_free : (base : ℕ) (path : FlatEqn → ℕ) (es : List FlatEqn) → IsLongest (change base) path es → (e : FlatEqn) → path (unplaced e) ≡ path e
+level_free base path es h e = omega (arith, h.least (unplaced e) (path e) (h.above e), h.least e (path (unplaced e)) (h.above (unplaced e)))
+
+height_free : (path : FlatEqn → ℕ) (es : List FlatEqn) → IsLongest one path es → (e : FlatEqn) → path (unplaced e) ≡ path e
+height_free path es h e = omega (arith, h.least (unplaced e) (path e) (h.above e), h.least e (path (unplaced e)) (h.above (unplaced e)))
+
+module _ (cost : FlatEqn → FlatEqn → ℕ) (path : FlatEqn → ℕ) (cost_free : (d e : FlatEqn) → cost (unplaced d) e ≡ cost d e) (path_free : (d : FlatEqn) → path (unplaced d) ≡ path d) where
+  up : (e : FlatEqn) (n x : ℕ) (es : List FlatEqn) → AllByRecursion (Step cost path e n x) es → AllByRecursion (Step cost path e n x) (map unplaced es)
+  up e n x [] h = tt
+  up e n x (d ∷ es) h = ((λ q. omega (arith, h.0 q, cost_free d e, path_free d)), up e n x es h.1)
+
+  down : (e : FlatEqn) (n x : ℕ) (es : List FlatEqn) → AllByRecursion (Step cost path e n x) (map unplaced es) → AllByRecursion (Step cost path e n x) es
+  down e n x [] h = tt
+  down e n x (d ∷ es) h = ((λ q. omega (arith, h.0 q, cost_free d e, path_free d)), down e n x es h.1)
+
+  longest_up : (es : List FlatEqn) → IsLongest cost path es → IsLongest cost path (map unplaced es)
+  longest_up es h = record {
+    above = λ e. each_map (λ x. AllByRecursion (Step cost path e (path e) x) es) (λ x. AllByRecursion (Step cost path e (path e) x) (map unplaced es)) (λ x g. up e (path e) x es g) (reads e) (h.above e);
+    least = λ e n g. h.least e n (each_map (λ x. AllByRecursion (Step cost path e n x) (map unplaced es)) (λ x. AllByRecursion (Step cost path e n x) es) (λ x f. down e n x es f) (reads e) g);
+  }
+
+module _ (lt : FlatEqn → FlatEqn → Bool) (free : (d e : FlatEqn) → lt (unplaced d) (unplaced e) ≡ lt d e) (half : (d e : FlatEqn) → (lt d (unplaced e) ≡ lt d e) × (lt (unplaced d) e ≡ lt d e)) where
+  rises_up : (es : List FlatEqn) → Rises lt es → Rises lt (map unplaced es)
+  rises_up [] h = tt
+  rises_up (e ∷ es) h = (each es h.0, rises_up es h.1)
+    where
+      each : (ds : List FlatEqn) → AllByRecursion (λ d. lt d e ≡ false) ds → AllByRecursion (λ d. lt d (unplaced e) ≡ false) (map unplaced ds)
+      each [] g = tt
+      each (d ∷ ds) g = (free d e ∙ g.0, each ds g.1)
+
+  tie_free : (x e : FlatEqn) → ties lt x (unplaced e) ≡ ties lt x e
+  tie_free x e = λ i. not ((half x e).0 i) && not ((half e x).1 i)
+
+  filter_up : (t : FlatEqn → Bool) → ((e : FlatEqn) → t (unplaced e) ≡ t e) → (es : List FlatEqn) → filter t (map unplaced es) ≡ map unplaced (filter t es)
+  filter_up t h [] = refl
+  filter_up t h (e ∷ es) = by (t e) (h e) (filter_up t h es)
+    where
+      by : (b : Bool) → t (unplaced e) ≡ b → filter t (map unplaced es) ≡ map unplaced (filter t es) → cond (t (unplaced e)) (unplaced e ∷ filter t (map unplaced es)) (filter t (map unplaced es)) ≡ map unplaced (cond b (e ∷ filter t es) (filter t es))
+      by true q r = λ i. cond (q i) (unplaced e ∷ r i) (r i)
+      by false q r = λ i. cond (q i) (unplaced e ∷ r i) (r i)
+
+  stable_up : (es ds : List FlatEqn) → IsStableBy lt es ds → (x : FlatEqn) → filter (ties lt x) (map unplaced ds) ≡ filter (ties lt x) (map unplaced es)
+  stable_up es ds h x = filter_up (ties lt x) (tie_free x) ds ∙ ap (map unplaced) (h x) ∙ sym (filter_up (ties lt x) (tie_free x) es)
+
+numbered_up : (k : ℕ) (es : List FlatEqn) → numbered k (map unplaced es) ≡ numbered k es
+numbered_up k [] = refl
+numbered_up k (e ∷ es) = ap (λ ds. record e { at = k } ∷ ds) (numbered_up (suc k) es)
+
+module _ (base : ℕ) (level height : FlatEqn → ℕ) (f : (e : FlatEqn) → level (unplaced e) ≡ level e) (g : (e : FlatEqn) → height (unplaced e) ≡ height e) where
+  before_free : (d e : FlatEqn) → before base level height (unplaced d) (unplaced e) ≡ before base level height d e
+  before_free d e = λ i. is_lt (ordering_then (nat_cmp (f d i) (f e i)) (ordering_then (nat_cmp (control base d) (control base e)) (nat_cmp (g d i) (g e i))))
+
+  before_half : (d e : FlatEqn) → (before base level height d (unplaced e) ≡ before base level height d e) × (before base level height (unplaced d) e ≡ before base level height d e)
+  before_half d e = (
+    (λ i. is_lt (ordering_then (nat_cmp (level d) (f e i)) (ordering_then (nat_cmp (control base d) (control base e)) (nat_cmp (height d) (g e i))))),
+    (λ i. is_lt (ordering_then (nat_cmp (f d i) (level e)) (ordering_then (nat_cmp (control base d) (control base e)) (nat_cmp (g d i) (height e))))),
+  )
+
+-- an order by clock of equations without places
+record Plainly (base : ℕ) (us scheduled : List FlatEqn) : Type 0 where
+  level : FlatEqn → ℕ
+  height : FlatEqn → ℕ
+  levels : IsLongest (change base) level us
+  heights : IsLongest one height us
+  ordered : List FlatEqn
+  rises : Rises (before base level height) ordered
+  stable : (x : FlatEqn) → filter (ties (before base level height) x) ordered ≡ filter (ties (before base level height) x) us
+  places : scheduled ≡ numbered 0 ordered
+
+plainly : (base : ℕ) (es scheduled : List FlatEqn) → IsByClock base es scheduled → Plainly base (map unplaced es) scheduled
+plainly base es scheduled h =
+    let f : (e : FlatEqn) → h.level (unplaced e) ≡ h.level e = level_free base h.level es h.levels in
+    let g : (e : FlatEqn) → h.height (unplaced e) ≡ h.height e = height_free h.height es h.heights in
+    record {
+      level = h.level;
+      height = h.height;
+      levels = longest_up (change base) h.level (λ d e. refl) f es h.levels;
+      heights = longest_up one h.height (λ d e. refl) g es h.heights;
+      ordered = map unplaced h.ordered;
+      rises = rises_up (before base h.level h.height) (before_free base h.level h.height f g) (before_half base h.level h.height f g) h.ordered
+          (sorted-rises (before base h.level h.height) (weak base h.level h.height) h.ordered h.sorted);
+      stable = stable_up (before base h.level h.height) (before_free base h.level h.height f g) (before_half base h.level h.height f g) es h.ordered h.stable;
+      places = h.places ∙ sym (numbered_up 0 h.ordered);
+    }
+
+one_plain : (base : ℕ) (us s t : List FlatEqn) → Plainly base us s → Plainly base us t → s ≡ t
+one_plain base us s t p q =
+    let l : (e : FlatEqn) → p.level e ≡ q.level e = one_longest us p.height p.heights (change base) p.level q.level p.levels q.levels in
+    let h : (e : FlatEqn) → p.height e ≡ q.height e = one_longest us p.height p.heights one p.height q.height p.heights q.heights in
+    let level : q.level ≡ p.level = λ i e. (sym (l e)) i in
+    let height : q.height ≡ p.height = λ i e. (sym (h e)) i in
+    let rises : Rises (before base p.level p.height) q.ordered =
+    subst (λ (k : FlatEqn → ℕ). Rises (before base p.level k) q.ordered) height (subst (λ (k : FlatEqn → ℕ). Rises (before base k q.height) q.ordered) level q.rises) in
+    let stable : (x : FlatEqn) → filter (ties (before base p.level p.height) x) q.ordered ≡ filter (ties (before base p.level p.height) x) us =
+    λ x. subst (λ (k : FlatEqn → ℕ). filter (ties (before base p.level k) x) q.ordered ≡ filter (ties (before base p.level k) x) us) height
+    (subst (λ (k : FlatEqn → ℕ). filter (ties (before base k q.height) x) q.ordered ≡ filter (ties (before base k q.height) x) us) level (q.stable x)) in
+    p.places ∙ ap (numbered 0) (one_order (before base p.level p.height) (weak base p.level p.height) p.ordered q.ordered p.rises rises (λ x. p.stable x ∙ sym (stable x))) ∙ sym q.places
+
+-- Equations that are the same but for their places have one order by clock.
+pub one_by_clock : (base : ℕ) (es fs s t : List FlatEqn) → map unplaced es ≡ map unplaced fs → IsByClock base es s → IsByClock base fs t → s ≡ t
+one_by_clock base es fs s t e h g = one_plain base (map unplaced fs) s t (subst (λ us. Plainly base us s) e (plainly base es s h)) (plainly base fs t g)

@@ -1,0 +1,44 @@
+-- Equations that have their turn in the order of their places, and with what they are ordered by.
+use Rattle.std.specs.Prelude.{◌≡◌, ℕ, suc, Bool, nat_lt, get_or, length, List, [], ◌∷◌, if◌then◌else◌}
+use Rattle.std.specs.List.Sorted.{IsPermutation, IsNonDecreasingBy}
+use Rattle.std.specs.Ordering.{is_lt, nat_cmp, ordering_then}
+use Rattle.std.proofs.Math.ListN.{replicate}
+use Rattle.hp_flat.specs.Equations.{FlatEqn, called}
+use Rattle.hp_order.specs.declared.order.Turn.{Turn}
+use Rattle.hp_order.specs.declared.order.Weighed.{Weighed}
+use Rattle.hp_order.specs.declared.reach.Reach.{Reach}
+use Rattle.hp_order.specs.Reaching.{unmet, noted, weight_of}
+
+abbrev pub turn_of : ℕ → FlatEqn → Turn
+turn_of k e = record { at = e.at; index = k }
+
+abbrev pub turns_from : ℕ → List FlatEqn → List Turn
+turns_from k [] = []
+turns_from k (e ∷ es) = turn_of k e ∷ turns_from (suc k) es
+
+-- an equation that is never asked for
+abbrev pub blank : FlatEqn
+blank = record { targets = []; clock = []; right = called [] []; restart = []; at = 0 }
+
+abbrev pub eqn_at : List FlatEqn → Turn → FlatEqn
+eqn_at es t = get_or es t.index blank
+
+abbrev pub noted_turn : ℕ → List FlatEqn → Turn → List Reach → List Reach
+noted_turn base es t table = if nat_lt t.index (length es) then noted base (eqn_at es t) table else table
+
+abbrev pub noted_turns : ℕ → List FlatEqn → List Turn → List Reach → List Reach
+noted_turns base es [] table = table
+noted_turns base es (t ∷ ts) table = noted_turns base es ts (noted_turn base es t table)
+
+abbrev pub weighed_by : ℕ → List Reach → FlatEqn → Weighed
+weighed_by base table e = record { eqn = e; weight = weight_of base table e }
+
+abbrev pub weighed_before : Weighed → Weighed → Bool
+weighed_before v w = is_lt (ordering_then (nat_cmp v.weight.level w.weight.level) (ordering_then (nat_cmp v.weight.control w.weight.control) (nat_cmp v.weight.height w.weight.height)))
+
+-- a table of all equations, noted in the order of their places
+pub record IsNoted (base : ℕ) (es : List FlatEqn) (table : List Reach) : Type 0 where
+  pub turns : List Turn
+  pub all : IsPermutation (turns_from 0 es) turns
+  pub order : IsNonDecreasingBy (λ (t : Turn). t.at) turns
+  pub noted_are : table ≡ noted_turns base es turns (replicate base unmet)

@@ -1,0 +1,221 @@
+//! How far equations reach: the longest paths of reads to them.
+ghost use Rattle.std.specs.Prelude.{◌≡◌, ◌<◌, get_or, length, IfOk, OnOk};
+ghost use Rattle.std.specs.List.{flat_map};
+ghost use Rattle.std.proofs.Math.ListN.{replicate};
+ghost use Rattle.hp_flat.specs.EquationView.{right_seen};
+ghost use Rattle.law_equations.specs.Meaning.Fitting.{atom_variables};
+ghost use Rattle.law_equations.specs.Meaning.Scheduling.{clock_variables, right_reads, reads};
+ghost use Rattle.hp_order.specs.ByClock.{control};
+ghost use Rattle.hp_order.specs.Reaching.{seen_from, met, unmet, raised, raised_all, weight_of, noted_one, noted_all, noted};
+
+use hp_flat::{Atom, FlatEqn, FlatRight};
+use std::alloc::AllocError;
+
+/// By what an equation is ordered.
+#[derive(Clone, Copy)]
+pub struct Weight {
+    /// How often controls change on a path of reads to it.
+    pub level: usize,
+    /// The outermost variable of its clock, or a number for the base clock.
+    pub control: usize,
+    /// How many equations stand before it on a path of reads.
+    pub height: usize,
+}
+
+/// How far the equations reach that define a variable.
+#[derive(Clone, Copy)]
+pub struct Reach {
+    /// The level that a reader has at least.
+    pub outside: usize,
+    /// The control whose readers may have one level less.
+    pub control: usize,
+    pub is_lower: bool,
+    /// The height that a reader has at least.
+    pub height: usize,
+}
+
+impl Reach {
+    /// Of a variable that no equation defines.
+    pub fn unmet() -> Reach
+        ensures { result ≡ unmet }
+    {
+        Reach {
+            outside: 0,
+            control: 0,
+            is_lower: false,
+            height: 0,
+        }
+    }
+
+    /// The level that a reader with this control has at least.
+    fn seen_from(self, control: usize) -> usize
+        ensures { result ≡ seen_from control self }
+    {
+        if self.is_lower && self.control == control {
+            self.outside.saturating_sub(1)
+        } else {
+            self.outside
+        }
+    }
+
+    /// With one equation more that defines the variable.
+    fn met(self, weight: Weight) -> Result<Reach, AllocError>
+        ensures { IfOk result (λ reach. reach ≡ met weight self) }
+    {
+        let (Some(next_level), Some(next_height)) = (
+            weight.level.checked_add(1),
+            weight.height.checked_add(1),
+        ) else {
+            return Err(AllocError);
+        };
+        let height = self.height.max(next_height);
+        if weight.level < self.outside {
+            let is_same = self.control == weight.control || next_level != self.outside;
+            Ok(Reach {
+                outside: self.outside,
+                control: self.control,
+                is_lower: self.is_lower && is_same,
+                height,
+            })
+        } else {
+            Ok(Reach {
+                outside: next_level,
+                control: weight.control,
+                is_lower: true,
+                height,
+            })
+        }
+    }
+}
+
+/// What is noted of a variable.
+fn reach_of(table: &[Reach], variable: usize) -> Reach
+    ensures { result ≡ get_or table.now variable unmet }
+{
+    if variable < table.len() {
+        table[variable]
+    } else {
+        Reach::unmet()
+    }
+}
+
+#[tactic(auto, using(crate::proofs::Rules::raising))]
+fn raise(table: &[Reach], variable: usize, weight: &mut Weight)
+    ensures { weight.new ≡ raised table.now variable weight.old }
+{
+    let reach = reach_of(table, variable);
+    let level = weight.level.max(reach.seen_from(weight.control));
+    let height = weight.height.max(reach.height);
+    *weight = Weight {
+        level,
+        control: weight.control,
+        height,
+    };
+}
+
+#[tactic(auto, using(crate::proofs::Rules::raising))]
+fn raise_all(table: &[Reach], variables: &[usize], weight: &mut Weight)
+    ensures { weight.new ≡ raised_all table.now variables.now weight.old }
+{
+    for variable in variables {
+        raise(table, *variable, weight);
+    }
+}
+
+#[tactic(auto, using(crate::proofs::Rules::raising))]
+fn raise_clock(table: &[Reach], clock: &[(usize, u8)], weight: &mut Weight)
+    ensures { weight.new ≡ raised_all table.now (clock_variables clock.now) weight.old }
+{
+    for (variable, _constructor) in clock {
+        raise(table, *variable, weight);
+    }
+}
+
+fn raise_atom(table: &[Reach], atom: Atom, weight: &mut Weight)
+    ensures { weight.new ≡ raised_all table.now (atom_variables atom) weight.old }
+{
+    if let Atom::Variable(variable) = atom {
+        raise(table, variable, weight);
+    }
+}
+
+#[tactic(auto, using(crate::proofs::Rules::raising))]
+fn raise_atoms(table: &[Reach], atoms: &[Atom], weight: &mut Weight)
+    ensures { weight.new ≡ raised_all table.now (flat_map atom_variables atoms.now) weight.old }
+{
+    for atom in atoms {
+        raise_atom(table, *atom, weight);
+    }
+}
+
+/// What the right side reads. A register reads nothing at this instant.
+fn raise_right(table: &[Reach], right: &FlatRight, weight: &mut Weight)
+    ensures { weight.new ≡ raised_all table.now (right_reads (right_seen right.now)) weight.old }
+{
+    match right {
+        FlatRight::Op(_, args) => raise_atoms(table, args, weight),
+        FlatRight::Register { first: _, next: _ } => {}
+        FlatRight::Call { node: _, args } => raise_atoms(table, args, weight),
+    }
+}
+
+/// The outermost variable of the clock, or the base.
+fn control_of(base: usize, eqn: &FlatEqn) -> usize
+    ensures { result ≡ control base eqn.now }
+{
+    match eqn.clock.first() {
+        None => base,
+        Some((variable, _constructor)) => *variable,
+    }
+}
+
+#[tactic(auto, using(crate::proofs::Rules::joining))]
+fn raise_reads(table: &[Reach], eqn: &FlatEqn, weight: &mut Weight)
+    ensures { weight.new ≡ raised_all table.now (reads eqn.now) weight.old }
+{
+    raise_clock(table, &eqn.clock, weight);
+    raise_all(table, &eqn.restart, weight);
+    raise_right(table, &eqn.right, weight);
+}
+
+/// The weight of an equation, where those are noted that it reads.
+pub fn weight_of(base: usize, table: &[Reach], eqn: &FlatEqn) -> Weight
+    ensures { result ≡ weight_of base table.now eqn.now }
+{
+    let mut weight = Weight {
+        level: 0,
+        control: control_of(base, eqn),
+        height: 0,
+    };
+    raise_reads(table, eqn, &mut weight);
+    weight
+}
+
+#[tactic(auto, using(crate::proofs::Rules::noting))]
+fn note_one(table: &mut [Reach], weight: Weight, variable: usize) -> Result<(), AllocError>
+    ensures { OnOk result (table.new ≡ noted_one weight variable table.old) }
+{
+    if variable < table.len() {
+        let reach = table[variable].met(weight)?;
+        table[variable] = reach;
+    }
+    Ok(())
+}
+
+#[tactic(auto, using(crate::proofs::Rules::noting))]
+fn note_all(table: &mut [Reach], weight: Weight, variables: &[usize]) -> Result<(), AllocError>
+    ensures { OnOk result (table.new ≡ noted_all weight variables.now table.old) }
+{
+    for variable in variables {
+        note_one(table, weight, *variable)?;
+    }
+    Ok(())
+}
+
+/// Notes what the equation defines.
+pub fn note(base: usize, table: &mut [Reach], eqn: &FlatEqn) -> Result<(), AllocError>
+    ensures { OnOk result (table.new ≡ noted base eqn.now table.old) }
+{
+    let weight = weight_of(base, table, eqn);
+    note_all(table, weight, &eqn.targets)
+}
