@@ -1,28 +1,31 @@
 -- What the code makes is the order by clock.
-use Rattle.std.proofs.Common.{◌≡◌, ℕ, zero, suc, ◌+◌, ◌-◌, ◌<◌, ◌≤◌, get_or, length, Bool, true, false, not, ◌&&◌, cond, if◌then◌else◌, List, [], ◌∷◌, ◌++◌, map, refl, sym, ap, subst, ◌∙◌, arith}
+use Rattle.std.proofs.Common.{◌≡◌, ℕ, zero, suc, ◌+◌, ◌-◌, ◌<◌, ◌≤◌, nat_lt, get_or, length, Bool, true, false, not, ◌&&◌, cond, if◌then◌else◌, List, [], ◌∷◌, ◌++◌, map, refl, sym, ap, subst, ◌∙◌, arith}
 use Rattle.std.specs.List.{AllByRecursion, filter}
 use Rattle.std.specs.List.Sorted.{IsPermutation, IsSortedBy, IsStableBy, ties}
 use Rattle.std.specs.Ordering.{is_lt, nat_cmp, ordering_then}
-use Rattle.std.proofs.lemmas.Bool.{lt-ltb}
+use Rattle.std.specs.Cmp.{nat_cmp_is, IsStrictWeakOrder}
+use Rattle.std.specs.declared.cmp.Ordering.TheVariants.{Less}
+use Rattle.std.proofs.lemmas.Bool.{lt-ltb, ltb-false, ltb-true}
+use Rattle.std.proofs.lemmas.Cmp.{back_total, nat_cmp_total}
 use Rattle.std.proofs.lemmas.List.{append_assoc, get_or-map, length-append, length-map, length-replicate}
 use Rattle.std.proofs.lemmas.List.Elements.{All-from_recursion, recursion_from_All}
-use Rattle.std.proofs.lemmas.List.Sorted.{All-permutation, IsPermutation-map, IsPermutation-sym}
+use Rattle.std.proofs.lemmas.List.Sorted.{All-permutation, IsPermutation-map, IsPermutation-sym, ranks_by}
 use Rattle.std.proofs.Math.ListN.{get_or-map as get_or-mapped, replicate}
 use Rattle.hp_flat.specs.Equations.{FlatEqn}
 use Rattle.hp_schedule.specs.Order.{IsInOrder}
 use Rattle.law_equations.specs.Meaning.Reactions.{has}
-use Rattle.law_equations.specs.Meaning.Scheduling.{AreBelow, reads, IsDefinedBelow, IsRanked, IsScheduled}
+use Rattle.law_equations.specs.Meaning.Scheduling.{AreBelow, reads, IsDefinedBelow, IsRanked}
 use Rattle.law_equations.specs.Made.Laws.{unplaced}
 use Rattle.law_equations.proofs.FewerLemmas.Members.{each_map}
-use Rattle.law_equations.proofs.FewerLemmas.OrderLaws.{order_law, each_moved}
+use Rattle.law_equations.proofs.FewerLemmas.OrderLaws.{each_moved}
 use Rattle.hp_order.specs.declared.order.Turn.{Turn}
 use Rattle.hp_order.specs.declared.order.Weighed.{Weighed}
 use Rattle.hp_order.specs.declared.reach.Reach.{Reach}
 use Rattle.hp_order.specs.ByClock.{change, one, IsLongest, comes_before, numbered, IsByClock}
 use Rattle.hp_order.specs.Reaching.{unmet, weight_of, noted, noted_eqns}
-use Rattle.hp_order.specs.Turning.{IsNoted, turns_from, blank, eqn_at, noted_turns, weighed_by, weighed_before}
-use Rattle.hp_order.proofs.PathLaws.{control_of_weight, levels_by, heights_by}
-use Rattle.hp_order.proofs.UniqueLaws.{longest-moved}
+use Rattle.hp_order.specs.Turning.{IsNoted, turns_from, blank, eqn_at, noted_turns, turns_before, weighed_by, weighed_before}
+use Rattle.hp_order.proofs.PathLaws.{awaited, control_of_weight, heights_by, levels_by, Falls, IsAwaited}
+use Rattle.hp_order.proofs.UniqueLaws.{longest-moved, sorted-rises, Rises}
 
 moved : {A : Type 0} (P : A → Type 0) (xs ys : List A) → IsPermutation xs ys → AllByRecursion P xs → AllByRecursion P ys
 moved P xs ys p h = recursion_from_All P ys (All-permutation P xs ys p (All-from_recursion P xs h))
@@ -73,7 +76,27 @@ turns_noted base es [] table h = refl
 turns_noted base es (t ∷ ts) table h =
     ap (λ b. noted_turns base es ts (if b then noted base (eqn_at es t) table else table)) (lt-ltb t.index (length es) (h.0).inside) ∙ turns_noted base es ts (noted base (eqn_at es t) table) h.1
 
-module _ (base : ℕ) (es : List FlatEqn) (table : List Reach) (h : IsNoted base es table) (ranked : IsRanked es) (within : AllByRecursion (λ (d : FlatEqn). AreBelow base d.targets) es) where
+-- ---- turns from the greatest place to the least
+
+turns_weak : IsStrictWeakOrder turns_before
+turns_weak = ranks_by (back_total nat_cmp_total) (λ (t : Turn). t.at)
+
+not_greater : (m n : ℕ) (b : Bool) → nat_lt m n ≡ b → is_lt (nat_cmp m n) ≡ false → n ≤ m
+not_greater m n true e h = let yes : nat_cmp m n ≡ Less = sym (nat_cmp_is m n Less (ltb-true m n e)) in let no : is_lt (nat_cmp m n) ≡ true = ap is_lt yes in absurd (cc)
+not_greater m n false e h = ltb-false m n e
+
+module _ (es : List FlatEqn) where
+  lower : (t : Turn) → IsTurn es t → (ts : List Turn) → AllByRecursion (IsTurn es) ts → AllByRecursion (λ s. turns_before s t ≡ false) ts → AllByRecursion (λ (d : FlatEqn). d.at ≤ (eqn_at es t).at) (map (eqn_at es) ts)
+  lower t is [] h u = tt
+  lower t is (s ∷ ts) h u =
+      let low : s.at ≤ t.at = not_greater t.at s.at (nat_lt t.at s.at) refl u.0 in
+      (omega (arith, is.place, (h.0).place), lower t is ts h.1 u.1)
+
+  turns_fall : (ts : List Turn) → AllByRecursion (IsTurn es) ts → Rises turns_before ts → Falls (map (eqn_at es) ts)
+  turns_fall [] h u = tt
+  turns_fall (t ∷ ts) h u = (lower t h.0 ts h.1 u.0, turns_fall ts h.1 u.1)
+
+module _ (base : ℕ) (es : List FlatEqn) (table : List Reach) (h : IsNoted base es table) (ranked : IsRanked es) (within : AllByRecursion (λ (d : FlatEqn). AreBelow base (reads d)) es) where
   abbrev turned : List FlatEqn
   turned = map (eqn_at es) h.turns
 
@@ -84,37 +107,27 @@ module _ (base : ℕ) (es : List FlatEqn) (table : List Reach) (h : IsNoted base
   same_turned : IsPermutation es turned
   same_turned = subst (λ ds. IsPermutation ds turned) (eqns_back es [] 0 refl) (IsPermutation-map (eqn_at es) (turns_from 0 es) h.turns h.all)
 
-  in_order : IsInOrder turned
-  in_order i j d le lt =
-      let none : Turn = record { at = 0; index = 0 } in
-      let count : length turned ≡ length h.turns = length-map h.turns (eqn_at es) in
-      let j_in : j < length h.turns = omega (arith, count) in
-      let i_in : i < length h.turns = omega arith in
-      let at_i : (get_or turned i d).at ≡ (get_or h.turns i none).at = ap (λ (e : FlatEqn). e.at) (get_or-map (eqn_at es) h.turns i none d i_in) ∙ (All-from_recursion (IsTurn es) h.turns are_turns i none i_in).place in
-      let at_j : (get_or turned j d).at ≡ (get_or h.turns j none).at = ap (λ (e : FlatEqn). e.at) (get_or-map (eqn_at es) h.turns j none d j_in) ∙ (All-from_recursion (IsTurn es) h.turns are_turns j none j_in).place in
-      omega (arith, at_i, at_j, h.order i j none le j_in)
-
   ranked_turned : IsRanked turned
   ranked_turned =
       each_moved (λ (e : FlatEqn). AllByRecursion (IsDefinedBelow turned e) (reads e)) es turned same_turned
       (each_map (λ (e : FlatEqn). AllByRecursion (IsDefinedBelow es e) (reads e)) (λ (e : FlatEqn). AllByRecursion (IsDefinedBelow turned e) (reads e))
       (λ e r. each_map (IsDefinedBelow es e) (IsDefinedBelow turned e) (λ x q. each_moved (λ (d : FlatEqn). has d.targets x ≡ true → d.at < e.at) es turned same_turned q) (reads e) r) es ranked)
 
-  scheduled : IsScheduled turned
-  scheduled = order_law turned ranked_turned in_order
+  in_turn : IsAwaited turned
+  in_turn = awaited turned ranked_turned (turns_fall es h.turns are_turns (sorted-rises turns_before turns_weak h.turns h.order))
 
   noted_is : noted_eqns base turned (replicate base unmet) ≡ table
   noted_is = sym (turns_noted base es h.turns (replicate base unmet) are_turns) ∙ sym h.noted_are
 
-  targets : AllByRecursion (λ (d : FlatEqn). AreBelow (length (replicate base unmet)) d.targets) turned
-  targets = each_map (λ (d : FlatEqn). AreBelow base d.targets) (λ (d : FlatEqn). AreBelow (length (replicate base unmet)) d.targets)
-      (λ d q. subst (λ n. AreBelow n d.targets) (sym (length-replicate base unmet)) q) turned (each_moved (λ (d : FlatEqn). AreBelow base d.targets) es turned same_turned within)
+  read_within : AllByRecursion (λ (d : FlatEqn). AreBelow (length (replicate base unmet)) (reads d)) turned
+  read_within = each_map (λ (d : FlatEqn). AreBelow base (reads d)) (λ (d : FlatEqn). AreBelow (length (replicate base unmet)) (reads d))
+      (λ d q. subst (λ n. AreBelow n (reads d)) (sym (length-replicate base unmet)) q) turned (each_moved (λ (d : FlatEqn). AreBelow base (reads d)) es turned same_turned within)
 
   pub levels_are : IsLongest (change base) (λ e. (weight_of base table e).level) es
-  levels_are = longest-moved (change base) (λ e. (weight_of base table e).level) turned es (IsPermutation-sym es turned same_turned) (levels_by base turned table noted_is scheduled targets)
+  levels_are = longest-moved (change base) (λ e. (weight_of base table e).level) turned es (IsPermutation-sym es turned same_turned) (levels_by base turned table noted_is in_turn read_within)
 
   pub heights_are : IsLongest one (λ e. (weight_of base table e).height) es
-  heights_are = longest-moved one (λ e. (weight_of base table e).height) turned es (IsPermutation-sym es turned same_turned) (heights_by base turned table noted_is scheduled targets)
+  heights_are = longest-moved one (λ e. (weight_of base table e).height) turned es (IsPermutation-sym es turned same_turned) (heights_by base turned table noted_is in_turn read_within)
 
 -- ---- weights
 
@@ -136,7 +149,7 @@ module _ (base : ℕ) (table : List Reach) where
   back (e ∷ es) = ap (λ ds. e ∷ ds) (back es)
 
   before_same : (d e : FlatEqn) → weighed_before (weigh d) (weigh e) ≡ comes_before base level height d e
-  before_same d e = λ i. is_lt (ordering_then (nat_cmp (level d) (level e)) (ordering_then (nat_cmp (control_of_weight base table d i) (control_of_weight base table e i)) (nat_cmp (height d) (height e))))
+  before_same d e = λ i. is_lt (ordering_then (nat_cmp (level e) (level d)) (ordering_then (nat_cmp (control_of_weight base table d i) (control_of_weight base table e i)) (nat_cmp (height e) (height d))))
 
   ties_same : (x e : FlatEqn) → ties weighed_before (weigh x) (weigh e) ≡ ties (comes_before base level height) x e
   ties_same x e = λ i. not (before_same x e i) && not (before_same e x i)
@@ -195,7 +208,7 @@ module _ (base : ℕ) (es : List FlatEqn) (table : List Reach) (weighed ordered 
   same-eqns = subst (IsPermutation (map unplaced es)) (sym (ap (map unplaced) placed ∙ unplaced_numbered 0 (map (λ (w : Weighed). w.eqn) ordered)))
       (IsPermutation-map unplaced es (map (λ (w : Weighed). w.eqn) ordered) (eqns_same base table es ordered same_weighed))
 
-  pub made-by_clock : IsNoted base es table → IsSortedBy weighed_before ordered → IsStableBy weighed_before weighed ordered → IsRanked es → AllByRecursion (λ (d : FlatEqn). AreBelow base d.targets) es → IsByClock base es scheduled
+  pub made-by_clock : IsNoted base es table → IsSortedBy weighed_before ordered → IsStableBy weighed_before weighed ordered → IsRanked es → AllByRecursion (λ (d : FlatEqn). AreBelow base (reads d)) es → IsByClock base es scheduled
   made-by_clock noted_so sorted stable ranked within = record {
     level = λ e. (weight_of base table e).level;
     height = λ e. (weight_of base table e).height;

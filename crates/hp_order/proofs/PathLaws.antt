@@ -1,4 +1,4 @@
--- What is noted of all equations tells the longest path to each.
+-- What is noted of all equations tells the longest path of readers from each.
 use Rattle.std.proofs.Common.{◌≡◌, ◌≢◌, ℕ, zero, suc, ◌+◌, ◌-◌, ◌<◌, ◌≤◌, max, nat_eq, nat_lt, length, Bool, true, false, ◌&&◌, ◌||◌, not, if◌then◌else◌, List, [], ◌∷◌, refl, sym, ap, subst, ◌∙◌, arith}
 use Rattle.std.specs.List.{AllByRecursion}
 use Rattle.std.proofs.Math.ListN.{replicate}
@@ -6,8 +6,8 @@ use Rattle.std.proofs.lemmas.Bool.{eqb-true, eq-eqb, ltb-true, ltb-false}
 use Rattle.std.proofs.lemmas.List.{length-set, get_or-set_same, get_or-set_other}
 use Rattle.hp_flat.specs.Equations.{FlatEqn}
 use Rattle.law_equations.specs.Meaning.Reactions.{has}
-use Rattle.law_equations.specs.Meaning.Scheduling.{reads, AreBelow, IsUndefined, IsScheduled}
-use Rattle.law_equations.proofs.FewerLemmas.Members.{each_map}
+use Rattle.law_equations.specs.Meaning.Scheduling.{reads, AreBelow, IsDefinedBelow, IsRanked}
+use Rattle.law_equations.proofs.FewerLemmas.Members.{each_at, each_both, each_counted, each_map, count-has, has-count}
 use Rattle.hp_order.specs.declared.reach.Reach.{Reach}
 use Rattle.hp_order.specs.declared.reach.Weight.{Weight}
 use Rattle.hp_order.specs.ByClock.{control, change, one, IsLongest}
@@ -15,6 +15,49 @@ use Rattle.hp_order.specs.Reaching.{seen_from, met, unmet, reach_of, raised, rai
 
 abbrev step : Bool → ℕ
 step same = if same then 0 else 1
+
+-- ---- equations behind their readers
+
+-- a variable is read by none of some equations
+abbrev pub IsUnread : List FlatEqn → ℕ → Type 0
+IsUnread es x = AllByRecursion (λ (e : FlatEqn). has (reads e) x ≡ false) es
+
+-- What an equation defines is read neither by itself nor by a later one.
+abbrev pub IsAwaited : List FlatEqn → Type 0
+IsAwaited [] = Unit {0}
+IsAwaited (e ∷ es) = AllByRecursion (IsUnread (e ∷ es)) e.targets × IsAwaited es
+
+-- no place is greater than one in front of it
+abbrev pub Falls : List FlatEqn → Type 0
+Falls [] = Unit {0}
+Falls (e ∷ es) = AllByRecursion (λ (d : FlatEqn). d.at ≤ e.at) es × Falls es
+
+pub all_own : (xs : List ℕ) → AllByRecursion (λ x. has xs x ≡ true) xs
+all_own xs = each_counted (λ x. has xs x ≡ true) xs (λ x n. count-has xs x n)
+
+module _ (e : FlatEqn) (es : List FlatEqn) (x : ℕ) (own : has e.targets x ≡ true) where
+  unread_by : (d : FlatEqn) → d.at ≤ e.at → AllByRecursion (IsDefinedBelow (e ∷ es) d) (reads d) → (b : Bool) → has (reads d) x ≡ b → has (reads d) x ≡ false
+  unread_by d low ranked true h =
+      let there : AllByRecursion (λ (f : FlatEqn). has f.targets x ≡ true → f.at < d.at) (e ∷ es) = each_at (IsDefinedBelow (e ∷ es) d) (reads d) x ranked (has-count (reads d) x h) in
+      let less : e.at < d.at = there.0 own in
+      absurd (omega arith)
+  unread_by d low ranked false h = h
+
+  unread_in : (ds : List FlatEqn) → AllByRecursion (λ (d : FlatEqn). d.at ≤ e.at) ds → AllByRecursion (λ (d : FlatEqn). AllByRecursion (IsDefinedBelow (e ∷ es) d) (reads d)) ds → IsUnread ds x
+  unread_in ds low ranked = each_both (λ (d : FlatEqn). d.at ≤ e.at) (λ (d : FlatEqn). AllByRecursion (IsDefinedBelow (e ∷ es) d) (reads d)) (λ (d : FlatEqn). has (reads d) x ≡ false)
+      (λ d l r. unread_by d l r (has (reads d) x) refl) ds low ranked
+
+rest_ranked : (e : FlatEqn) (es : List FlatEqn) → IsRanked (e ∷ es) → IsRanked es
+rest_ranked e es h =
+    each_map (λ (d : FlatEqn). AllByRecursion (IsDefinedBelow (e ∷ es) d) (reads d)) (λ (d : FlatEqn). AllByRecursion (IsDefinedBelow es d) (reads d))
+    (λ d r. each_map (IsDefinedBelow (e ∷ es) d) (IsDefinedBelow es d) (λ y q. q.1) (reads d) r) es h.1
+
+pub awaited : (es : List FlatEqn) → IsRanked es → Falls es → IsAwaited es
+awaited [] r f = tt
+awaited (e ∷ es) r f = (
+  each_map (λ x. has e.targets x ≡ true) (IsUnread (e ∷ es)) (λ x own. unread_in e es x own (e ∷ es) (omega arith, f.0) r) e.targets (all_own e.targets),
+  awaited es (rest_ranked e es r) f.1,
+)
 
 -- ---- one equation more
 
@@ -130,9 +173,9 @@ unnoted w (y ∷ xs) table x h =
     unnoted w xs (noted_one w y table) x (or_second (nat_eq y x) (has xs x) h)
     ∙ get_or-set_other table y x (met w (reach_of table y)) unmet (not_turned y x (or_first (nat_eq y x) (has xs x) h))
 
-unnoted_eqns : (base : ℕ) (es : List FlatEqn) (table : List Reach) (x : ℕ) → IsUndefined es x → reach_of (noted_eqns base es table) x ≡ reach_of table x
+unnoted_eqns : (base : ℕ) (es : List FlatEqn) (table : List Reach) (x : ℕ) → IsUnread es x → reach_of (noted_eqns base es table) x ≡ reach_of table x
 unnoted_eqns base [] table x h = refl
-unnoted_eqns base (e ∷ es) table x h = unnoted_eqns base es (noted base e table) x h.1 ∙ unnoted (weight_of base table e) e.targets table x h.0
+unnoted_eqns base (e ∷ es) table x h = unnoted_eqns base es (noted base e table) x h.1 ∙ unnoted (weight_of base table e) (reads e) table x h.0
 
 length_noted : (w : Weight) (xs : List ℕ) (table : List Reach) → length (noted_all w xs table) ≡ length table
 length_noted w [] table = refl
@@ -191,35 +234,35 @@ module _ (value : Reach → ℕ) (gain : Weight → ℕ) (law : (w : Weight) (r 
 
   module _ (base : ℕ) (final : List Reach) where
     -- the weight of an equation is that by all that is noted in the end
-    at_end : (e : FlatEqn) (es : List FlatEqn) (table : List Reach) → noted_eqns base (e ∷ es) table ≡ final → AllByRecursion (IsUndefined (e ∷ es)) (reads e) → weight_of base table e ≡ weight_of base final e
+    at_end : (e : FlatEqn) (es : List FlatEqn) (table : List Reach) → noted_eqns base (e ∷ es) table ≡ final → AllByRecursion (IsUnread (e ∷ es)) e.targets → weight_of base table e ≡ weight_of base final e
     at_end e es table is h =
-        same_raised table final (reads e) (record { level = 0; control = control base e; height = 0 })
-        (each_map (IsUndefined (e ∷ es)) (λ y. reach_of table y ≡ reach_of final y) (λ y u. sym (unnoted_eqns base (e ∷ es) table y u) ∙ ap (λ t. reach_of t y) is) (reads e) h)
+        same_raised table final e.targets (record { level = 0; control = control base e; height = 0 })
+        (each_map (IsUnread (e ∷ es)) (λ y. reach_of table y ≡ reach_of final y) (λ y u. sym (unnoted_eqns base (e ∷ es) table y u) ∙ ap (λ t. reach_of t y) is) e.targets h)
 
     abbrev Gives : FlatEqn → Type 0
-    Gives d = has d.targets x ≡ true → gain (weight_of base final d) ≤ n
+    Gives d = has (reads d) x ≡ true → gain (weight_of base final d) ≤ n
 
-    eqns_down : (es : List FlatEqn) (table : List Reach) → noted_eqns base es table ≡ final → IsScheduled es → AllByRecursion (λ (d : FlatEqn). AreBelow (length table) d.targets) es
+    eqns_down : (es : List FlatEqn) (table : List Reach) → noted_eqns base es table ≡ final → IsAwaited es → AllByRecursion (λ (d : FlatEqn). AreBelow (length table) (reads d)) es
         → value (reach_of final x) ≤ n → (value (reach_of table x) ≤ n) × AllByRecursion Gives es
     eqns_down [] table is s b h = (subst (λ t. value (reach_of t x) ≤ n) (sym is) h, tt)
     eqns_down (e ∷ es) table is s b h =
         let w = weight_of base table e in
         let rest = eqns_down es (noted base e table) is s.1
-        (each_map (λ (d : FlatEqn). AreBelow (length table) d.targets) (λ (d : FlatEqn). AreBelow (length (noted base e table)) d.targets) (λ d q. below_same (length table) (length (noted base e table)) d.targets (length_noted w e.targets table) q) es b.1) h in
-        let first = all_down w e.targets table b.0 rest.0 in
+        (each_map (λ (d : FlatEqn). AreBelow (length table) (reads d)) (λ (d : FlatEqn). AreBelow (length (noted base e table)) (reads d)) (λ d q. below_same (length table) (length (noted base e table)) (reads d) (length_noted w (reads e) table) q) es b.1) h in
+        let first = all_down w (reads e) table b.0 rest.0 in
         (first.0, (λ q. subst (λ v. gain v ≤ n) (at_end e es table is s.0) (first.1 q), rest.1))
 
-    eqns_up : (es : List FlatEqn) (table : List Reach) → noted_eqns base es table ≡ final → IsScheduled es → AllByRecursion (λ (d : FlatEqn). AreBelow (length table) d.targets) es
+    eqns_up : (es : List FlatEqn) (table : List Reach) → noted_eqns base es table ≡ final → IsAwaited es → AllByRecursion (λ (d : FlatEqn). AreBelow (length table) (reads d)) es
         → value (reach_of table x) ≤ n → AllByRecursion Gives es → value (reach_of final x) ≤ n
     eqns_up [] table is s b h g = subst (λ t. value (reach_of t x) ≤ n) is h
     eqns_up (e ∷ es) table is s b h g =
         let w = weight_of base table e in
         eqns_up es (noted base e table) is s.1
-        (each_map (λ (d : FlatEqn). AreBelow (length table) d.targets) (λ (d : FlatEqn). AreBelow (length (noted base e table)) d.targets) (λ d q. below_same (length table) (length (noted base e table)) d.targets (length_noted w e.targets table) q) es b.1)
-        (all_up w e.targets table b.0 h (λ q. subst (λ v. gain v ≤ n) (sym (at_end e es table is s.0)) (g.0 q))) g.1
+        (each_map (λ (d : FlatEqn). AreBelow (length table) (reads d)) (λ (d : FlatEqn). AreBelow (length (noted base e table)) (reads d)) (λ d q. below_same (length table) (length (noted base e table)) (reads d) (length_noted w (reads e) table) q) es b.1)
+        (all_up w (reads e) table b.0 h (λ q. subst (λ v. gain v ≤ n) (sym (at_end e es table is s.0)) (g.0 q))) g.1
 
 pub control_of_weight : (base : ℕ) (table : List Reach) (e : FlatEqn) → (weight_of base table e).control ≡ control base e
-control_of_weight base table e = control_kept table (reads e) (record { level = 0; control = control base e; height = 0 })
+control_of_weight base table e = control_kept table e.targets (record { level = 0; control = control base e; height = 0 })
 
 -- ---- the longest paths
 
@@ -231,8 +274,8 @@ unmet_at value e n x m = subst (λ r. value r ≤ m) (sym (is n x)) (omega (arit
     is (suc n) zero = refl
     is (suc n) (suc x) = is n x
 
-module _ (base : ℕ) (es : List FlatEqn) (final : List Reach) (is : noted_eqns base es (replicate base unmet) ≡ final) (s : IsScheduled es)
-    (b : AllByRecursion (λ (d : FlatEqn). AreBelow (length (replicate base unmet)) d.targets) es) where
+module _ (base : ℕ) (es : List FlatEqn) (final : List Reach) (is : noted_eqns base es (replicate base unmet) ≡ final) (s : IsAwaited es)
+    (b : AllByRecursion (λ (d : FlatEqn). AreBelow (length (replicate base unmet)) (reads d)) es) where
   abbrev pub level_by : FlatEqn → ℕ
   level_by e = (weight_of base final e).level
 
@@ -250,25 +293,25 @@ module _ (base : ℕ) (es : List FlatEqn) (final : List Reach) (is : noted_eqns 
 
   pub levels_by : IsLongest (change base) level_by es
   levels_by = record {
-    above = λ e. each_map (λ x. seen_from (control base e) (reach_of final x) ≤ level_by e) (λ x. AllByRecursion (λ (d : FlatEqn). has d.targets x ≡ true → level_by d + change base d e ≤ level_by e) es)
-        (λ x h. each_map (λ (d : FlatEqn). has d.targets x ≡ true → level_by d + cost_by d e ≤ level_by e) (λ (d : FlatEqn). has d.targets x ≡ true → level_by d + change base d e ≤ level_by e)
+    above = λ e. each_map (λ x. seen_from (control base e) (reach_of final x) ≤ level_by e) (λ x. AllByRecursion (λ (d : FlatEqn). has (reads d) x ≡ true → level_by d + change base d e ≤ level_by e) es)
+        (λ x h. each_map (λ (d : FlatEqn). has (reads d) x ≡ true → level_by d + cost_by d e ≤ level_by e) (λ (d : FlatEqn). has (reads d) x ≡ true → level_by d + change base d e ≤ level_by e)
         (λ d g q. subst (λ k. level_by d + k ≤ level_by e) (same_cost d e) (g q)) es
         (eqns_down (seen_from (control base e)) (λ w. w.level + step (nat_eq w.control (control base e))) (λ w r. seen_met (control base e) w r) x (level_by e) base final es (replicate base unmet) is s b h).1)
-        (reads e) (level_down final (reads e) (start e) (level_by e) (omega arith)).1;
-    least = λ e n h. level_up final (reads e) (start e) n (omega arith)
-        (each_map (λ x. AllByRecursion (λ (d : FlatEqn). has d.targets x ≡ true → level_by d + change base d e ≤ n) es) (λ x. seen_from (control base e) (reach_of final x) ≤ n)
+        e.targets (level_down final e.targets (start e) (level_by e) (omega arith)).1;
+    least = λ e n h. level_up final e.targets (start e) n (omega arith)
+        (each_map (λ x. AllByRecursion (λ (d : FlatEqn). has (reads d) x ≡ true → level_by d + change base d e ≤ n) es) (λ x. seen_from (control base e) (reach_of final x) ≤ n)
         (λ x g. eqns_up (seen_from (control base e)) (λ w. w.level + step (nat_eq w.control (control base e))) (λ w r. seen_met (control base e) w r) x n base final es (replicate base unmet) is s b
         (unmet_at (seen_from (control base e)) refl base x n)
-        (each_map (λ (d : FlatEqn). has d.targets x ≡ true → level_by d + change base d e ≤ n) (λ (d : FlatEqn). has d.targets x ≡ true → level_by d + cost_by d e ≤ n)
-        (λ d f q. subst (λ k. level_by d + k ≤ n) (sym (same_cost d e)) (f q)) es g)) (reads e) h);
+        (each_map (λ (d : FlatEqn). has (reads d) x ≡ true → level_by d + change base d e ≤ n) (λ (d : FlatEqn). has (reads d) x ≡ true → level_by d + cost_by d e ≤ n)
+        (λ d f q. subst (λ k. level_by d + k ≤ n) (sym (same_cost d e)) (f q)) es g)) e.targets h);
   }
 
   pub heights_by : IsLongest one height_by es
   heights_by = record {
-    above = λ e. each_map (λ x. (reach_of final x).height ≤ height_by e) (λ x. AllByRecursion (λ (d : FlatEqn). has d.targets x ≡ true → height_by d + 1 ≤ height_by e) es)
+    above = λ e. each_map (λ x. (reach_of final x).height ≤ height_by e) (λ x. AllByRecursion (λ (d : FlatEqn). has (reads d) x ≡ true → height_by d + 1 ≤ height_by e) es)
         (λ x h. (eqns_down (λ r. r.height) (λ w. w.height + 1) (λ w r. height_met w r) x (height_by e) base final es (replicate base unmet) is s b h).1)
-        (reads e) (height_down final (reads e) (start e) (height_by e) (omega arith)).1;
-    least = λ e n h. height_up final (reads e) (start e) n (omega arith)
-        (each_map (λ x. AllByRecursion (λ (d : FlatEqn). has d.targets x ≡ true → height_by d + 1 ≤ n) es) (λ x. (reach_of final x).height ≤ n)
-        (λ x g. eqns_up (λ r. r.height) (λ w. w.height + 1) (λ w r. height_met w r) x n base final es (replicate base unmet) is s b (unmet_at (λ r. r.height) refl base x n) g) (reads e) h);
+        e.targets (height_down final e.targets (start e) (height_by e) (omega arith)).1;
+    least = λ e n h. height_up final e.targets (start e) n (omega arith)
+        (each_map (λ x. AllByRecursion (λ (d : FlatEqn). has (reads d) x ≡ true → height_by d + 1 ≤ n) es) (λ x. (reach_of final x).height ≤ n)
+        (λ x g. eqns_up (λ r. r.height) (λ w. w.height + 1) (λ w r. height_met w r) x n base final es (replicate base unmet) is s b (unmet_at (λ r. r.height) refl base x n) g) e.targets h);
   }

@@ -4,6 +4,7 @@ use Rattle.std.proofs.lemmas.Bool.{lt-ltb, le-ltb}
 use Rattle.std.proofs.lemmas.List.{append_assoc, append-nil, get_or_default, length-set}
 use Rattle.std.proofs.Math.Numerals.{add-one}
 use Rattle.hp_flat.specs.Equations.{FlatEqn}
+use Rattle.law_equations.specs.Meaning.Scheduling.{reads}
 use Rattle.hp_order.specs.declared.order.Turn.{Turn}
 use Rattle.hp_order.specs.declared.order.Weighed.{Weighed}
 use Rattle.hp_order.specs.declared.reach.Reach.{Reach}
@@ -68,7 +69,7 @@ length_all w [] table = refl
 length_all w (x ∷ xs) table = length_all w xs (noted_one w x table) ∙ length-set table x (met w (reach_of table x))
 
 length_turn : (b : Bool) (base : ℕ) (e : FlatEqn) (table : List Reach) → length (if b then noted base e table else table) ≡ length table
-length_turn true base e table = length_all (weight_of base table e) e.targets table
+length_turn true base e table = length_all (weight_of base table e) (reads e) table
 length_turn false base e table = refl
 
 pub length-turns : (base : ℕ) (es : List FlatEqn) (ts : List Turn) (table : List Reach) → length (noted_turns base es ts table) ≡ length table

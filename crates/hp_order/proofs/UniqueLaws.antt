@@ -7,28 +7,29 @@ use Rattle.std.specs.Ordering.{is_lt, nat_cmp, ordering_then}
 use Rattle.std.specs.declared.cmp.Ordering.TheVariants.{Less, Equal}
 use Rattle.std.specs.Cmp.{nat_cmp_is}
 use Rattle.std.proofs.lemmas.Bool.{eqb-true, ltb-true, ltb-false}
-use Rattle.std.proofs.lemmas.Cmp.{nat_cmp_total, on_total, then_total}
+use Rattle.std.proofs.lemmas.Cmp.{back_total, nat_cmp_total, on_total, then_total}
 use Rattle.std.proofs.lemmas.List.Elements.{recursion_from_All}
 use Rattle.std.proofs.lemmas.List.Sorted.{IsPermutation-sym, ranks_by, sorted_far}
 use Rattle.hp_flat.specs.Equations.{FlatEqn}
 use Rattle.law_equations.specs.Meaning.Reactions.{has}
 use Rattle.law_equations.specs.Meaning.Scheduling.{reads, IsDefinedBelow, IsRanked}
 use Rattle.law_equations.specs.Made.Laws.{unplaced}
-use Rattle.law_equations.proofs.FewerLemmas.Members.{each_map, each_both}
+use Rattle.law_equations.proofs.FewerLemmas.Members.{each_at, each_both, each_map, has-count}
 use Rattle.law_equations.proofs.FewerLemmas.OrderLaws.{each_moved}
 use Rattle.hp_order.specs.ByClock.{control, change, one, IsLongest, comes_before, numbered, IsByClock}
+use Rattle.hp_order.proofs.PathLaws.{all_own}
 
 -- ---- longest paths
 
 abbrev Step : (FlatEqn → FlatEqn → ℕ) → (FlatEqn → ℕ) → FlatEqn → ℕ → ℕ → FlatEqn → Type 0
-Step cost path e n x d = has d.targets x ≡ true → path d + cost d e ≤ n
+Step cost path e n x d = has (reads d) x ≡ true → path d + cost d e ≤ n
 
 -- in another order equations have the same longest paths
 pub longest-moved : (cost : FlatEqn → FlatEqn → ℕ) (path : FlatEqn → ℕ) (es ds : List FlatEqn) → IsPermutation es ds → IsLongest cost path es → IsLongest cost path ds
 longest-moved cost path es ds p h = record {
-  above = λ e. each_map (λ x. AllByRecursion (Step cost path e (path e) x) es) (λ x. AllByRecursion (Step cost path e (path e) x) ds) (λ x g. each_moved (Step cost path e (path e) x) es ds p g) (reads e) (h.above e);
+  above = λ e. each_map (λ x. AllByRecursion (Step cost path e (path e) x) es) (λ x. AllByRecursion (Step cost path e (path e) x) ds) (λ x g. each_moved (Step cost path e (path e) x) es ds p g) e.targets (h.above e);
   least = λ e n g. h.least e n
-      (each_map (λ x. AllByRecursion (Step cost path e n x) ds) (λ x. AllByRecursion (Step cost path e n x) es) (λ x f. each_moved (Step cost path e n x) ds es (IsPermutation-sym es ds p) f) (reads e) g);
+      (each_map (λ x. AllByRecursion (Step cost path e n x) ds) (λ x. AllByRecursion (Step cost path e n x) es) (λ x f. each_moved (Step cost path e n x) ds es (IsPermutation-sym es ds p) f) e.targets g);
 }
 
 module _ (es : List FlatEqn) (height : FlatEqn → ℕ) (heights : IsLongest one height es) (cost : FlatEqn → FlatEqn → ℕ) where
@@ -44,7 +45,7 @@ module _ (es : List FlatEqn) (height : FlatEqn → ℕ) (heights : IsLongest one
 
   no_longer : (p q : FlatEqn → ℕ) → IsLongest cost p es → IsLongest cost q es → (n : ℕ) (e : FlatEqn) → height e < n → p e ≤ q e
   no_longer p q P Q zero e h = absurd (omega arith)
-  no_longer p q P Q (suc n) e h = P.least e (q e) (at_all p q n e (no_longer p q P Q n) h (reads e) (heights.above e) (Q.above e))
+  no_longer p q P Q (suc n) e h = P.least e (q e) (at_all p q n e (no_longer p q P Q n) h e.targets (heights.above e) (Q.above e))
 
   pub one_longest : (p q : FlatEqn → ℕ) → IsLongest cost p es → IsLongest cost q es → (e : FlatEqn) → p e ≡ q e
   one_longest p q P Q e = omega (arith, no_longer p q P Q (suc (height e)) e (omega arith), no_longer q p Q P (suc (height e)) e (omega arith))
@@ -56,7 +57,7 @@ module _ (base : ℕ) (level height : FlatEqn → ℕ) where
   before d e = comes_before base level height d e
 
   weak : IsStrictWeakOrder before
-  weak = ranks_by (then_total (on_total level nat_cmp_total) (then_total (on_total (control base) nat_cmp_total) (on_total height nat_cmp_total))) (λ (e : FlatEqn). e)
+  weak = ranks_by (then_total (on_total level (back_total nat_cmp_total)) (then_total (on_total (control base) nat_cmp_total) (on_total height (back_total nat_cmp_total)))) (λ (e : FlatEqn). e)
 
   less : (a b : ℕ) → a < b → nat_cmp a b ≡ Less
   less a b h = sym (nat_cmp_is a b Less h)
@@ -64,26 +65,26 @@ module _ (base : ℕ) (level height : FlatEqn → ℕ) where
   equal : (a b : ℕ) → a ≡ b → nat_cmp a b ≡ Equal
   equal a b h = sym (nat_cmp_is a b Equal h)
 
-  by_level : (d e : FlatEqn) → level d < level e → before d e ≡ true
-  by_level d e h = ap (λ o. is_lt (ordering_then o (ordering_then (nat_cmp (control base d) (control base e)) (nat_cmp (height d) (height e))))) (less (level d) (level e) h)
+  by_level : (d e : FlatEqn) → level e < level d → before d e ≡ true
+  by_level d e h = ap (λ o. is_lt (ordering_then o (ordering_then (nat_cmp (control base d) (control base e)) (nat_cmp (height e) (height d))))) (less (level e) (level d) h)
 
-  by_height : (d e : FlatEqn) → level d ≡ level e → control base d ≡ control base e → height d < height e → before d e ≡ true
-  by_height d e l c h = λ i. is_lt (ordering_then (equal (level d) (level e) l i) (ordering_then (equal (control base d) (control base e) c i) (less (height d) (height e) h i)))
+  by_height : (d e : FlatEqn) → level e ≡ level d → control base d ≡ control base e → height e < height d → before d e ≡ true
+  by_height d e l c h = λ i. is_lt (ordering_then (equal (level e) (level d) l i) (ordering_then (equal (control base d) (control base e) c i) (less (height e) (height d) h i)))
 
-  at_least : (d e : FlatEqn) (b : Bool) → nat_lt (level d) (level e) ≡ b → level d ≤ level e → control base d ≡ control base e → height d < height e → before d e ≡ true
-  at_least d e true q l c h = by_level d e (ltb-true (level d) (level e) q)
-  at_least d e false q l c h = let no_less : level e ≤ level d = ltb-false (level d) (level e) q in by_height d e (omega arith) c h
+  at_least : (d e : FlatEqn) (b : Bool) → nat_lt (level e) (level d) ≡ b → level e ≤ level d → control base d ≡ control base e → height e < height d → before d e ≡ true
+  at_least d e true q l c h = by_level d e (ltb-true (level e) (level d) q)
+  at_least d e false q l c h = let no_less : level d ≤ level e = ltb-false (level e) (level d) q in by_height d e (omega arith) c h
 
-  by_change : (d e : FlatEqn) (b : Bool) → nat_eq (control base d) (control base e) ≡ b → level d + (if b then 0 else 1) ≤ level e → height d + 1 ≤ height e → before d e ≡ true
-  by_change d e true q l h = at_least d e (nat_lt (level d) (level e)) refl (omega arith) (eqb-true (control base d) (control base e) q) (omega arith)
+  by_change : (d e : FlatEqn) (b : Bool) → nat_eq (control base e) (control base d) ≡ b → level e + (if b then 0 else 1) ≤ level d → height e + 1 ≤ height d → before d e ≡ true
+  by_change d e true q l h = at_least d e (nat_lt (level e) (level d)) refl (omega arith) (sym (eqb-true (control base e) (control base d) q)) (omega arith)
   by_change d e false q l h = by_level d e (omega arith)
 
   -- what is read comes before
-  read_before : (d e : FlatEqn) → level d + change base d e ≤ level e → height d + 1 ≤ height e → before d e ≡ true
-  read_before d e l h = by_change d e (nat_eq (control base d) (control base e)) refl l h
+  read_before : (d e : FlatEqn) → level e + change base e d ≤ level d → height e + 1 ≤ height d → before d e ≡ true
+  read_before d e l h = by_change d e (nat_eq (control base e) (control base d)) refl l h
 
 -- no element comes before one in front of it
-abbrev Rises : {A : Type 0} → (A → A → Bool) → List A → Type 0
+abbrev pub Rises : {A : Type 0} → (A → A → Bool) → List A → Type 0
 Rises lt [] = Unit {0}
 Rises lt (x ∷ xs) = AllByRecursion (λ y. lt y x ≡ false) xs × Rises lt xs
 
@@ -200,9 +201,29 @@ own_not : (lt : FlatEqn → FlatEqn → Bool) → IsStrictWeakOrder lt → (e : 
 own_not lt o e true q = o.one_way e e q
 own_not lt o e false q = q
 
+nothing : {A : Type 0} (xs : List A) → AllByRecursion (λ x. Unit {0}) xs
+nothing [] = tt
+nothing (x ∷ xs) = (tt, nothing xs)
+
+-- what holds of all pairs holds of them the other way round
+turned_round : {A B : Type 0} (R : A → B → Type 0) (xs : List A) (ys : List B) → AllByRecursion (λ x. AllByRecursion (R x) ys) xs → AllByRecursion (λ y. AllByRecursion (λ x. R x y) xs) ys
+turned_round R [] ys h = nothing ys
+turned_round R (x ∷ xs) ys h =
+    each_both (R x) (λ y. AllByRecursion (λ z. R z y) xs) (λ y. R x y × AllByRecursion (λ z. R z y) xs) (λ y p q. (p, q)) ys h.0 (turned_round R xs ys h.1)
+
 module _ (base : ℕ) (es scheduled : List FlatEqn) (h : IsByClock base es scheduled) where
-  all_read : AllByRecursion (λ (e : FlatEqn). AllByRecursion (λ x. AllByRecursion (Reads (before base h.level h.height) e x) h.ordered) (reads e)) h.ordered
-  all_read = each (h.ordered)
+  abbrev ahead : FlatEqn → FlatEqn → Bool
+  ahead d e = before base h.level h.height d e
+
+  -- an equation stands before one that reads a variable, and before one that reads what it defines
+  abbrev Ahead : FlatEqn → ℕ → FlatEqn → Type 0
+  Ahead e x d = has (reads d) x ≡ true → ahead e d ≡ true
+
+  abbrev Feeds : FlatEqn → FlatEqn → Type 0
+  Feeds e d = (x : ℕ) → has e.targets x ≡ true → has (reads d) x ≡ true → ahead e d ≡ true
+
+  all_ahead : (e : FlatEqn) → AllByRecursion (λ x. AllByRecursion (Ahead e x) h.ordered) e.targets
+  all_ahead e = each e.targets (levels.above e) (heights.above e)
     where
       levels : IsLongest (change base) h.level h.ordered
       levels = longest-moved (change base) h.level es h.ordered h.same h.levels
@@ -210,18 +231,28 @@ module _ (base : ℕ) (es scheduled : List FlatEqn) (h : IsByClock base es sched
       heights : IsLongest one h.height h.ordered
       heights = longest-moved one h.height es h.ordered h.same h.heights
 
-      at : (e : FlatEqn) (x : ℕ) → AllByRecursion (Step (change base) h.level e (h.level e) x) h.ordered → AllByRecursion (Step one h.height e (h.height e) x) h.ordered → AllByRecursion (Reads (before base h.level h.height) e x) h.ordered
-      at e x a b = each_both (Step (change base) h.level e (h.level e) x) (Step one h.height e (h.height e) x) (Reads (before base h.level h.height) e x)
-          (λ d p q r. read_before base h.level h.height d e (p r) (q r)) h.ordered a b
+      each : (xs : List ℕ) → AllByRecursion (λ x. AllByRecursion (Step (change base) h.level e (h.level e) x) h.ordered) xs → AllByRecursion (λ x. AllByRecursion (Step one h.height e (h.height e) x) h.ordered) xs
+          → AllByRecursion (λ x. AllByRecursion (Ahead e x) h.ordered) xs
+      each [] a b = tt
+      each (x ∷ xs) a b = (
+        each_both (Step (change base) h.level e (h.level e) x) (Step one h.height e (h.height e) x) (Ahead e x) (λ d p q r. read_before base h.level h.height e d (p r) (q r)) h.ordered a.0 b.0,
+        each xs a.1 b.1,
+      )
 
-      at_all : (e : FlatEqn) (xs : List ℕ) → AllByRecursion (λ x. AllByRecursion (Step (change base) h.level e (h.level e) x) h.ordered) xs
-          → AllByRecursion (λ x. AllByRecursion (Step one h.height e (h.height e) x) h.ordered) xs → AllByRecursion (λ x. AllByRecursion (Reads (before base h.level h.height) e x) h.ordered) xs
-      at_all e [] a b = tt
-      at_all e (x ∷ xs) a b = (at e x a.0 b.0, at_all e xs a.1 b.1)
+  all_feed : (ds : List FlatEqn) → AllByRecursion (λ (e : FlatEqn). AllByRecursion (Feeds e) h.ordered) ds
+  all_feed [] = tt
+  all_feed (e ∷ ds) = (
+    each_map (λ (d : FlatEqn). AllByRecursion (λ x. Ahead e x d) e.targets) (Feeds e) (λ d a x own there. each_at (λ y. Ahead e y d) e.targets x a (has-count e.targets x own) there) h.ordered
+    (turned_round (Ahead e) e.targets h.ordered (all_ahead e)),
+    all_feed ds,
+  )
 
-      each : (ds : List FlatEqn) → AllByRecursion (λ (e : FlatEqn). AllByRecursion (λ x. AllByRecursion (Reads (before base h.level h.height) e x) h.ordered) (reads e)) ds
-      each [] = tt
-      each (e ∷ ds) = (at_all e (reads e) (levels.above e) (heights.above e), each ds)
+  all_read : AllByRecursion (λ (e : FlatEqn). AllByRecursion (λ x. AllByRecursion (Reads (before base h.level h.height) e x) h.ordered) (reads e)) h.ordered
+  all_read =
+      each_map (λ (e : FlatEqn). AllByRecursion (λ (d : FlatEqn). Feeds d e) h.ordered) (λ (e : FlatEqn). AllByRecursion (λ x. AllByRecursion (Reads (before base h.level h.height) e x) h.ordered) (reads e))
+      (λ e fed. each_map (λ x. has (reads e) x ≡ true) (λ x. AllByRecursion (Reads (before base h.level h.height) e x) h.ordered)
+      (λ x there. each_map (λ (d : FlatEqn). Feeds d e) (Reads (before base h.level h.height) e x) (λ d f own. f x own there) h.ordered fed) (reads e) (all_own (reads e))) h.ordered
+      (turned_round Feeds h.ordered h.ordered (all_feed h.ordered))
 
   -- In the order by clock each equation stands behind those that it reads.
   pub ranked-by_clock : IsRanked scheduled
@@ -250,8 +281,8 @@ module _ (cost : FlatEqn → FlatEqn → ℕ) (path : FlatEqn → ℕ) (cost_fre
 
   longest_up : (es : List FlatEqn) → IsLongest cost path es → IsLongest cost path (map unplaced es)
   longest_up es h = record {
-    above = λ e. each_map (λ x. AllByRecursion (Step cost path e (path e) x) es) (λ x. AllByRecursion (Step cost path e (path e) x) (map unplaced es)) (λ x g. up e (path e) x es g) (reads e) (h.above e);
-    least = λ e n g. h.least e n (each_map (λ x. AllByRecursion (Step cost path e n x) (map unplaced es)) (λ x. AllByRecursion (Step cost path e n x) es) (λ x f. down e n x es f) (reads e) g);
+    above = λ e. each_map (λ x. AllByRecursion (Step cost path e (path e) x) es) (λ x. AllByRecursion (Step cost path e (path e) x) (map unplaced es)) (λ x g. up e (path e) x es g) e.targets (h.above e);
+    least = λ e n g. h.least e n (each_map (λ x. AllByRecursion (Step cost path e n x) (map unplaced es)) (λ x. AllByRecursion (Step cost path e n x) es) (λ x f. down e n x es f) e.targets g);
   }
 
 module _ (lt : FlatEqn → FlatEqn → Bool) (free : (d e : FlatEqn) → lt (unplaced d) (unplaced e) ≡ lt d e) (half : (d e : FlatEqn) → (lt d (unplaced e) ≡ lt d e) × (lt (unplaced d) e ≡ lt d e)) where
@@ -283,12 +314,12 @@ numbered_up k (e ∷ es) = ap (λ ds. record e { at = k } ∷ ds) (numbered_up (
 
 module _ (base : ℕ) (level height : FlatEqn → ℕ) (f : (e : FlatEqn) → level (unplaced e) ≡ level e) (g : (e : FlatEqn) → height (unplaced e) ≡ height e) where
   before_free : (d e : FlatEqn) → before base level height (unplaced d) (unplaced e) ≡ before base level height d e
-  before_free d e = λ i. is_lt (ordering_then (nat_cmp (f d i) (f e i)) (ordering_then (nat_cmp (control base d) (control base e)) (nat_cmp (g d i) (g e i))))
+  before_free d e = λ i. is_lt (ordering_then (nat_cmp (f e i) (f d i)) (ordering_then (nat_cmp (control base d) (control base e)) (nat_cmp (g e i) (g d i))))
 
   before_half : (d e : FlatEqn) → (before base level height d (unplaced e) ≡ before base level height d e) × (before base level height (unplaced d) e ≡ before base level height d e)
   before_half d e = (
-    (λ i. is_lt (ordering_then (nat_cmp (level d) (f e i)) (ordering_then (nat_cmp (control base d) (control base e)) (nat_cmp (height d) (g e i))))),
-    (λ i. is_lt (ordering_then (nat_cmp (f d i) (level e)) (ordering_then (nat_cmp (control base d) (control base e)) (nat_cmp (g d i) (height e))))),
+    (λ i. is_lt (ordering_then (nat_cmp (f e i) (level d)) (ordering_then (nat_cmp (control base d) (control base e)) (nat_cmp (g e i) (height d))))),
+    (λ i. is_lt (ordering_then (nat_cmp (level e) (f d i)) (ordering_then (nat_cmp (control base d) (control base e)) (nat_cmp (height e) (g d i))))),
   )
 
 -- an order by clock of equations without places

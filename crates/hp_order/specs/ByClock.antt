@@ -1,5 +1,5 @@
--- The order of equations by clock: those that stand under one case stand together, as far as what they read lets them, so that their cases can be joined.
--- Levels and heights are lengths of longest paths, as of tasks that are scheduled as soon as they can be. Grouping by clock is after Biernacki, Colaço, Hamon, Pouzet:
+-- The order of equations by clock: those that stand under one case stand together, as far as their readers let them, so that their cases can be joined.
+-- Levels and heights are lengths of longest paths, as of tasks that are scheduled as late as they can be. Grouping by clock is after Biernacki, Colaço, Hamon, Pouzet:
 -- Clock-directed modular code generation for synchronous data-flow languages (LCTES 2008).
 use Rattle.std.specs.Prelude.{◌≡◌, ◌≤◌, ◌+◌, ℕ, suc, Bool, true, nat_eq, List, [], ◌∷◌, if◌then◌else◌}
 use Rattle.std.specs.List.{AllByRecursion}
@@ -14,7 +14,7 @@ use Rattle.law_equations.specs.Meaning.Scheduling.{reads}
 abbrev pub control : ℕ → FlatEqn → ℕ
 control base e = elim e.clock [ [] ↦ base | on ∷ clock ↦ on.0 ]
 
--- what the step from an equation to one that reads it counts for: 1 where the control changes
+-- what the step to an equation from one that reads it counts for: 1 where the control changes
 abbrev pub change : ℕ → FlatEqn → FlatEqn → ℕ
 change base d e = if nat_eq (control base d) (control base e) then 0 else 1
 
@@ -23,18 +23,18 @@ abbrev pub one : FlatEqn → FlatEqn → ℕ
 one d e = 1
 
 module _ (cost : FlatEqn → FlatEqn → ℕ) (length_of : FlatEqn → ℕ) (es : List FlatEqn) where
-  -- a number is no less than the length of each path to an equation: the length to one that it reads, and the last step
+  -- a number is no less than the length of each path of readers from an equation: the length from one that reads it, and the first step
   abbrev pub IsAbovePaths : FlatEqn → ℕ → Type 0
-  IsAbovePaths e n = AllByRecursion (λ x. AllByRecursion (λ (d : FlatEqn). has d.targets x ≡ true → length_of d + cost d e ≤ n) es) (reads e)
+  IsAbovePaths e n = AllByRecursion (λ x. AllByRecursion (λ (d : FlatEqn). has (reads d) x ≡ true → length_of d + cost d e ≤ n) es) e.targets
 
-  -- The length of the longest path of reads to each equation.
+  -- The length of the longest path of readers from each equation.
   pub record IsLongest : Type 0 where
     pub above : (e : FlatEqn) → IsAbovePaths e (length_of e)
     pub least : (e : FlatEqn) (n : ℕ) → IsAbovePaths e n → length_of e ≤ n
 
--- first the level, then the control, then the height
+-- first by level, the greatest first, then by control, then by height, the greatest first
 abbrev pub compared : ℕ → (FlatEqn → ℕ) → (FlatEqn → ℕ) → FlatEqn → FlatEqn → Ordering
-compared base level height d e = ordering_then (nat_cmp (level d) (level e)) (ordering_then (nat_cmp (control base d) (control base e)) (nat_cmp (height d) (height e)))
+compared base level height d e = ordering_then (nat_cmp (level e) (level d)) (ordering_then (nat_cmp (control base d) (control base e)) (nat_cmp (height e) (height d)))
 
 abbrev pub comes_before : ℕ → (FlatEqn → ℕ) → (FlatEqn → ℕ) → FlatEqn → FlatEqn → Bool
 comes_before base level height d e = is_lt (compared base level height d e)
@@ -44,7 +44,7 @@ abbrev pub numbered : ℕ → List FlatEqn → List FlatEqn
 numbered k [] = []
 numbered k (e ∷ es) = record e { at = k } ∷ numbered (suc k) es
 
--- Equations stand by how often controls change on a path to them, then by control, then by how many they wait for; where all are the same, in the order in which they were.
+-- Equations stand by how often controls change on a path of readers from them, the most often first, then by control, then by how many wait for them, the most first; where all are the same, in the order in which they were.
 pub record IsByClock (base : ℕ) (es scheduled : List FlatEqn) : Type 0 where
   pub level : FlatEqn → ℕ
   pub height : FlatEqn → ℕ

@@ -1,4 +1,4 @@
--- What is noted of variables while equations are gone through: how far the equations reach that define them.
+-- What is noted of variables while equations are gone through, each behind its readers: how far those reach that read them.
 use Rattle.std.specs.Prelude.{◌+◌, ◌-◌, ℕ, true, false, ◌&&◌, ◌||◌, not, nat_eq, nat_lt, max, get_or, List, [], ◌∷◌, if◌then◌else◌}
 use Rattle.std.proofs.Math.ListN.{set}
 use Rattle.hp_flat.specs.Equations.{FlatEqn}
@@ -7,18 +7,18 @@ use Rattle.hp_order.specs.ByClock.{control}
 use Rattle.hp_order.specs.declared.reach.Reach.{Reach}
 use Rattle.hp_order.specs.declared.reach.Weight.{Weight}
 
--- the level that a reader has from a variable at least
+-- the level that an equation has at least that defines a variable
 abbrev pub seen_from : ℕ → Reach → ℕ
 seen_from c r = if r.is_lower && nat_eq r.control c then r.outside - 1 else r.outside
 
--- one equation more defines the variable
+-- one equation more reads the variable
 abbrev pub met : Weight → Reach → Reach
 met w r =
     if nat_lt w.level r.outside
     then record { outside = r.outside; control = r.control; is_lower = r.is_lower && (nat_eq r.control w.control || not (nat_eq (w.level + 1) r.outside)); height = max r.height (w.height + 1) }
     else record { outside = w.level + 1; control = w.control; is_lower = true; height = max r.height (w.height + 1) }
 
--- no equation defines the variable
+-- no equation reads the variable
 abbrev pub unmet : Reach
 unmet = record { outside = 0; control = 0; is_lower = false; height = 0 }
 
@@ -26,7 +26,7 @@ unmet = record { outside = 0; control = 0; is_lower = false; height = 0 }
 abbrev pub reach_of : List Reach → ℕ → Reach
 reach_of table x = get_or table x unmet
 
--- a variable is read
+-- a variable is defined
 abbrev pub raised : List Reach → ℕ → Weight → Weight
 raised table x w = record { level = max w.level (seen_from w.control (reach_of table x)); control = w.control; height = max w.height (reach_of table x).height }
 
@@ -35,9 +35,9 @@ raised_all table [] w = w
 raised_all table (x ∷ xs) w = raised_all table xs (raised table x w)
 
 abbrev pub weight_of : ℕ → List Reach → FlatEqn → Weight
-weight_of base table e = raised_all table (reads e) (record { level = 0; control = control base e; height = 0 })
+weight_of base table e = raised_all table e.targets (record { level = 0; control = control base e; height = 0 })
 
--- variables are defined by an equation of a weight
+-- variables are read by an equation of a weight
 abbrev pub noted_one : Weight → ℕ → List Reach → List Reach
 noted_one w x table = set table x (met w (reach_of table x))
 
@@ -46,7 +46,7 @@ noted_all w [] table = table
 noted_all w (x ∷ xs) table = noted_all w xs (noted_one w x table)
 
 abbrev pub noted : ℕ → FlatEqn → List Reach → List Reach
-noted base e table = noted_all (weight_of base table e) e.targets table
+noted base e table = noted_all (weight_of base table e) (reads e) table
 
 abbrev pub noted_eqns : ℕ → List FlatEqn → List Reach → List Reach
 noted_eqns base [] table = table

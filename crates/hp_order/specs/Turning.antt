@@ -1,6 +1,6 @@
--- Equations that have their turn in the order of their places, and with what they are ordered by.
+-- Equations that have their turn in the order of their places, the last first, and with what they are ordered by.
 use Rattle.std.specs.Prelude.{◌≡◌, ℕ, suc, Bool, nat_lt, get_or, length, List, [], ◌∷◌, if◌then◌else◌}
-use Rattle.std.specs.List.Sorted.{IsPermutation, IsNonDecreasingBy}
+use Rattle.std.specs.List.Sorted.{IsPermutation, IsSortedBy}
 use Rattle.std.specs.Ordering.{is_lt, nat_cmp, ordering_then}
 use Rattle.std.proofs.Math.ListN.{replicate}
 use Rattle.hp_flat.specs.Equations.{FlatEqn, called}
@@ -34,11 +34,15 @@ abbrev pub weighed_by : ℕ → List Reach → FlatEqn → Weighed
 weighed_by base table e = record { eqn = e; weight = weight_of base table e }
 
 abbrev pub weighed_before : Weighed → Weighed → Bool
-weighed_before v w = is_lt (ordering_then (nat_cmp v.weight.level w.weight.level) (ordering_then (nat_cmp v.weight.control w.weight.control) (nat_cmp v.weight.height w.weight.height)))
+weighed_before v w = is_lt (ordering_then (nat_cmp w.weight.level v.weight.level) (ordering_then (nat_cmp v.weight.control w.weight.control) (nat_cmp w.weight.height v.weight.height)))
 
--- a table of all equations, noted in the order of their places
+-- a turn stands before those of lesser places
+abbrev pub turns_before : Turn → Turn → Bool
+turns_before s t = is_lt (nat_cmp t.at s.at)
+
+-- a table of all equations, noted from the greatest place to the least
 pub record IsNoted (base : ℕ) (es : List FlatEqn) (table : List Reach) : Type 0 where
   pub turns : List Turn
   pub all : IsPermutation (turns_from 0 es) turns
-  pub order : IsNonDecreasingBy (λ (t : Turn). t.at) turns
+  pub order : IsSortedBy turns_before turns
   pub noted_are : table ≡ noted_turns base es turns (replicate base unmet)

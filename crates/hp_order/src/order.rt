@@ -1,21 +1,22 @@
 //! The order by clock.
 ghost use Rattle.std.specs.Prelude.{◌≡◌, List, length, map, IfOk, OnOk, ◌++◌, ◌∷◌, []};
 ghost use Rattle.std.specs.List.{AllByRecursion};
-ghost use Rattle.std.specs.List.Sorted.{IsPermutation, IsNonDecreasingBy, IsSortedBy, IsStableBy};
+ghost use Rattle.std.specs.List.Sorted.{IsPermutation, IsSortedBy, IsStableBy};
 ghost use Rattle.std.proofs.Math.ListN.{replicate};
 ghost use Rattle.hp_flat.specs.Equations.{FlatEqn as EqnSeen};
 ghost use Rattle.hp_schedule.specs.Order.{IsInOrder};
 ghost use Rattle.law_equations.specs.Made.Laws.{unplaced};
-ghost use Rattle.law_equations.specs.Meaning.Scheduling.{AreBelow, IsRanked};
+ghost use Rattle.law_equations.specs.Meaning.Scheduling.{AreBelow, reads, IsRanked};
 ghost use Rattle.hp_order.specs.ByClock.{IsByClock, numbered};
 ghost use Rattle.hp_order.specs.Reaching.{unmet, weight_of};
-ghost use Rattle.hp_order.specs.Turning.{IsNoted, turn_of, turns_from, noted_turn, noted_turns, weighed_by, weighed_before};
+ghost use Rattle.hp_order.specs.Turning.{IsNoted, turn_of, turns_from, noted_turn, noted_turns, turns_before, weighed_by, weighed_before};
 
 use crate::reach::{Reach, Weight, note, weight_of};
 use hp_flat::{FlatEqn, FlatNode, Scheduled};
 use std::alloc::{AllocError, Global};
+use std::cmp::Reverse;
 
-/// When an equation has its turn: those that it reads have theirs before.
+/// When an equation has its turn: its readers have theirs before.
 #[derive(Clone, Copy)]
 pub struct Turn {
     pub at: usize,
@@ -48,13 +49,13 @@ fn turns_of(alloc: Global, eqns: &[FlatEqn]) -> Result<Vec<Turn>, AllocError>
     Ok(turns)
 }
 
-/// The equations by number, in the order of their places.
+/// The equations by number, from the greatest place to the least.
 fn turns(alloc: Global, eqns: &[FlatEqn]) -> Result<Vec<Turn>, AllocError>
     ensures all { IfOk result (λ turns. IsPermutation (turns_from 0 eqns.now) turns.items) }
-    ensures order { IfOk result (λ turns. IsNonDecreasingBy (λ (turn : Turn). turn.at) turns.items) }
+    ensures order { IfOk result (λ turns. IsSortedBy turns_before turns.items) }
 {
     let mut turns = turns_of(alloc, eqns)?;
-    turns.sort_by_key(|turn| turn.at)?;
+    turns.sort_by_key(|turn| Reverse(turn.at))?;
     Ok(turns)
 }
 
@@ -88,7 +89,7 @@ fn note_turns(
     Ok(())
 }
 
-/// How far the equations reach that define each of so many variables.
+/// How far the equations reach that read each of so many variables.
 fn reaches(alloc: Global, variables: usize, eqns: &[FlatEqn]) -> Result<Vec<Reach>, AllocError>
     ensures { IfOk result (λ table. IsNoted variables eqns.now table.items) }
 {
@@ -124,13 +125,13 @@ fn weigh(
     Ok(weighed)
 }
 
-/// By level, then by control, then by height.
+/// By level, the greatest first, then by control, then by height, the greatest first.
 fn in_order(mut weighed: Vec<Weighed>) -> Result<Vec<Weighed>, AllocError>
     ensures same { IfOk result (λ ordered. IsPermutation weighed.items ordered.items) }
     ensures sorted { IfOk result (λ ordered. IsSortedBy weighed_before ordered.items) }
     ensures stable { IfOk result (λ ordered. IsStableBy weighed_before weighed.items ordered.items) }
 {
-    weighed.sort_by_key(|one| (one.weight.level, (one.weight.control, one.weight.height)))?;
+    weighed.sort_by_key(|one| (Reverse(one.weight.level), (one.weight.control, Reverse(one.weight.height))))?;
     Ok(weighed)
 }
 
@@ -159,7 +160,7 @@ fn place(alloc: Global, weighed: Vec<Weighed>) -> Result<Vec<FlatEqn>, AllocErro
 fn by_clock(alloc: Global, variables: usize, eqns: Vec<FlatEqn>) -> Result<Vec<FlatEqn>, AllocError>
     ensures same { IfOk result (λ scheduled. IsPermutation (map unplaced eqns.items) (map unplaced scheduled.items)) }
     ensures order { IfOk result (λ scheduled. IsInOrder scheduled.items) }
-    ensures by_clock { IfOk result (λ scheduled. IsRanked eqns.items → AllByRecursion (λ (e : EqnSeen). AreBelow variables e.targets) eqns.items → IsByClock variables eqns.items scheduled.items) }
+    ensures by_clock { IfOk result (λ scheduled. IsRanked eqns.items → AllByRecursion (λ (e : EqnSeen). AreBelow variables (reads e)) eqns.items → IsByClock variables eqns.items scheduled.items) }
 {
     let table = reaches(alloc, variables, &eqns)?;
     let weighed = weigh(alloc, variables, &table, eqns)?;
@@ -168,7 +169,7 @@ fn by_clock(alloc: Global, variables: usize, eqns: Vec<FlatEqn>) -> Result<Vec<F
     Ok(placed)
 }
 
-/// The node with its equations in the order by clock, where their places before were ranks and targets are variables of the node.
+/// The node with its equations in the order by clock, where their places before were ranks and it reads its own variables.
 pub fn schedule_by_clock(alloc: Global, node: FlatNode) -> Result<Scheduled, AllocError>
     ensures name { IfOk result (λ scheduled. scheduled.node.name ≡ node.name) }
     ensures variables { IfOk result (λ scheduled. scheduled.node.variables ≡ node.variables) }
@@ -176,7 +177,7 @@ pub fn schedule_by_clock(alloc: Global, node: FlatNode) -> Result<Scheduled, All
     ensures outputs { IfOk result (λ scheduled. scheduled.node.outputs ≡ node.outputs) }
     ensures same { IfOk result (λ scheduled. IsPermutation (map unplaced node.eqns) (map unplaced scheduled.node.eqns)) }
     ensures order { IfOk result (λ scheduled. IsInOrder scheduled.node.eqns) }
-    ensures by_clock { IfOk result (λ scheduled. IsRanked node.eqns → AllByRecursion (λ (e : EqnSeen). AreBelow (length node.variables) e.targets) node.eqns → IsByClock (length node.variables) node.eqns scheduled.node.eqns) }
+    ensures by_clock { IfOk result (λ scheduled. IsRanked node.eqns → AllByRecursion (λ (e : EqnSeen). AreBelow (length node.variables) (reads e)) node.eqns → IsByClock (length node.variables) node.eqns scheduled.node.eqns) }
 {
     let FlatNode {
         name,

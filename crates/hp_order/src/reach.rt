@@ -1,4 +1,4 @@
-//! How far equations reach: the longest paths of reads to them.
+//! How far equations reach: the longest paths of readers from them.
 ghost use Rattle.std.specs.Prelude.{◌≡◌, ◌<◌, get_or, length, IfOk, OnOk};
 ghost use Rattle.std.specs.List.{flat_map};
 ghost use Rattle.std.proofs.Math.ListN.{replicate};
@@ -14,28 +14,28 @@ use std::alloc::AllocError;
 /// By what an equation is ordered.
 #[derive(Clone, Copy)]
 pub struct Weight {
-    /// How often controls change on a path of reads to it.
+    /// How often controls change on a path of readers from it.
     pub level: usize,
     /// The outermost variable of its clock, or a number for the base clock.
     pub control: usize,
-    /// How many equations stand before it on a path of reads.
+    /// How many equations stand behind it on a path of readers.
     pub height: usize,
 }
 
-/// How far the equations reach that define a variable.
+/// How far the equations reach that read a variable.
 #[derive(Clone, Copy)]
 pub struct Reach {
-    /// The level that a reader has at least.
+    /// The level that an equation has at least that defines the variable.
     pub outside: usize,
-    /// The control whose readers may have one level less.
+    /// The control whose equations may have one level less.
     pub control: usize,
     pub is_lower: bool,
-    /// The height that a reader has at least.
+    /// The height that an equation has at least that defines the variable.
     pub height: usize,
 }
 
 impl Reach {
-    /// Of a variable that no equation defines.
+    /// Of a variable that no equation reads.
     pub fn unmet() -> Reach
         ensures { result ≡ unmet }
     {
@@ -47,7 +47,7 @@ impl Reach {
         }
     }
 
-    /// The level that a reader with this control has at least.
+    /// The level that an equation with this control has at least that defines the variable.
     fn seen_from(self, control: usize) -> usize
         ensures { result ≡ seen_from control self }
     {
@@ -58,7 +58,7 @@ impl Reach {
         }
     }
 
-    /// With one equation more that defines the variable.
+    /// With one equation more that reads the variable.
     fn met(self, weight: Weight) -> Result<Reach, AllocError>
         ensures { IfOk result (λ reach. reach ≡ met weight self) }
     {
@@ -122,43 +122,6 @@ fn raise_all(table: &[Reach], variables: &[usize], weight: &mut Weight)
     }
 }
 
-#[tactic(auto, using(crate::proofs::Rules::raising))]
-fn raise_clock(table: &[Reach], clock: &[(usize, u8)], weight: &mut Weight)
-    ensures { weight.new ≡ raised_all table.now (clock_variables clock.now) weight.old }
-{
-    for (variable, _constructor) in clock {
-        raise(table, *variable, weight);
-    }
-}
-
-fn raise_atom(table: &[Reach], atom: Atom, weight: &mut Weight)
-    ensures { weight.new ≡ raised_all table.now (atom_variables atom) weight.old }
-{
-    if let Atom::Variable(variable) = atom {
-        raise(table, variable, weight);
-    }
-}
-
-#[tactic(auto, using(crate::proofs::Rules::raising))]
-fn raise_atoms(table: &[Reach], atoms: &[Atom], weight: &mut Weight)
-    ensures { weight.new ≡ raised_all table.now (flat_map atom_variables atoms.now) weight.old }
-{
-    for atom in atoms {
-        raise_atom(table, *atom, weight);
-    }
-}
-
-/// What the right side reads. A register reads nothing at this instant.
-fn raise_right(table: &[Reach], right: &FlatRight, weight: &mut Weight)
-    ensures { weight.new ≡ raised_all table.now (right_reads (right_seen right.now)) weight.old }
-{
-    match right {
-        FlatRight::Op(_, args) => raise_atoms(table, args, weight),
-        FlatRight::Register { first: _, next: _ } => {}
-        FlatRight::Call { node: _, args } => raise_atoms(table, args, weight),
-    }
-}
-
 /// The outermost variable of the clock, or the base.
 fn control_of(base: usize, eqn: &FlatEqn) -> usize
     ensures { result ≡ control base eqn.now }
@@ -169,16 +132,7 @@ fn control_of(base: usize, eqn: &FlatEqn) -> usize
     }
 }
 
-#[tactic(auto, using(crate::proofs::Rules::joining))]
-fn raise_reads(table: &[Reach], eqn: &FlatEqn, weight: &mut Weight)
-    ensures { weight.new ≡ raised_all table.now (reads eqn.now) weight.old }
-{
-    raise_clock(table, &eqn.clock, weight);
-    raise_all(table, &eqn.restart, weight);
-    raise_right(table, &eqn.right, weight);
-}
-
-/// The weight of an equation, where those are noted that it reads.
+/// The weight of an equation, where those are noted that read it.
 pub fn weight_of(base: usize, table: &[Reach], eqn: &FlatEqn) -> Weight
     ensures { result ≡ weight_of base table.now eqn.now }
 {
@@ -187,7 +141,7 @@ pub fn weight_of(base: usize, table: &[Reach], eqn: &FlatEqn) -> Weight
         control: control_of(base, eqn),
         height: 0,
     };
-    raise_reads(table, eqn, &mut weight);
+    raise_all(table, &eqn.targets, &mut weight);
     weight
 }
 
@@ -212,10 +166,59 @@ fn note_all(table: &mut [Reach], weight: Weight, variables: &[usize]) -> Result<
     Ok(())
 }
 
-/// Notes what the equation defines.
+#[tactic(auto, using(crate::proofs::Rules::noting))]
+fn note_clock(table: &mut [Reach], weight: Weight, clock: &[(usize, u8)]) -> Result<(), AllocError>
+    ensures { OnOk result (table.new ≡ noted_all weight (clock_variables clock.now) table.old) }
+{
+    for (variable, _constructor) in clock {
+        note_one(table, weight, *variable)?;
+    }
+    Ok(())
+}
+
+fn note_atom(table: &mut [Reach], weight: Weight, atom: Atom) -> Result<(), AllocError>
+    ensures { OnOk result (table.new ≡ noted_all weight (atom_variables atom) table.old) }
+{
+    if let Atom::Variable(variable) = atom {
+        note_one(table, weight, variable)?;
+    }
+    Ok(())
+}
+
+#[tactic(auto, using(crate::proofs::Rules::noting))]
+fn note_atoms(table: &mut [Reach], weight: Weight, atoms: &[Atom]) -> Result<(), AllocError>
+    ensures { OnOk result (table.new ≡ noted_all weight (flat_map atom_variables atoms.now) table.old) }
+{
+    for atom in atoms {
+        note_atom(table, weight, *atom)?;
+    }
+    Ok(())
+}
+
+/// Notes what the right side reads. A register reads nothing at this instant.
+fn note_right(table: &mut [Reach], weight: Weight, right: &FlatRight) -> Result<(), AllocError>
+    ensures { OnOk result (table.new ≡ noted_all weight (right_reads (right_seen right.now)) table.old) }
+{
+    match right {
+        FlatRight::Op(_, args) => note_atoms(table, weight, args),
+        FlatRight::Register { first: _, next: _ } => Ok(()),
+        FlatRight::Call { node: _, args } => note_atoms(table, weight, args),
+    }
+}
+
+#[tactic(auto, using(crate::proofs::Rules::joining))]
+fn note_reads(table: &mut [Reach], weight: Weight, eqn: &FlatEqn) -> Result<(), AllocError>
+    ensures { OnOk result (table.new ≡ noted_all weight (reads eqn.now) table.old) }
+{
+    note_clock(table, weight, &eqn.clock)?;
+    note_all(table, weight, &eqn.restart)?;
+    note_right(table, weight, &eqn.right)
+}
+
+/// Notes what the equation reads.
 pub fn note(base: usize, table: &mut [Reach], eqn: &FlatEqn) -> Result<(), AllocError>
     ensures { OnOk result (table.new ≡ noted base eqn.now table.old) }
 {
     let weight = weight_of(base, table, eqn);
-    note_all(table, weight, &eqn.targets)
+    note_reads(table, weight, eqn)
 }
