@@ -11,7 +11,7 @@ use Rattle.hp_obc.specs.Machines.{ObcType, Machine}
 use Rattle.hp_schedule.specs.Order.{IsInOrder}
 use Rattle.hp_order.specs.ByClock.{IsByClock}
 use Rattle.law_equations.specs.Made.Laws.{unplaced}
-use Rattle.law_equations.specs.Meaning.Scheduling.{AreBelow, IsRanked}
+use Rattle.law_equations.specs.Meaning.Scheduling.{reads, AreBelow, IsRanked}
 use Rattle.hp_toobc.specs.Making.{machine_of}
 use Rattle.hp_fuse.specs.Fusing.{fused_machine}
 use Rattle.hp_machines.specs.Flattened.{heading_of_flat}
@@ -44,7 +44,7 @@ with-others n k name variables inputs outputs = λ i. record { name = name i; va
 
 pub made-one : (types : List ObcType) (n scheduled plain : FlatNode) (raw m : Machine) → scheduled.name ≡ n.name → scheduled.variables ≡ n.variables → scheduled.inputs ≡ n.inputs → scheduled.outputs ≡ n.outputs →
     IsPermutation (map unplaced n.eqns) (map unplaced scheduled.eqns) → IsInOrder scheduled.eqns →
-    (IsRanked n.eqns → AllByRecursion (λ (e : FlatEqn). AreBelow (length n.variables) e.targets) n.eqns → IsByClock (length n.variables) n.eqns scheduled.eqns) →
+    (IsRanked n.eqns → AllByRecursion (λ (e : FlatEqn). AreBelow (length n.variables) (reads e)) n.eqns → IsByClock (length n.variables) n.eqns scheduled.eqns) →
     plain ≡ normal scheduled → raw ≡ machine_of types plain → m ≡ fused_machine raw → IsArrangedAs types n m
 made-one types n scheduled plain raw m name variables inputs outputs same order by_clock p r f =
     let arranged = with-others n scheduled name variables inputs outputs in

@@ -1,11 +1,13 @@
 -- A program has one list of machines: its nodes are made but for places, and places do not tell the order by clock.
 use Rattle.std.proofs.Common.{◌≡◌, ◌<◌, ℕ, Bool, true, false, cond, List, [], ◌∷◌, length, map, refl, sym, ap, subst, ◌∙◌, Option}
-use Rattle.std.specs.List.{AllByRecursion, filter}
-use Rattle.std.proofs.lemmas.List.Elements.{recursion_from_All}
+use Rattle.std.specs.List.{AllByRecursion, filter, flat_map}
+use Rattle.std.proofs.lemmas.List.Elements.{All-map, recursion_from_All}
 use Rattle.hp_obc.specs.Machines.{ObcType, Machine, Obc}
 use Rattle.hp_tree.specs.declared.program.Item.{Item}
 use Rattle.hp_tree.specs.declared.program.Item.TheVariants.{TypeItem, NodeItem}
-use Rattle.hp_flat.specs.Equations.{FlatEqn}
+use Rattle.hp_flat.specs.declared.equation.Atom.{Atom}
+use Rattle.hp_flat.specs.declared.equation.Atom.TheVariants.{Variable, Value}
+use Rattle.hp_flat.specs.Equations.{Right, operator, register, called, FlatEqn}
 use Rattle.hp_flat.specs.Nodes.{FlatNode}
 use Rattle.hp_fuse.specs.Fusing.{fused_machine}
 use Rattle.hp_normal.specs.Normal.{normal}
@@ -13,15 +15,17 @@ use Rattle.hp_normal.specs.Retargeting.{with_eqns}
 use Rattle.hp_toobc.specs.Making.{machine_of}
 use Rattle.law_equations.specs.Made.Laws.{unplaced}
 use Rattle.law_equations.specs.Made.Making.{Known}
+use Rattle.law_equations.specs.Meaning.Fitting.{atom_variables}
 use Rattle.law_equations.specs.Meaning.Reactions.{has}
-use Rattle.law_equations.specs.Meaning.Scheduling.{AreBelow, reads, IsDefinedBelow, IsRanked}
+use Rattle.law_equations.specs.Meaning.Scheduling.{AreBelow, clock_variables, right_reads, reads, IsDefinedBelow, IsRanked}
 use Rattle.law_equations.proofs.FewerLemmas.Members.{each_map}
 use Rattle.hp_automata.specs.Lowering.{lowered_program}
 use Rattle.hp_complete.specs.Declaring.{known_of}
 use Rattle.hp_complete.specs.Made.{IsMadeOf, AreMadeOf}
-use Rattle.hp_complete.specs.Ranges.{EqnWithin, IsInRange}
+use Rattle.hp_complete.specs.Ranges.{AtomWithin, EqnWithin, IsInRange, RightWithin}
 use Rattle.hp_complete.specs.Signatures.{AreFlat, places_of}
 use Rattle.hp_order.specs.ByClock.{IsByClock}
+use Rattle.hp_order.proofs.ReadLaws.{reads-below}
 use Rattle.hp_order.proofs.UniqueLaws.{one_by_clock}
 use Rattle.hp_machines.specs.Machined.{AreMachinesOf}
 use Rattle.hp_machines.specs.Making.{AreMade, IsMachineOf, defines_some, giving}
@@ -54,12 +58,27 @@ given_ranked es h =
 
 -- ---- one node
 
-abbrev TargetsBelow : ℕ → List FlatEqn → Type 0
-TargetsBelow n es = AllByRecursion (λ (e : FlatEqn). AreBelow n e.targets) es
+abbrev ReadsBelow : ℕ → List FlatEqn → Type 0
+ReadsBelow n es = AllByRecursion (λ (e : FlatEqn). AreBelow n (reads e)) es
 
-in_range : (f : FlatNode) → IsInRange f → TargetsBelow (length f.variables) f.eqns
+atoms_below : (n : ℕ) (args : List Atom) → AllByRecursion (AtomWithin n) args → AreBelow n (flat_map atom_variables args)
+atoms_below n [] h = tt
+atoms_below n (Variable x ∷ args) h = (h.0, atoms_below n args h.1)
+atoms_below n (Value v ∷ args) h = atoms_below n args h.1
+
+right_below : (n : ℕ) (r : Right) → RightWithin n r → AreBelow n (right_reads r)
+right_below n (operator op args) h = atoms_below n args (recursion_from_All (AtomWithin n) args h)
+right_below n (register first next) h = tt
+right_below n (called f args) h = atoms_below n args (recursion_from_All (AtomWithin n) args h)
+
+eqn_below : (n : ℕ) (e : FlatEqn) → EqnWithin n e → AreBelow n (reads e)
+eqn_below n e w =
+    reads-below n e (recursion_from_All (λ x. x < n) (clock_variables e.clock) (All-map (λ x. x < n) (λ (on : ℕ × ℕ). on.0) e.clock w.clock)) (recursion_from_All (λ x. x < n) e.restart w.restart)
+    (right_below n e.right w.right)
+
+in_range : (f : FlatNode) → IsInRange f → ReadsBelow (length f.variables) f.eqns
 in_range f h =
-    each_map (EqnWithin (length f.variables)) (λ (e : FlatEqn). AreBelow (length f.variables) e.targets) (λ e w. recursion_from_All (λ x. x < length f.variables) e.targets w.targets) f.eqns
+    each_map (EqnWithin (length f.variables)) (λ (e : FlatEqn). AreBelow (length f.variables) (reads e)) (eqn_below (length f.variables)) f.eqns
     (recursion_from_All (EqnWithin (length f.variables)) f.eqns h.eqns)
 
 module _ (types : List ObcType) (n k : FlatNode) (name : n.name ≡ k.name) (variables : n.variables ≡ k.variables) (inputs : n.inputs ≡ k.inputs) (outputs : n.outputs ≡ k.outputs)
@@ -67,14 +86,14 @@ module _ (types : List ObcType) (n k : FlatNode) (name : n.name ≡ k.name) (var
   given_alike : map unplaced (giving n).eqns ≡ map unplaced (giving k).eqns
   given_alike = given_plain n.eqns ∙ ap (filter defines_some) plain ∙ sym (given_plain k.eqns)
 
-  one_machine : (m l : Machine) → IsRanked n.eqns → IsRanked k.eqns → TargetsBelow (length n.variables) n.eqns → TargetsBelow (length k.variables) k.eqns → IsMachineOf types n m → IsMachineOf types k l → m ≡ l
+  one_machine : (m l : Machine) → IsRanked n.eqns → IsRanked k.eqns → ReadsBelow (length n.variables) n.eqns → ReadsBelow (length k.variables) k.eqns → IsMachineOf types n m → IsMachineOf types k l → m ≡ l
   one_machine m l r q u v h g =
       let a = h.arranged in
       let b = g.arranged in
       let first : IsByClock (length n.variables) (giving n).eqns a.scheduled =
-      a.by_clock (given_ranked n.eqns r) (each_given (λ (e : FlatEqn). AreBelow (length n.variables) e.targets) n.eqns u) in
+      a.by_clock (given_ranked n.eqns r) (each_given (λ (e : FlatEqn). AreBelow (length n.variables) (reads e)) n.eqns u) in
       let second : IsByClock (length k.variables) (giving k).eqns b.scheduled =
-      b.by_clock (given_ranked k.eqns q) (each_given (λ (e : FlatEqn). AreBelow (length k.variables) e.targets) k.eqns v) in
+      b.by_clock (given_ranked k.eqns q) (each_given (λ (e : FlatEqn). AreBelow (length k.variables) (reads e)) k.eqns v) in
       let moved : IsByClock (length n.variables) (giving k).eqns b.scheduled = subst (λ c. IsByClock c (giving k).eqns b.scheduled) (sym (ap length variables)) second in
       let scheduled : a.scheduled ≡ b.scheduled = one_by_clock (length n.variables) (giving n).eqns (giving k).eqns a.scheduled b.scheduled given_alike first moved in
       let node : with_eqns (giving n) a.scheduled ≡ with_eqns (giving k) b.scheduled = λ i. record { name = name i; variables = variables i; inputs = inputs i; outputs = outputs i; eqns = scheduled i } in

@@ -7,7 +7,7 @@ use Rattle.hp_flat.specs.Nodes.{FlatNode}
 use Rattle.hp_obc.specs.Machines.{ObcType, Machine}
 use Rattle.hp_schedule.specs.Order.{IsInOrder}
 use Rattle.law_equations.specs.Made.Laws.{unplaced}
-use Rattle.law_equations.specs.Meaning.Scheduling.{AreBelow, IsRanked}
+use Rattle.law_equations.specs.Meaning.Scheduling.{reads, AreBelow, IsRanked}
 use Rattle.hp_order.specs.ByClock.{IsByClock}
 use Rattle.hp_normal.specs.Retargeting.{with_eqns}
 use Rattle.hp_normal.specs.Normal.{normal}
@@ -20,7 +20,7 @@ pub record IsArrangedAs (types : List ObcType) (n : FlatNode) (m : Machine) : Ty
   pub scheduled : List FlatEqn
   pub same : IsPermutation (map unplaced n.eqns) (map unplaced scheduled)
   pub order : IsInOrder scheduled
-  pub by_clock : IsRanked n.eqns → AllByRecursion (λ (e : FlatEqn). AreBelow (length n.variables) e.targets) n.eqns → IsByClock (length n.variables) n.eqns scheduled
+  pub by_clock : IsRanked n.eqns → AllByRecursion (λ (e : FlatEqn). AreBelow (length n.variables) (reads e)) n.eqns → IsByClock (length n.variables) n.eqns scheduled
   pub made : m ≡ fused_machine (machine_of types (normal (with_eqns n scheduled)))
 
 -- an equation defines a variable; one that does not, as `() = f(x)`, gives no value

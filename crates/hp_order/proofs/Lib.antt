@@ -6,3 +6,4 @@ pub mod PathLaws
 pub mod UniqueLaws
 pub mod OrderLaws
 pub mod PlacedLaws
+pub mod ReadLaws

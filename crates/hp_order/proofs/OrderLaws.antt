@@ -71,10 +71,10 @@ eqns_back (e ∷ es) before k h =
     ∙ eqns_back es (before ++ e ∷ []) (suc k) (omega (arith, length-append before (e ∷ []))) in
     (λ i. here i ∷ next i)
 
-turns_noted : (base : ℕ) (es : List FlatEqn) (ts : List Turn) (table : List Reach) → AllByRecursion (IsTurn es) ts → noted_turns base es ts table ≡ noted_eqns base (map (eqn_at es) ts) table
-turns_noted base es [] table h = refl
-turns_noted base es (t ∷ ts) table h =
-    ap (λ b. noted_turns base es ts (if b then noted base (eqn_at es t) table else table)) (lt-ltb t.index (length es) (h.0).inside) ∙ turns_noted base es ts (noted base (eqn_at es t) table) h.1
+turns_noted : (depth base : ℕ) (es : List FlatEqn) (ts : List Turn) (table : List Reach) → AllByRecursion (IsTurn es) ts → noted_turns depth base es ts table ≡ noted_eqns depth base (map (eqn_at es) ts) table
+turns_noted depth base es [] table h = refl
+turns_noted depth base es (t ∷ ts) table h =
+    ap (λ b. noted_turns depth base es ts (if b then noted depth base (eqn_at es t) table else table)) (lt-ltb t.index (length es) (h.0).inside) ∙ turns_noted depth base es ts (noted depth base (eqn_at es t) table) h.1
 
 -- ---- turns from the greatest place to the least
 
@@ -96,7 +96,7 @@ module _ (es : List FlatEqn) where
   turns_fall [] h u = tt
   turns_fall (t ∷ ts) h u = (lower t h.0 ts h.1 u.0, turns_fall ts h.1 u.1)
 
-module _ (base : ℕ) (es : List FlatEqn) (table : List Reach) (h : IsNoted base es table) (ranked : IsRanked es) (within : AllByRecursion (λ (d : FlatEqn). AreBelow base (reads d)) es) where
+module _ (depth base : ℕ) (es : List FlatEqn) (table : List Reach) (h : IsNoted depth base es table) (ranked : IsRanked es) (within : AllByRecursion (λ (d : FlatEqn). AreBelow base (reads d)) es) where
   abbrev turned : List FlatEqn
   turned = map (eqn_at es) h.turns
 
@@ -116,42 +116,50 @@ module _ (base : ℕ) (es : List FlatEqn) (table : List Reach) (h : IsNoted base
   in_turn : IsAwaited turned
   in_turn = awaited turned ranked_turned (turns_fall es h.turns are_turns (sorted-rises turns_before turns_weak h.turns h.order))
 
-  noted_is : noted_eqns base turned (replicate base unmet) ≡ table
-  noted_is = sym (turns_noted base es h.turns (replicate base unmet) are_turns) ∙ sym h.noted_are
+  noted_is : noted_eqns depth base turned (replicate base unmet) ≡ table
+  noted_is = sym (turns_noted depth base es h.turns (replicate base unmet) are_turns) ∙ sym h.noted_are
 
   read_within : AllByRecursion (λ (d : FlatEqn). AreBelow (length (replicate base unmet)) (reads d)) turned
   read_within = each_map (λ (d : FlatEqn). AreBelow base (reads d)) (λ (d : FlatEqn). AreBelow (length (replicate base unmet)) (reads d))
       (λ d q. subst (λ n. AreBelow n (reads d)) (sym (length-replicate base unmet)) q) turned (each_moved (λ (d : FlatEqn). AreBelow base (reads d)) es turned same_turned within)
 
-  pub levels_are : IsLongest (change base) (λ e. (weight_of base table e).level) es
-  levels_are = longest-moved (change base) (λ e. (weight_of base table e).level) turned es (IsPermutation-sym es turned same_turned) (levels_by base turned table noted_is in_turn read_within)
+  pub levels_are : IsLongest (change depth base) (λ e. (weight_of depth base table e).level) es
+  levels_are = longest-moved (change depth base) (λ e. (weight_of depth base table e).level) turned es (IsPermutation-sym es turned same_turned) (levels_by depth base turned table noted_is in_turn read_within)
 
-  pub heights_are : IsLongest one (λ e. (weight_of base table e).height) es
-  heights_are = longest-moved one (λ e. (weight_of base table e).height) turned es (IsPermutation-sym es turned same_turned) (heights_by base turned table noted_is in_turn read_within)
+  pub heights_are : IsLongest one (λ e. (weight_of depth base table e).height) es
+  heights_are = longest-moved one (λ e. (weight_of depth base table e).height) turned es (IsPermutation-sym es turned same_turned) (heights_by depth base turned table noted_is in_turn read_within)
 
 -- ---- weights
 
-module _ (base : ℕ) (table : List Reach) where
+module _ (base : ℕ) (outers inners : List Reach) where
   abbrev weigh : FlatEqn → Weighed
-  weigh e = weighed_by base table e
+  weigh e = weighed_by base outers inners e
 
   abbrev plain : Weighed → FlatEqn
   plain w = w.eqn
 
   abbrev level : FlatEqn → ℕ
-  level e = (weight_of base table e).level
+  level e = (weight_of 0 base outers e).level
+
+  abbrev within : FlatEqn → ℕ
+  within e = (weight_of 1 base inners e).level
 
   abbrev height : FlatEqn → ℕ
-  height e = (weight_of base table e).height
+  height e = (weight_of 0 base outers e).height
 
   back : (es : List FlatEqn) → map plain (map weigh es) ≡ es
   back [] = refl
   back (e ∷ es) = ap (λ ds. e ∷ ds) (back es)
 
-  before_same : (d e : FlatEqn) → weighed_before (weigh d) (weigh e) ≡ comes_before base level height d e
-  before_same d e = λ i. is_lt (ordering_then (nat_cmp (level e) (level d)) (ordering_then (nat_cmp (control_of_weight base table d i) (control_of_weight base table e i)) (nat_cmp (height e) (height d))))
+  before_same : (d e : FlatEqn) → weighed_before (weigh d) (weigh e) ≡ comes_before base level within height d e
+  before_same d e = λ i. is_lt
+      (ordering_then (nat_cmp (level e) (level d))
+      (ordering_then (nat_cmp (control_of_weight 0 base outers d i) (control_of_weight 0 base outers e i))
+      (ordering_then (nat_cmp (within e) (within d))
+      (ordering_then (nat_cmp (control_of_weight 1 base inners d i) (control_of_weight 1 base inners e i))
+      (nat_cmp (height e) (height d))))))
 
-  ties_same : (x e : FlatEqn) → ties weighed_before (weigh x) (weigh e) ≡ ties (comes_before base level height) x e
+  ties_same : (x e : FlatEqn) → ties weighed_before (weigh x) (weigh e) ≡ ties (comes_before base level within height) x e
   ties_same x e = λ i. not (before_same x e i) && not (before_same e x i)
 
   filtered : (p : Weighed → Bool) (q : FlatEqn → Bool) → ((e : FlatEqn) → p (weigh e) ≡ q e) → (es : List FlatEqn) → filter p (map weigh es) ≡ map weigh (filter q es)
@@ -180,7 +188,7 @@ module _ (base : ℕ) (table : List Reach) where
     pub eqns_same : IsPermutation es eqns
     eqns_same = subst (λ ds. IsPermutation ds eqns) (back es) (IsPermutation-map plain (map weigh es) ordered same)
 
-    pub eqns_sorted : IsSortedBy weighed_before ordered → IsSortedBy (comes_before base level height) eqns
+    pub eqns_sorted : IsSortedBy weighed_before ordered → IsSortedBy (comes_before base level within height) eqns
     eqns_sorted h k d le lt =
         let up : IsSortedBy weighed_before (map weigh eqns) = subst (IsSortedBy weighed_before) (sym again) h in
         let count : length (map weigh eqns) ≡ length eqns = length-map eqns weigh in
@@ -188,16 +196,16 @@ module _ (base : ℕ) (table : List Reach) where
         ∙ sym (λ i. weighed_before (get_or-mapped weigh eqns (k + 1) d i) (get_or-mapped weigh eqns k d i))
         ∙ up k (weigh d) le (omega (arith, count))
 
-    pub eqns_stable : IsStableBy weighed_before (map weigh es) ordered → IsStableBy (comes_before base level height) es eqns
+    pub eqns_stable : IsStableBy weighed_before (map weigh es) ordered → IsStableBy (comes_before base level within height) es eqns
     eqns_stable h x =
         let t = ties weighed_before (weigh x) in
-        let u = ties (comes_before base level height) x in
+        let u = ties (comes_before base level within height) x in
         let there : map weigh (filter u eqns) ≡ map weigh (filter u es) = sym (filtered t u (ties_same x) eqns) ∙ ap (filter t) again ∙ h (weigh x) ∙ filtered t u (ties_same x) es in
         sym (back (filter u eqns)) ∙ ap (map plain) there ∙ back (filter u es)
 
-module _ (base : ℕ) (es : List FlatEqn) (table : List Reach) (weighed ordered : List Weighed) (scheduled : List FlatEqn) (is : weighed ≡ map (weighed_by base table) es)
+module _ (base : ℕ) (es : List FlatEqn) (outers inners : List Reach) (weighed ordered : List Weighed) (scheduled : List FlatEqn) (is : weighed ≡ map (weighed_by base outers inners) es)
     (same : IsPermutation weighed ordered) (placed : scheduled ≡ numbered 0 (map (λ (w : Weighed). w.eqn) ordered)) where
-  same_weighed : IsPermutation (map (weighed_by base table) es) ordered
+  same_weighed : IsPermutation (map (weighed_by base outers inners) es) ordered
   same_weighed = subst (λ ws. IsPermutation ws ordered) is same
 
   unplaced_numbered : (k : ℕ) (ds : List FlatEqn) → map unplaced (numbered k ds) ≡ map unplaced ds
@@ -206,18 +214,21 @@ module _ (base : ℕ) (es : List FlatEqn) (table : List Reach) (weighed ordered 
 
   pub same-eqns : IsPermutation (map unplaced es) (map unplaced scheduled)
   same-eqns = subst (IsPermutation (map unplaced es)) (sym (ap (map unplaced) placed ∙ unplaced_numbered 0 (map (λ (w : Weighed). w.eqn) ordered)))
-      (IsPermutation-map unplaced es (map (λ (w : Weighed). w.eqn) ordered) (eqns_same base table es ordered same_weighed))
+      (IsPermutation-map unplaced es (map (λ (w : Weighed). w.eqn) ordered) (eqns_same base outers inners es ordered same_weighed))
 
-  pub made-by_clock : IsNoted base es table → IsSortedBy weighed_before ordered → IsStableBy weighed_before weighed ordered → IsRanked es → AllByRecursion (λ (d : FlatEqn). AreBelow base (reads d)) es → IsByClock base es scheduled
-  made-by_clock noted_so sorted stable ranked within = record {
-    level = λ e. (weight_of base table e).level;
-    height = λ e. (weight_of base table e).height;
-    levels = levels_are base es table noted_so ranked within;
-    heights = heights_are base es table noted_so ranked within;
+  pub made-by_clock : IsNoted 0 base es outers → IsNoted 1 base es inners → IsSortedBy weighed_before ordered → IsStableBy weighed_before weighed ordered → IsRanked es → AllByRecursion (λ (d : FlatEqn). AreBelow base (reads d)) es
+      → IsByClock base es scheduled
+  made-by_clock first second sorted stable ranked read_within = record {
+    level = λ e. (weight_of 0 base outers e).level;
+    within = λ e. (weight_of 1 base inners e).level;
+    height = λ e. (weight_of 0 base outers e).height;
+    levels = levels_are 0 base es outers first ranked read_within;
+    withins = levels_are 1 base es inners second ranked read_within;
+    heights = heights_are 0 base es outers first ranked read_within;
     ordered = map (λ (w : Weighed). w.eqn) ordered;
-    same = eqns_same base table es ordered same_weighed;
-    sorted = eqns_sorted base table es ordered same_weighed sorted;
-    stable = eqns_stable base table es ordered same_weighed (subst (λ ws. IsStableBy weighed_before ws ordered) is stable);
+    same = eqns_same base outers inners es ordered same_weighed;
+    sorted = eqns_sorted base outers inners es ordered same_weighed sorted;
+    stable = eqns_stable base outers inners es ordered same_weighed (subst (λ ws. IsStableBy weighed_before ws ordered) is stable);
     places = placed;
   }
 

@@ -173,9 +173,9 @@ unnoted w (y ∷ xs) table x h =
     unnoted w xs (noted_one w y table) x (or_second (nat_eq y x) (has xs x) h)
     ∙ get_or-set_other table y x (met w (reach_of table y)) unmet (not_turned y x (or_first (nat_eq y x) (has xs x) h))
 
-unnoted_eqns : (base : ℕ) (es : List FlatEqn) (table : List Reach) (x : ℕ) → IsUnread es x → reach_of (noted_eqns base es table) x ≡ reach_of table x
-unnoted_eqns base [] table x h = refl
-unnoted_eqns base (e ∷ es) table x h = unnoted_eqns base es (noted base e table) x h.1 ∙ unnoted (weight_of base table e) (reads e) table x h.0
+unnoted_eqns : (depth base : ℕ) (es : List FlatEqn) (table : List Reach) (x : ℕ) → IsUnread es x → reach_of (noted_eqns depth base es table) x ≡ reach_of table x
+unnoted_eqns depth base [] table x h = refl
+unnoted_eqns depth base (e ∷ es) table x h = unnoted_eqns depth base es (noted depth base e table) x h.1 ∙ unnoted (weight_of depth base table e) (reads e) table x h.0
 
 length_noted : (w : Weight) (xs : List ℕ) (table : List Reach) → length (noted_all w xs table) ≡ length table
 length_noted w [] table = refl
@@ -232,37 +232,37 @@ module _ (value : Reach → ℕ) (gain : Weight → ℕ) (law : (w : Weight) (r 
       all_up w xs (noted_one w y table) (below_same (length table) (length (noted_one w y table)) xs (length-set table y (met w (reach_of table y))) b.1)
       (one_up (nat_eq y x) w y table refl b.0 h (λ q. g (or_left (nat_eq y x) (has xs x) q))) (λ q. g (or_right (nat_eq y x) (has xs x) q))
 
-  module _ (base : ℕ) (final : List Reach) where
+  module _ (depth base : ℕ) (final : List Reach) where
     -- the weight of an equation is that by all that is noted in the end
-    at_end : (e : FlatEqn) (es : List FlatEqn) (table : List Reach) → noted_eqns base (e ∷ es) table ≡ final → AllByRecursion (IsUnread (e ∷ es)) e.targets → weight_of base table e ≡ weight_of base final e
+    at_end : (e : FlatEqn) (es : List FlatEqn) (table : List Reach) → noted_eqns depth base (e ∷ es) table ≡ final → AllByRecursion (IsUnread (e ∷ es)) e.targets → weight_of depth base table e ≡ weight_of depth base final e
     at_end e es table is h =
-        same_raised table final e.targets (record { level = 0; control = control base e; height = 0 })
-        (each_map (IsUnread (e ∷ es)) (λ y. reach_of table y ≡ reach_of final y) (λ y u. sym (unnoted_eqns base (e ∷ es) table y u) ∙ ap (λ t. reach_of t y) is) e.targets h)
+        same_raised table final e.targets (record { level = 0; control = control depth base e; height = 0 })
+        (each_map (IsUnread (e ∷ es)) (λ y. reach_of table y ≡ reach_of final y) (λ y u. sym (unnoted_eqns depth base (e ∷ es) table y u) ∙ ap (λ t. reach_of t y) is) e.targets h)
 
     abbrev Gives : FlatEqn → Type 0
-    Gives d = has (reads d) x ≡ true → gain (weight_of base final d) ≤ n
+    Gives d = has (reads d) x ≡ true → gain (weight_of depth base final d) ≤ n
 
-    eqns_down : (es : List FlatEqn) (table : List Reach) → noted_eqns base es table ≡ final → IsAwaited es → AllByRecursion (λ (d : FlatEqn). AreBelow (length table) (reads d)) es
+    eqns_down : (es : List FlatEqn) (table : List Reach) → noted_eqns depth base es table ≡ final → IsAwaited es → AllByRecursion (λ (d : FlatEqn). AreBelow (length table) (reads d)) es
         → value (reach_of final x) ≤ n → (value (reach_of table x) ≤ n) × AllByRecursion Gives es
     eqns_down [] table is s b h = (subst (λ t. value (reach_of t x) ≤ n) (sym is) h, tt)
     eqns_down (e ∷ es) table is s b h =
-        let w = weight_of base table e in
-        let rest = eqns_down es (noted base e table) is s.1
-        (each_map (λ (d : FlatEqn). AreBelow (length table) (reads d)) (λ (d : FlatEqn). AreBelow (length (noted base e table)) (reads d)) (λ d q. below_same (length table) (length (noted base e table)) (reads d) (length_noted w (reads e) table) q) es b.1) h in
+        let w = weight_of depth base table e in
+        let rest = eqns_down es (noted depth base e table) is s.1
+        (each_map (λ (d : FlatEqn). AreBelow (length table) (reads d)) (λ (d : FlatEqn). AreBelow (length (noted depth base e table)) (reads d)) (λ d q. below_same (length table) (length (noted depth base e table)) (reads d) (length_noted w (reads e) table) q) es b.1) h in
         let first = all_down w (reads e) table b.0 rest.0 in
         (first.0, (λ q. subst (λ v. gain v ≤ n) (at_end e es table is s.0) (first.1 q), rest.1))
 
-    eqns_up : (es : List FlatEqn) (table : List Reach) → noted_eqns base es table ≡ final → IsAwaited es → AllByRecursion (λ (d : FlatEqn). AreBelow (length table) (reads d)) es
+    eqns_up : (es : List FlatEqn) (table : List Reach) → noted_eqns depth base es table ≡ final → IsAwaited es → AllByRecursion (λ (d : FlatEqn). AreBelow (length table) (reads d)) es
         → value (reach_of table x) ≤ n → AllByRecursion Gives es → value (reach_of final x) ≤ n
     eqns_up [] table is s b h g = subst (λ t. value (reach_of t x) ≤ n) is h
     eqns_up (e ∷ es) table is s b h g =
-        let w = weight_of base table e in
-        eqns_up es (noted base e table) is s.1
-        (each_map (λ (d : FlatEqn). AreBelow (length table) (reads d)) (λ (d : FlatEqn). AreBelow (length (noted base e table)) (reads d)) (λ d q. below_same (length table) (length (noted base e table)) (reads d) (length_noted w (reads e) table) q) es b.1)
+        let w = weight_of depth base table e in
+        eqns_up es (noted depth base e table) is s.1
+        (each_map (λ (d : FlatEqn). AreBelow (length table) (reads d)) (λ (d : FlatEqn). AreBelow (length (noted depth base e table)) (reads d)) (λ d q. below_same (length table) (length (noted depth base e table)) (reads d) (length_noted w (reads e) table) q) es b.1)
         (all_up w (reads e) table b.0 h (λ q. subst (λ v. gain v ≤ n) (sym (at_end e es table is s.0)) (g.0 q))) g.1
 
-pub control_of_weight : (base : ℕ) (table : List Reach) (e : FlatEqn) → (weight_of base table e).control ≡ control base e
-control_of_weight base table e = control_kept table e.targets (record { level = 0; control = control base e; height = 0 })
+pub control_of_weight : (depth base : ℕ) (table : List Reach) (e : FlatEqn) → (weight_of depth base table e).control ≡ control depth base e
+control_of_weight depth base table e = control_kept table e.targets (record { level = 0; control = control depth base e; height = 0 })
 
 -- ---- the longest paths
 
@@ -274,44 +274,44 @@ unmet_at value e n x m = subst (λ r. value r ≤ m) (sym (is n x)) (omega (arit
     is (suc n) zero = refl
     is (suc n) (suc x) = is n x
 
-module _ (base : ℕ) (es : List FlatEqn) (final : List Reach) (is : noted_eqns base es (replicate base unmet) ≡ final) (s : IsAwaited es)
+module _ (depth base : ℕ) (es : List FlatEqn) (final : List Reach) (is : noted_eqns depth base es (replicate base unmet) ≡ final) (s : IsAwaited es)
     (b : AllByRecursion (λ (d : FlatEqn). AreBelow (length (replicate base unmet)) (reads d)) es) where
   abbrev pub level_by : FlatEqn → ℕ
-  level_by e = (weight_of base final e).level
+  level_by e = (weight_of depth base final e).level
 
   abbrev pub height_by : FlatEqn → ℕ
-  height_by e = (weight_of base final e).height
+  height_by e = (weight_of depth base final e).height
 
   abbrev start : FlatEqn → Weight
-  start e = record { level = 0; control = control base e; height = 0 }
+  start e = record { level = 0; control = control depth base e; height = 0 }
 
   abbrev cost_by : FlatEqn → FlatEqn → ℕ
-  cost_by d e = step (nat_eq (weight_of base final d).control (control base e))
+  cost_by d e = step (nat_eq (weight_of depth base final d).control (control depth base e))
 
-  same_cost : (d e : FlatEqn) → cost_by d e ≡ change base d e
-  same_cost d e = ap (λ c. step (nat_eq c (control base e))) (control_of_weight base final d)
+  same_cost : (d e : FlatEqn) → cost_by d e ≡ change depth base d e
+  same_cost d e = ap (λ c. step (nat_eq c (control depth base e))) (control_of_weight depth base final d)
 
-  pub levels_by : IsLongest (change base) level_by es
+  pub levels_by : IsLongest (change depth base) level_by es
   levels_by = record {
-    above = λ e. each_map (λ x. seen_from (control base e) (reach_of final x) ≤ level_by e) (λ x. AllByRecursion (λ (d : FlatEqn). has (reads d) x ≡ true → level_by d + change base d e ≤ level_by e) es)
-        (λ x h. each_map (λ (d : FlatEqn). has (reads d) x ≡ true → level_by d + cost_by d e ≤ level_by e) (λ (d : FlatEqn). has (reads d) x ≡ true → level_by d + change base d e ≤ level_by e)
+    above = λ e. each_map (λ x. seen_from (control depth base e) (reach_of final x) ≤ level_by e) (λ x. AllByRecursion (λ (d : FlatEqn). has (reads d) x ≡ true → level_by d + change depth base d e ≤ level_by e) es)
+        (λ x h. each_map (λ (d : FlatEqn). has (reads d) x ≡ true → level_by d + cost_by d e ≤ level_by e) (λ (d : FlatEqn). has (reads d) x ≡ true → level_by d + change depth base d e ≤ level_by e)
         (λ d g q. subst (λ k. level_by d + k ≤ level_by e) (same_cost d e) (g q)) es
-        (eqns_down (seen_from (control base e)) (λ w. w.level + step (nat_eq w.control (control base e))) (λ w r. seen_met (control base e) w r) x (level_by e) base final es (replicate base unmet) is s b h).1)
+        (eqns_down (seen_from (control depth base e)) (λ w. w.level + step (nat_eq w.control (control depth base e))) (λ w r. seen_met (control depth base e) w r) x (level_by e) depth base final es (replicate base unmet) is s b h).1)
         e.targets (level_down final e.targets (start e) (level_by e) (omega arith)).1;
     least = λ e n h. level_up final e.targets (start e) n (omega arith)
-        (each_map (λ x. AllByRecursion (λ (d : FlatEqn). has (reads d) x ≡ true → level_by d + change base d e ≤ n) es) (λ x. seen_from (control base e) (reach_of final x) ≤ n)
-        (λ x g. eqns_up (seen_from (control base e)) (λ w. w.level + step (nat_eq w.control (control base e))) (λ w r. seen_met (control base e) w r) x n base final es (replicate base unmet) is s b
-        (unmet_at (seen_from (control base e)) refl base x n)
-        (each_map (λ (d : FlatEqn). has (reads d) x ≡ true → level_by d + change base d e ≤ n) (λ (d : FlatEqn). has (reads d) x ≡ true → level_by d + cost_by d e ≤ n)
+        (each_map (λ x. AllByRecursion (λ (d : FlatEqn). has (reads d) x ≡ true → level_by d + change depth base d e ≤ n) es) (λ x. seen_from (control depth base e) (reach_of final x) ≤ n)
+        (λ x g. eqns_up (seen_from (control depth base e)) (λ w. w.level + step (nat_eq w.control (control depth base e))) (λ w r. seen_met (control depth base e) w r) x n depth base final es (replicate base unmet) is s b
+        (unmet_at (seen_from (control depth base e)) refl base x n)
+        (each_map (λ (d : FlatEqn). has (reads d) x ≡ true → level_by d + change depth base d e ≤ n) (λ (d : FlatEqn). has (reads d) x ≡ true → level_by d + cost_by d e ≤ n)
         (λ d f q. subst (λ k. level_by d + k ≤ n) (sym (same_cost d e)) (f q)) es g)) e.targets h);
   }
 
   pub heights_by : IsLongest one height_by es
   heights_by = record {
     above = λ e. each_map (λ x. (reach_of final x).height ≤ height_by e) (λ x. AllByRecursion (λ (d : FlatEqn). has (reads d) x ≡ true → height_by d + 1 ≤ height_by e) es)
-        (λ x h. (eqns_down (λ r. r.height) (λ w. w.height + 1) (λ w r. height_met w r) x (height_by e) base final es (replicate base unmet) is s b h).1)
+        (λ x h. (eqns_down (λ r. r.height) (λ w. w.height + 1) (λ w r. height_met w r) x (height_by e) depth base final es (replicate base unmet) is s b h).1)
         e.targets (height_down final e.targets (start e) (height_by e) (omega arith)).1;
     least = λ e n h. height_up final e.targets (start e) n (omega arith)
         (each_map (λ x. AllByRecursion (λ (d : FlatEqn). has (reads d) x ≡ true → height_by d + 1 ≤ n) es) (λ x. (reach_of final x).height ≤ n)
-        (λ x g. eqns_up (λ r. r.height) (λ w. w.height + 1) (λ w r. height_met w r) x n base final es (replicate base unmet) is s b (unmet_at (λ r. r.height) refl base x n) g) e.targets h);
+        (λ x g. eqns_up (λ r. r.height) (λ w. w.height + 1) (λ w r. height_met w r) x n depth base final es (replicate base unmet) is s b (unmet_at (λ r. r.height) refl base x n) g) e.targets h);
   }

@@ -1,12 +1,19 @@
 -- What is noted, element by element.
-use Rattle.std.proofs.Common.{◌≡◌, ℕ, ◌+◌, ◌<◌, ◌≤◌, drop, get_or, length, List, [], ◌∷◌, ◌++◌, refl, sym, ap, ◌∙◌}
+use Rattle.std.proofs.Common.{◌≡◌, ℕ, ◌+◌, ◌<◌, ◌≤◌, drop, get_or, length, List, [], ◌∷◌, ◌++◌, refl, sym, ap, ◌∙◌, arith}
 use Rattle.std.specs.List.{flat_map}
+use Rattle.std.proofs.lemmas.List.{get_or-map, get_or_past, length-map}
 use Rattle.hp_flat.specs.Equations.{Clock}
 use Rattle.law_equations.specs.Meaning.Scheduling.{clock_variables}
 use Rattle.hp_order.specs.declared.reach.Reach.{Reach}
 use Rattle.hp_order.specs.declared.reach.Weight.{Weight}
 use Rattle.hp_order.specs.Reaching.{raised, raised_all, noted_one, noted_all, met, reach_of}
 use Rattle.hp_normal.proofs.Lists.{drop-next, drop-end, set-past}
+
+pub asked : (clock : Clock) (depth base : ℕ) (on : ℕ × ℕ) → depth < length clock → on ≡ get_or clock depth on → on.0 ≡ get_or (clock_variables clock) depth base
+asked clock depth base on h p = ap (λ (a : ℕ × ℕ). a.0) p ∙ sym (get_or-map (λ (a : ℕ × ℕ). a.0) clock depth on base h)
+
+pub unasked : (clock : Clock) (depth base : ℕ) → length clock ≤ depth → base ≡ get_or (clock_variables clock) depth base
+unasked clock depth base h = sym (get_or_past (clock_variables clock) depth base (omega (arith, h, length-map clock (λ (a : ℕ × ℕ). a.0))))
 
 pub raised-end : (table : List Reach) (xs : List ℕ) (i : ℕ) (w : Weight) → length xs ≤ i → raised_all table (drop i xs) w ≡ w
 raised-end table xs i w h = ap (λ ys. raised_all table ys w) (drop-end xs i h)

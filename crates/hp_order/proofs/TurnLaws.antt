@@ -27,20 +27,20 @@ module _ (es : List FlatEqn) (i : ℕ) (turns : List Turn) (all : List Turn) whe
   pub turns-end : length es ≤ i → turns ++ turns_from i (drop i es) ≡ all → turns ≡ all
   turns-end h known = sym (append-nil turns) ∙ sym (ap (λ ds. turns ++ turns_from i ds) (drop-end es i h)) ∙ known
 
-module _ (base : ℕ) (es : List FlatEqn) (t : Turn) (table : List Reach) where
-  pub turn-inside : (after : List Reach) (e : FlatEqn) → t.index < length es → e ≡ get_or es t.index e → after ≡ noted base e table → after ≡ noted_turn base es t table
+module _ (depth base : ℕ) (es : List FlatEqn) (t : Turn) (table : List Reach) where
+  pub turn-inside : (after : List Reach) (e : FlatEqn) → t.index < length es → e ≡ get_or es t.index e → after ≡ noted depth base e table → after ≡ noted_turn depth base es t table
   turn-inside after e h p step =
-      step ∙ ap (λ d. noted base d table) (p ∙ get_or_default es t.index e blank h) ∙ sym (ap (λ b. if b then noted base (eqn_at es t) table else table) (lt-ltb t.index (length es) h))
+      step ∙ ap (λ d. noted depth base d table) (p ∙ get_or_default es t.index e blank h) ∙ sym (ap (λ b. if b then noted depth base (eqn_at es t) table else table) (lt-ltb t.index (length es) h))
 
-  pub turn-outside : length es ≤ t.index → table ≡ noted_turn base es t table
-  turn-outside h = sym (ap (λ b. if b then noted base (eqn_at es t) table else table) (le-ltb t.index (length es) h))
+  pub turn-outside : length es ≤ t.index → table ≡ noted_turn depth base es t table
+  turn-outside h = sym (ap (λ b. if b then noted depth base (eqn_at es t) table else table) (le-ltb t.index (length es) h))
 
-module _ (base : ℕ) (es : List FlatEqn) (ts : List Turn) (i : ℕ) (table after : List Reach) where
-  pub all-next : (t : Turn) → i < length ts → t ≡ get_or ts i t → after ≡ noted_turn base es t table → noted_turns base es (drop (i + 1) ts) after ≡ noted_turns base es (drop i ts) table
-  all-next t h p step = ap (noted_turns base es (drop (i + 1) ts)) step ∙ sym (ap (λ ys. noted_turns base es ys table) (drop-next ts i t h p))
+module _ (depth base : ℕ) (es : List FlatEqn) (ts : List Turn) (i : ℕ) (table after : List Reach) where
+  pub all-next : (t : Turn) → i < length ts → t ≡ get_or ts i t → after ≡ noted_turn depth base es t table → noted_turns depth base es (drop (i + 1) ts) after ≡ noted_turns depth base es (drop i ts) table
+  all-next t h p step = ap (noted_turns depth base es (drop (i + 1) ts)) step ∙ sym (ap (λ ys. noted_turns depth base es ys table) (drop-next ts i t h p))
 
-pub all-end : (base : ℕ) (es : List FlatEqn) (ts : List Turn) (i : ℕ) (table : List Reach) → length ts ≤ i → noted_turns base es (drop i ts) table ≡ table
-all-end base es ts i table h = ap (λ ys. noted_turns base es ys table) (drop-end ts i h)
+pub all-end : (depth base : ℕ) (es : List FlatEqn) (ts : List Turn) (i : ℕ) (table : List Reach) → length ts ≤ i → noted_turns depth base es (drop i ts) table ≡ table
+all-end depth base es ts i table h = ap (λ ys. noted_turns depth base es ys table) (drop-end ts i h)
 
 numbered-more : (k : ℕ) (es : List FlatEqn) (e : FlatEqn) (n : ℕ) → n ≡ k + length es → numbered k (es ++ e ∷ []) ≡ numbered k es ++ record e { at = n } ∷ []
 numbered-more k [] e n h = ap (λ m. record e { at = m } ∷ []) (let same : k ≡ n = omega arith in same)
@@ -68,10 +68,10 @@ length_all : (w : Weight) (xs : List ℕ) (table : List Reach) → length (noted
 length_all w [] table = refl
 length_all w (x ∷ xs) table = length_all w xs (noted_one w x table) ∙ length-set table x (met w (reach_of table x))
 
-length_turn : (b : Bool) (base : ℕ) (e : FlatEqn) (table : List Reach) → length (if b then noted base e table else table) ≡ length table
-length_turn true base e table = length_all (weight_of base table e) (reads e) table
-length_turn false base e table = refl
+length_turn : (b : Bool) (depth base : ℕ) (e : FlatEqn) (table : List Reach) → length (if b then noted depth base e table else table) ≡ length table
+length_turn true depth base e table = length_all (weight_of depth base table e) (reads e) table
+length_turn false depth base e table = refl
 
-pub length-turns : (base : ℕ) (es : List FlatEqn) (ts : List Turn) (table : List Reach) → length (noted_turns base es ts table) ≡ length table
-length-turns base es [] table = refl
-length-turns base es (t ∷ ts) table = length-turns base es ts (noted_turn base es t table) ∙ length_turn (nat_lt t.index (length es)) base (eqn_at es t) table
+pub length-turns : (depth base : ℕ) (es : List FlatEqn) (ts : List Turn) (table : List Reach) → length (noted_turns depth base es ts table) ≡ length table
+length-turns depth base es [] table = refl
+length-turns depth base es (t ∷ ts) table = length-turns depth base es ts (noted_turn depth base es t table) ∙ length_turn (nat_lt t.index (length es)) depth base (eqn_at es t) table

@@ -52,12 +52,18 @@ module _ (es : List FlatEqn) (height : FlatEqn → ℕ) (heights : IsLongest one
 
 -- ---- the order
 
-module _ (base : ℕ) (level height : FlatEqn → ℕ) where
+module _ (base : ℕ) (level within height : FlatEqn → ℕ) where
   abbrev before : FlatEqn → FlatEqn → Bool
-  before d e = comes_before base level height d e
+  before d e = comes_before base level within height d e
 
   weak : IsStrictWeakOrder before
-  weak = ranks_by (then_total (on_total level (back_total nat_cmp_total)) (then_total (on_total (control base) nat_cmp_total) (on_total height (back_total nat_cmp_total)))) (λ (e : FlatEqn). e)
+  weak =
+      ranks_by
+      (then_total (on_total level (back_total nat_cmp_total))
+      (then_total (on_total (control 0 base) nat_cmp_total)
+      (then_total (on_total within (back_total nat_cmp_total))
+      (then_total (on_total (control 1 base) nat_cmp_total)
+      (on_total height (back_total nat_cmp_total)))))) (λ (e : FlatEqn). e)
 
   less : (a b : ℕ) → a < b → nat_cmp a b ≡ Less
   less a b h = sym (nat_cmp_is a b Less h)
@@ -66,22 +72,46 @@ module _ (base : ℕ) (level height : FlatEqn → ℕ) where
   equal a b h = sym (nat_cmp_is a b Equal h)
 
   by_level : (d e : FlatEqn) → level e < level d → before d e ≡ true
-  by_level d e h = ap (λ o. is_lt (ordering_then o (ordering_then (nat_cmp (control base d) (control base e)) (nat_cmp (height e) (height d))))) (less (level e) (level d) h)
+  by_level d e h =
+      ap (λ o. is_lt (ordering_then o (ordering_then (nat_cmp (control 0 base d) (control 0 base e)) (ordering_then (nat_cmp (within e) (within d)) (ordering_then (nat_cmp (control 1 base d) (control 1 base e)) (nat_cmp (height e) (height d)))))))
+      (less (level e) (level d) h)
 
-  by_height : (d e : FlatEqn) → level e ≡ level d → control base d ≡ control base e → height e < height d → before d e ≡ true
-  by_height d e l c h = λ i. is_lt (ordering_then (equal (level e) (level d) l i) (ordering_then (equal (control base d) (control base e) c i) (less (height e) (height d) h i)))
+  module _ (d e : FlatEqn) (l : level e ≡ level d) (c : control 0 base d ≡ control 0 base e) where
+    by_within : within e < within d → before d e ≡ true
+    by_within h = λ i. is_lt
+        (ordering_then (equal (level e) (level d) l i)
+        (ordering_then (equal (control 0 base d) (control 0 base e) c i)
+        (ordering_then (less (within e) (within d) h i)
+        (ordering_then (nat_cmp (control 1 base d) (control 1 base e))
+        (nat_cmp (height e) (height d))))))
 
-  at_least : (d e : FlatEqn) (b : Bool) → nat_lt (level e) (level d) ≡ b → level e ≤ level d → control base d ≡ control base e → height e < height d → before d e ≡ true
-  at_least d e true q l c h = by_level d e (ltb-true (level e) (level d) q)
-  at_least d e false q l c h = let no_less : level d ≤ level e = ltb-false (level e) (level d) q in by_height d e (omega arith) c h
+    by_height : within e ≡ within d → control 1 base d ≡ control 1 base e → height e < height d → before d e ≡ true
+    by_height w k h = λ i. is_lt
+        (ordering_then (equal (level e) (level d) l i)
+        (ordering_then (equal (control 0 base d) (control 0 base e) c i)
+        (ordering_then (equal (within e) (within d) w i)
+        (ordering_then (equal (control 1 base d) (control 1 base e) k i)
+        (less (height e) (height d) h i)))))
 
-  by_change : (d e : FlatEqn) (b : Bool) → nat_eq (control base e) (control base d) ≡ b → level e + (if b then 0 else 1) ≤ level d → height e + 1 ≤ height d → before d e ≡ true
-  by_change d e true q l h = at_least d e (nat_lt (level e) (level d)) refl (omega arith) (sym (eqb-true (control base e) (control base d) q)) (omega arith)
-  by_change d e false q l h = by_level d e (omega arith)
+    at_least : (b : Bool) → nat_lt (within e) (within d) ≡ b → within e ≤ within d → control 1 base d ≡ control 1 base e → height e < height d → before d e ≡ true
+    at_least true q w k h = by_within (ltb-true (within e) (within d) q)
+    at_least false q w k h = let no_less : within d ≤ within e = ltb-false (within e) (within d) q in by_height (omega arith) k h
+
+    within_change : (b : Bool) → nat_eq (control 1 base e) (control 1 base d) ≡ b → within e + (if b then 0 else 1) ≤ within d → height e + 1 ≤ height d → before d e ≡ true
+    within_change true q w h = at_least (nat_lt (within e) (within d)) refl (omega arith) (sym (eqb-true (control 1 base e) (control 1 base d) q)) (omega arith)
+    within_change false q w h = by_within (omega arith)
+
+  no_lower : (d e : FlatEqn) (b : Bool) → nat_lt (level e) (level d) ≡ b → level e ≤ level d → control 0 base d ≡ control 0 base e → within e + change 1 base e d ≤ within d → height e + 1 ≤ height d → before d e ≡ true
+  no_lower d e true q l c w h = by_level d e (ltb-true (level e) (level d) q)
+  no_lower d e false q l c w h = let no_less : level d ≤ level e = ltb-false (level e) (level d) q in within_change d e (omega arith) c (nat_eq (control 1 base e) (control 1 base d)) refl w h
+
+  by_change : (d e : FlatEqn) (b : Bool) → nat_eq (control 0 base e) (control 0 base d) ≡ b → level e + (if b then 0 else 1) ≤ level d → within e + change 1 base e d ≤ within d → height e + 1 ≤ height d → before d e ≡ true
+  by_change d e true q l w h = no_lower d e (nat_lt (level e) (level d)) refl (omega arith) (sym (eqb-true (control 0 base e) (control 0 base d) q)) w h
+  by_change d e false q l w h = by_level d e (omega arith)
 
   -- what is read comes before
-  read_before : (d e : FlatEqn) → level e + change base e d ≤ level d → height e + 1 ≤ height d → before d e ≡ true
-  read_before d e l h = by_change d e (nat_eq (control base e) (control base d)) refl l h
+  read_before : (d e : FlatEqn) → level e + change 0 base e d ≤ level d → within e + change 1 base e d ≤ within d → height e + 1 ≤ height d → before d e ≡ true
+  read_before d e l w h = by_change d e (nat_eq (control 0 base e) (control 0 base d)) refl l w h
 
 -- no element comes before one in front of it
 abbrev pub Rises : {A : Type 0} → (A → A → Bool) → List A → Type 0
@@ -213,7 +243,7 @@ turned_round R (x ∷ xs) ys h =
 
 module _ (base : ℕ) (es scheduled : List FlatEqn) (h : IsByClock base es scheduled) where
   abbrev ahead : FlatEqn → FlatEqn → Bool
-  ahead d e = before base h.level h.height d e
+  ahead d e = before base h.level h.within h.height d e
 
   -- an equation stands before one that reads a variable, and before one that reads what it defines
   abbrev Ahead : FlatEqn → ℕ → FlatEqn → Type 0
@@ -223,21 +253,30 @@ module _ (base : ℕ) (es scheduled : List FlatEqn) (h : IsByClock base es sched
   Feeds e d = (x : ℕ) → has e.targets x ≡ true → has (reads d) x ≡ true → ahead e d ≡ true
 
   all_ahead : (e : FlatEqn) → AllByRecursion (λ x. AllByRecursion (Ahead e x) h.ordered) e.targets
-  all_ahead e = each e.targets (levels.above e) (heights.above e)
+  all_ahead e = each e.targets (levels.above e) (withins.above e) (heights.above e)
     where
-      levels : IsLongest (change base) h.level h.ordered
-      levels = longest-moved (change base) h.level es h.ordered h.same h.levels
+      levels : IsLongest (change 0 base) h.level h.ordered
+      levels = longest-moved (change 0 base) h.level es h.ordered h.same h.levels
+
+      withins : IsLongest (change 1 base) h.within h.ordered
+      withins = longest-moved (change 1 base) h.within es h.ordered h.same h.withins
 
       heights : IsLongest one h.height h.ordered
       heights = longest-moved one h.height es h.ordered h.same h.heights
 
-      each : (xs : List ℕ) → AllByRecursion (λ x. AllByRecursion (Step (change base) h.level e (h.level e) x) h.ordered) xs → AllByRecursion (λ x. AllByRecursion (Step one h.height e (h.height e) x) h.ordered) xs
-          → AllByRecursion (λ x. AllByRecursion (Ahead e x) h.ordered) xs
-      each [] a b = tt
-      each (x ∷ xs) a b = (
-        each_both (Step (change base) h.level e (h.level e) x) (Step one h.height e (h.height e) x) (Ahead e x) (λ d p q r. read_before base h.level h.height e d (p r) (q r)) h.ordered a.0 b.0,
-        each xs a.1 b.1,
-      )
+      abbrev Both : ℕ → FlatEqn → Type 0
+      Both x d = Step (change 1 base) h.within e (h.within e) x d × Step one h.height e (h.height e) x d
+
+      at : (x : ℕ) → AllByRecursion (Step (change 0 base) h.level e (h.level e) x) h.ordered → AllByRecursion (Step (change 1 base) h.within e (h.within e) x) h.ordered → AllByRecursion (Step one h.height e (h.height e) x) h.ordered
+          → AllByRecursion (Ahead e x) h.ordered
+      at x a b c =
+          each_both (Step (change 0 base) h.level e (h.level e) x) (Both x) (Ahead e x) (λ d p q r. read_before base h.level h.within h.height e d (p r) (q.0 r) (q.1 r)) h.ordered a
+          (each_both (Step (change 1 base) h.within e (h.within e) x) (Step one h.height e (h.height e) x) (Both x) (λ d p q. (p, q)) h.ordered b c)
+
+      each : (xs : List ℕ) → AllByRecursion (λ x. AllByRecursion (Step (change 0 base) h.level e (h.level e) x) h.ordered) xs → AllByRecursion (λ x. AllByRecursion (Step (change 1 base) h.within e (h.within e) x) h.ordered) xs
+          → AllByRecursion (λ x. AllByRecursion (Step one h.height e (h.height e) x) h.ordered) xs → AllByRecursion (λ x. AllByRecursion (Ahead e x) h.ordered) xs
+      each [] a b c = tt
+      each (x ∷ xs) a b c = (at x a.0 b.0 c.0, each xs a.1 b.1 c.1)
 
   all_feed : (ds : List FlatEqn) → AllByRecursion (λ (e : FlatEqn). AllByRecursion (Feeds e) h.ordered) ds
   all_feed [] = tt
@@ -247,25 +286,25 @@ module _ (base : ℕ) (es scheduled : List FlatEqn) (h : IsByClock base es sched
     all_feed ds,
   )
 
-  all_read : AllByRecursion (λ (e : FlatEqn). AllByRecursion (λ x. AllByRecursion (Reads (before base h.level h.height) e x) h.ordered) (reads e)) h.ordered
+  all_read : AllByRecursion (λ (e : FlatEqn). AllByRecursion (λ x. AllByRecursion (Reads (before base h.level h.within h.height) e x) h.ordered) (reads e)) h.ordered
   all_read =
-      each_map (λ (e : FlatEqn). AllByRecursion (λ (d : FlatEqn). Feeds d e) h.ordered) (λ (e : FlatEqn). AllByRecursion (λ x. AllByRecursion (Reads (before base h.level h.height) e x) h.ordered) (reads e))
-      (λ e fed. each_map (λ x. has (reads e) x ≡ true) (λ x. AllByRecursion (Reads (before base h.level h.height) e x) h.ordered)
-      (λ x there. each_map (λ (d : FlatEqn). Feeds d e) (Reads (before base h.level h.height) e x) (λ d f own. f x own there) h.ordered fed) (reads e) (all_own (reads e))) h.ordered
+      each_map (λ (e : FlatEqn). AllByRecursion (λ (d : FlatEqn). Feeds d e) h.ordered) (λ (e : FlatEqn). AllByRecursion (λ x. AllByRecursion (Reads (before base h.level h.within h.height) e x) h.ordered) (reads e))
+      (λ e fed. each_map (λ x. has (reads e) x ≡ true) (λ x. AllByRecursion (Reads (before base h.level h.within h.height) e x) h.ordered)
+      (λ x there. each_map (λ (d : FlatEqn). Feeds d e) (Reads (before base h.level h.within h.height) e x) (λ d f own. f x own there) h.ordered fed) (reads e) (all_own (reads e))) h.ordered
       (turned_round Feeds h.ordered h.ordered (all_feed h.ordered))
 
   -- In the order by clock each equation stands behind those that it reads.
   pub ranked-by_clock : IsRanked scheduled
   ranked-by_clock =
-      let lt = before base h.level h.height in
+      let lt = before base h.level h.within h.height in
       subst IsRanked (sym h.places)
-      (rises-ranked (before base h.level h.height) (λ e. own_not (before base h.level h.height) (weak base h.level h.height) e (before base h.level h.height e e) refl) 0 h.ordered
-      (sorted-rises (before base h.level h.height) (weak base h.level h.height) h.ordered h.sorted) all_read)
+      (rises-ranked (before base h.level h.within h.height) (λ e. own_not (before base h.level h.within h.height) (weak base h.level h.within h.height) e (before base h.level h.within h.height e e) refl) 0 h.ordered
+      (sorted-rises (before base h.level h.within h.height) (weak base h.level h.within h.height) h.ordered h.sorted) all_read)
 
 -- ---- the order does not depend on places
 
-level_free : (base : ℕ) (path : FlatEqn → ℕ) (es : List FlatEqn) → IsLongest (change base) path es → (e : FlatEqn) → path (unplaced e) ≡ path e
-level_free base path es h e = omega (arith, h.least (unplaced e) (path e) (h.above e), h.least e (path (unplaced e)) (h.above (unplaced e)))
+level_free : (depth base : ℕ) (path : FlatEqn → ℕ) (es : List FlatEqn) → IsLongest (change depth base) path es → (e : FlatEqn) → path (unplaced e) ≡ path e
+level_free depth base path es h e = omega (arith, h.least (unplaced e) (path e) (h.above e), h.least e (path (unplaced e)) (h.above (unplaced e)))
 
 height_free : (path : FlatEqn → ℕ) (es : List FlatEqn) → IsLongest one path es → (e : FlatEqn) → path (unplaced e) ≡ path e
 height_free path es h e = omega (arith, h.least (unplaced e) (path e) (h.above e), h.least e (path (unplaced e)) (h.above (unplaced e)))
@@ -312,55 +351,78 @@ numbered_up : (k : ℕ) (es : List FlatEqn) → numbered k (map unplaced es) ≡
 numbered_up k [] = refl
 numbered_up k (e ∷ es) = ap (λ ds. record e { at = k } ∷ ds) (numbered_up (suc k) es)
 
-module _ (base : ℕ) (level height : FlatEqn → ℕ) (f : (e : FlatEqn) → level (unplaced e) ≡ level e) (g : (e : FlatEqn) → height (unplaced e) ≡ height e) where
-  before_free : (d e : FlatEqn) → before base level height (unplaced d) (unplaced e) ≡ before base level height d e
-  before_free d e = λ i. is_lt (ordering_then (nat_cmp (f e i) (f d i)) (ordering_then (nat_cmp (control base d) (control base e)) (nat_cmp (g e i) (g d i))))
+module _ (base : ℕ) (level within height : FlatEqn → ℕ) (f : (e : FlatEqn) → level (unplaced e) ≡ level e) (v : (e : FlatEqn) → within (unplaced e) ≡ within e) (g : (e : FlatEqn) → height (unplaced e) ≡ height e) where
+  abbrev told : ℕ → ℕ → ℕ → FlatEqn → ℕ → ℕ → ℕ → FlatEqn → Bool
+  told dl dw dh d el ew eh e = is_lt
+      (ordering_then (nat_cmp el dl)
+      (ordering_then (nat_cmp (control 0 base d) (control 0 base e))
+      (ordering_then (nat_cmp ew dw)
+      (ordering_then (nat_cmp (control 1 base d) (control 1 base e))
+      (nat_cmp eh dh)))))
 
-  before_half : (d e : FlatEqn) → (before base level height d (unplaced e) ≡ before base level height d e) × (before base level height (unplaced d) e ≡ before base level height d e)
+  before_free : (d e : FlatEqn) → before base level within height (unplaced d) (unplaced e) ≡ before base level within height d e
+  before_free d e = λ i. told (f d i) (v d i) (g d i) d (f e i) (v e i) (g e i) e
+
+  before_half : (d e : FlatEqn) → (before base level within height d (unplaced e) ≡ before base level within height d e) × (before base level within height (unplaced d) e ≡ before base level within height d e)
   before_half d e = (
-    (λ i. is_lt (ordering_then (nat_cmp (f e i) (level d)) (ordering_then (nat_cmp (control base d) (control base e)) (nat_cmp (g e i) (height d))))),
-    (λ i. is_lt (ordering_then (nat_cmp (level e) (f d i)) (ordering_then (nat_cmp (control base d) (control base e)) (nat_cmp (height e) (g d i))))),
+    (λ i. told (level d) (within d) (height d) d (f e i) (v e i) (g e i) e),
+    (λ i. told (f d i) (v d i) (g d i) d (level e) (within e) (height e) e),
   )
 
 -- an order by clock of equations without places
 record Plainly (base : ℕ) (us scheduled : List FlatEqn) : Type 0 where
   level : FlatEqn → ℕ
+  within : FlatEqn → ℕ
   height : FlatEqn → ℕ
-  levels : IsLongest (change base) level us
+  levels : IsLongest (change 0 base) level us
+  withins : IsLongest (change 1 base) within us
   heights : IsLongest one height us
   ordered : List FlatEqn
-  rises : Rises (before base level height) ordered
-  stable : (x : FlatEqn) → filter (ties (before base level height) x) ordered ≡ filter (ties (before base level height) x) us
+  rises : Rises (before base level within height) ordered
+  stable : (x : FlatEqn) → filter (ties (before base level within height) x) ordered ≡ filter (ties (before base level within height) x) us
   places : scheduled ≡ numbered 0 ordered
 
 plainly : (base : ℕ) (es scheduled : List FlatEqn) → IsByClock base es scheduled → Plainly base (map unplaced es) scheduled
 plainly base es scheduled h =
-    let f : (e : FlatEqn) → h.level (unplaced e) ≡ h.level e = level_free base h.level es h.levels in
+    let f : (e : FlatEqn) → h.level (unplaced e) ≡ h.level e = level_free 0 base h.level es h.levels in
+    let v : (e : FlatEqn) → h.within (unplaced e) ≡ h.within e = level_free 1 base h.within es h.withins in
     let g : (e : FlatEqn) → h.height (unplaced e) ≡ h.height e = height_free h.height es h.heights in
     record {
       level = h.level;
+      within = h.within;
       height = h.height;
-      levels = longest_up (change base) h.level (λ d e. refl) f es h.levels;
+      levels = longest_up (change 0 base) h.level (λ d e. refl) f es h.levels;
+      withins = longest_up (change 1 base) h.within (λ d e. refl) v es h.withins;
       heights = longest_up one h.height (λ d e. refl) g es h.heights;
       ordered = map unplaced h.ordered;
-      rises = rises_up (before base h.level h.height) (before_free base h.level h.height f g) (before_half base h.level h.height f g) h.ordered
-          (sorted-rises (before base h.level h.height) (weak base h.level h.height) h.ordered h.sorted);
-      stable = stable_up (before base h.level h.height) (before_free base h.level h.height f g) (before_half base h.level h.height f g) es h.ordered h.stable;
+      rises = rises_up (before base h.level h.within h.height) (before_free base h.level h.within h.height f v g) (before_half base h.level h.within h.height f v g) h.ordered
+          (sorted-rises (before base h.level h.within h.height) (weak base h.level h.within h.height) h.ordered h.sorted);
+      stable = stable_up (before base h.level h.within h.height) (before_free base h.level h.within h.height f v g) (before_half base h.level h.within h.height f v g) es h.ordered h.stable;
       places = h.places ∙ sym (numbered_up 0 h.ordered);
     }
 
+-- orders of the same numbers
+module _ (base : ℕ) (us : List FlatEqn) where
+  abbrev IsOrdered : (FlatEqn → ℕ) → (FlatEqn → ℕ) → (FlatEqn → ℕ) → List FlatEqn → Type 0
+  IsOrdered level within height ordered =
+      Rises (before base level within height) ordered × ((x : FlatEqn) → filter (ties (before base level within height) x) ordered ≡ filter (ties (before base level within height) x) us)
+
 one_plain : (base : ℕ) (us s t : List FlatEqn) → Plainly base us s → Plainly base us t → s ≡ t
 one_plain base us s t p q =
-    let l : (e : FlatEqn) → p.level e ≡ q.level e = one_longest us p.height p.heights (change base) p.level q.level p.levels q.levels in
-    let h : (e : FlatEqn) → p.height e ≡ q.height e = one_longest us p.height p.heights one p.height q.height p.heights q.heights in
-    let level : q.level ≡ p.level = λ i e. (sym (l e)) i in
-    let height : q.height ≡ p.height = λ i e. (sym (h e)) i in
-    let rises : Rises (before base p.level p.height) q.ordered =
-    subst (λ (k : FlatEqn → ℕ). Rises (before base p.level k) q.ordered) height (subst (λ (k : FlatEqn → ℕ). Rises (before base k q.height) q.ordered) level q.rises) in
-    let stable : (x : FlatEqn) → filter (ties (before base p.level p.height) x) q.ordered ≡ filter (ties (before base p.level p.height) x) us =
-    λ x. subst (λ (k : FlatEqn → ℕ). filter (ties (before base p.level k) x) q.ordered ≡ filter (ties (before base p.level k) x) us) height
-    (subst (λ (k : FlatEqn → ℕ). filter (ties (before base k q.height) x) q.ordered ≡ filter (ties (before base k q.height) x) us) level (q.stable x)) in
-    p.places ∙ ap (numbered 0) (one_order (before base p.level p.height) (weak base p.level p.height) p.ordered q.ordered p.rises rises (λ x. p.stable x ∙ sym (stable x))) ∙ sym q.places
+    let l : (e : FlatEqn) → q.level e ≡ p.level e = one_longest us p.height p.heights (change 0 base) q.level p.level q.levels p.levels in
+    let w : (e : FlatEqn) → q.within e ≡ p.within e = one_longest us p.height p.heights (change 1 base) q.within p.within q.withins p.withins in
+    let h : (e : FlatEqn) → q.height e ≡ p.height e = one_longest us p.height p.heights one q.height p.height q.heights p.heights in
+    let level : q.level ≡ p.level = λ i e. l e i in
+    let within : q.within ≡ p.within = λ i e. w e i in
+    let height : q.height ≡ p.height = λ i e. h e i in
+    let own : IsOrdered base us q.level q.within q.height q.ordered = (q.rises, q.stable) in
+    let leveled : IsOrdered base us p.level q.within q.height q.ordered = subst (λ (k : FlatEqn → ℕ). IsOrdered base us k q.within q.height q.ordered) level own in
+    let lead : IsOrdered base us p.level p.within q.height q.ordered = subst (λ (k : FlatEqn → ℕ). IsOrdered base us p.level k q.height q.ordered) within leveled in
+    let all : IsOrdered base us p.level p.within p.height q.ordered = subst (λ (k : FlatEqn → ℕ). IsOrdered base us p.level p.within k q.ordered) height lead in
+    p.places
+    ∙ ap (numbered 0)
+        (one_order (before base p.level p.within p.height) (weak base p.level p.within p.height) p.ordered q.ordered p.rises all.0 (λ x. p.stable x ∙ sym (all.1 x)))
+    ∙ sym q.places
 
 -- Equations that are the same but for their places have one order by clock.
 pub one_by_clock : (base : ℕ) (es fs s t : List FlatEqn) → map unplaced es ≡ map unplaced fs → IsByClock base es s → IsByClock base fs t → s ≡ t

@@ -1,22 +1,22 @@
 -- The order of equations by clock: those that stand under one case stand together, as far as their readers let them, so that their cases can be joined.
 -- Levels and heights are lengths of longest paths, as of tasks that are scheduled as late as they can be. Grouping by clock is after Biernacki, Colaço, Hamon, Pouzet:
 -- Clock-directed modular code generation for synchronous data-flow languages (LCTES 2008).
-use Rattle.std.specs.Prelude.{◌≡◌, ◌≤◌, ◌+◌, ℕ, suc, Bool, true, nat_eq, List, [], ◌∷◌, if◌then◌else◌}
+use Rattle.std.specs.Prelude.{◌≡◌, ◌≤◌, ◌+◌, ℕ, suc, Bool, true, nat_eq, get_or, List, [], ◌∷◌, if◌then◌else◌}
 use Rattle.std.specs.List.{AllByRecursion}
 use Rattle.std.specs.List.Sorted.{IsPermutation, IsSortedBy, IsStableBy}
 use Rattle.std.specs.Ordering.{is_lt, nat_cmp, ordering_then}
 use Rattle.std.specs.declared.cmp.Ordering.{Ordering}
 use Rattle.hp_flat.specs.Equations.{FlatEqn}
 use Rattle.law_equations.specs.Meaning.Reactions.{has}
-use Rattle.law_equations.specs.Meaning.Scheduling.{reads}
+use Rattle.law_equations.specs.Meaning.Scheduling.{clock_variables, reads}
 
--- what the clock of an equation asks first: its outermost variable, or the base, a number that stands for the base clock
-abbrev pub control : ℕ → FlatEqn → ℕ
-control base e = elim e.clock [ [] ↦ base | on ∷ clock ↦ on.0 ]
+-- the variable that the clock of an equation asks at a depth, from 0, the outermost; where it has none, the base, a number that stands for that
+abbrev pub control : ℕ → ℕ → FlatEqn → ℕ
+control depth base e = get_or (clock_variables e.clock) depth base
 
 -- what the step to an equation from one that reads it counts for: 1 where the control changes
-abbrev pub change : ℕ → FlatEqn → FlatEqn → ℕ
-change base d e = if nat_eq (control base d) (control base e) then 0 else 1
+abbrev pub change : ℕ → ℕ → FlatEqn → FlatEqn → ℕ
+change depth base d e = if nat_eq (control depth base d) (control depth base e) then 0 else 1
 
 -- 1 for each step
 abbrev pub one : FlatEqn → FlatEqn → ℕ
@@ -32,26 +32,34 @@ module _ (cost : FlatEqn → FlatEqn → ℕ) (length_of : FlatEqn → ℕ) (es 
     pub above : (e : FlatEqn) → IsAbovePaths e (length_of e)
     pub least : (e : FlatEqn) (n : ℕ) → IsAbovePaths e n → length_of e ≤ n
 
--- first by level, the greatest first, then by control, then by height, the greatest first
-abbrev pub compared : ℕ → (FlatEqn → ℕ) → (FlatEqn → ℕ) → FlatEqn → FlatEqn → Ordering
-compared base level height d e = ordering_then (nat_cmp (level e) (level d)) (ordering_then (nat_cmp (control base d) (control base e)) (nat_cmp (height e) (height d)))
+-- by level, the greatest first, then by control, and so within; then by height, the greatest first
+abbrev pub compared : ℕ → (FlatEqn → ℕ) → (FlatEqn → ℕ) → (FlatEqn → ℕ) → FlatEqn → FlatEqn → Ordering
+compared base level within height d e =
+    ordering_then (nat_cmp (level e) (level d))
+    (ordering_then (nat_cmp (control 0 base d) (control 0 base e))
+    (ordering_then (nat_cmp (within e) (within d))
+    (ordering_then (nat_cmp (control 1 base d) (control 1 base e))
+    (nat_cmp (height e) (height d)))))
 
-abbrev pub comes_before : ℕ → (FlatEqn → ℕ) → (FlatEqn → ℕ) → FlatEqn → FlatEqn → Bool
-comes_before base level height d e = is_lt (compared base level height d e)
+abbrev pub comes_before : ℕ → (FlatEqn → ℕ) → (FlatEqn → ℕ) → (FlatEqn → ℕ) → FlatEqn → FlatEqn → Bool
+comes_before base level within height d e = is_lt (compared base level within height d e)
 
 -- equations with places in a row
 abbrev pub numbered : ℕ → List FlatEqn → List FlatEqn
 numbered k [] = []
 numbered k (e ∷ es) = record e { at = k } ∷ numbered (suc k) es
 
--- Equations stand by how often controls change on a path of readers from them, the most often first, then by control, then by how many wait for them, the most first; where all are the same, in the order in which they were.
+-- Equations stand by how often the outermost control changes on a path of readers from them, the most often first, then by that control, by both of the second control within, and by how many wait for them, the most first;
+-- where all are the same, in the order in which they were.
 pub record IsByClock (base : ℕ) (es scheduled : List FlatEqn) : Type 0 where
   pub level : FlatEqn → ℕ
+  pub within : FlatEqn → ℕ
   pub height : FlatEqn → ℕ
-  pub levels : IsLongest (change base) level es
+  pub levels : IsLongest (change 0 base) level es
+  pub withins : IsLongest (change 1 base) within es
   pub heights : IsLongest one height es
   pub ordered : List FlatEqn
   pub same : IsPermutation es ordered
-  pub sorted : IsSortedBy (comes_before base level height) ordered
-  pub stable : IsStableBy (comes_before base level height) es ordered
+  pub sorted : IsSortedBy (comes_before base level within height) ordered
+  pub stable : IsStableBy (comes_before base level within height) es ordered
   pub places : scheduled ≡ numbered 0 ordered

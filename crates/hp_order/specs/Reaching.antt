@@ -34,8 +34,9 @@ abbrev pub raised_all : List Reach → List ℕ → Weight → Weight
 raised_all table [] w = w
 raised_all table (x ∷ xs) w = raised_all table xs (raised table x w)
 
-abbrev pub weight_of : ℕ → List Reach → FlatEqn → Weight
-weight_of base table e = raised_all table e.targets (record { level = 0; control = control base e; height = 0 })
+-- the weight of an equation, whose control stands at a depth of its clock
+abbrev pub weight_of : ℕ → ℕ → List Reach → FlatEqn → Weight
+weight_of depth base table e = raised_all table e.targets (record { level = 0; control = control depth base e; height = 0 })
 
 -- variables are read by an equation of a weight
 abbrev pub noted_one : Weight → ℕ → List Reach → List Reach
@@ -45,9 +46,9 @@ abbrev pub noted_all : Weight → List ℕ → List Reach → List Reach
 noted_all w [] table = table
 noted_all w (x ∷ xs) table = noted_all w xs (noted_one w x table)
 
-abbrev pub noted : ℕ → FlatEqn → List Reach → List Reach
-noted base e table = noted_all (weight_of base table e) (reads e) table
+abbrev pub noted : ℕ → ℕ → FlatEqn → List Reach → List Reach
+noted depth base e table = noted_all (weight_of depth base table e) (reads e) table
 
-abbrev pub noted_eqns : ℕ → List FlatEqn → List Reach → List Reach
-noted_eqns base [] table = table
-noted_eqns base (e ∷ es) table = noted_eqns base es (noted base e table)
+abbrev pub noted_eqns : ℕ → ℕ → List FlatEqn → List Reach → List Reach
+noted_eqns depth base [] table = table
+noted_eqns depth base (e ∷ es) table = noted_eqns depth base es (noted depth base e table)

@@ -23,26 +23,32 @@ blank = record { targets = []; clock = []; right = called [] []; restart = []; a
 abbrev pub eqn_at : List FlatEqn → Turn → FlatEqn
 eqn_at es t = get_or es t.index blank
 
-abbrev pub noted_turn : ℕ → List FlatEqn → Turn → List Reach → List Reach
-noted_turn base es t table = if nat_lt t.index (length es) then noted base (eqn_at es t) table else table
+abbrev pub noted_turn : ℕ → ℕ → List FlatEqn → Turn → List Reach → List Reach
+noted_turn depth base es t table = if nat_lt t.index (length es) then noted depth base (eqn_at es t) table else table
 
-abbrev pub noted_turns : ℕ → List FlatEqn → List Turn → List Reach → List Reach
-noted_turns base es [] table = table
-noted_turns base es (t ∷ ts) table = noted_turns base es ts (noted_turn base es t table)
+abbrev pub noted_turns : ℕ → ℕ → List FlatEqn → List Turn → List Reach → List Reach
+noted_turns depth base es [] table = table
+noted_turns depth base es (t ∷ ts) table = noted_turns depth base es ts (noted_turn depth base es t table)
 
-abbrev pub weighed_by : ℕ → List Reach → FlatEqn → Weighed
-weighed_by base table e = record { eqn = e; weight = weight_of base table e }
+abbrev pub weighed_by : ℕ → List Reach → List Reach → FlatEqn → Weighed
+weighed_by base outers inners e = record { eqn = e; outer = weight_of 0 base outers e; inner = weight_of 1 base inners e }
 
 abbrev pub weighed_before : Weighed → Weighed → Bool
-weighed_before v w = is_lt (ordering_then (nat_cmp w.weight.level v.weight.level) (ordering_then (nat_cmp v.weight.control w.weight.control) (nat_cmp w.weight.height v.weight.height)))
+weighed_before v w =
+    is_lt
+    (ordering_then (nat_cmp w.outer.level v.outer.level)
+    (ordering_then (nat_cmp v.outer.control w.outer.control)
+    (ordering_then (nat_cmp w.inner.level v.inner.level)
+    (ordering_then (nat_cmp v.inner.control w.inner.control)
+    (nat_cmp w.outer.height v.outer.height)))))
 
 -- a turn stands before those of lesser places
 abbrev pub turns_before : Turn → Turn → Bool
 turns_before s t = is_lt (nat_cmp t.at s.at)
 
 -- a table of all equations, noted from the greatest place to the least
-pub record IsNoted (base : ℕ) (es : List FlatEqn) (table : List Reach) : Type 0 where
+pub record IsNoted (depth base : ℕ) (es : List FlatEqn) (table : List Reach) : Type 0 where
   pub turns : List Turn
   pub all : IsPermutation (turns_from 0 es) turns
   pub order : IsSortedBy turns_before turns
-  pub noted_are : table ≡ noted_turns base es turns (replicate base unmet)
+  pub noted_are : table ≡ noted_turns depth base es turns (replicate base unmet)

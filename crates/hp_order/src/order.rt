@@ -27,7 +27,10 @@ pub struct Turn {
 #[derive(Drop)]
 pub struct Weighed {
     pub eqn: FlatEqn,
-    pub weight: Weight,
+    /// By the outermost variables of clocks.
+    pub outer: Weight,
+    /// By the second variables of clocks.
+    pub inner: Weight,
 }
 
 fn push_turn(turns: &mut Vec<Turn>, index: usize, eqn: &FlatEqn) -> Result<(), AllocError>
@@ -61,48 +64,55 @@ fn turns(alloc: Global, eqns: &[FlatEqn]) -> Result<Vec<Turn>, AllocError>
 
 #[tactic(auto, using(crate::proofs::TurnRules::turning))]
 fn note_turn(
+    depth: usize,
     base: usize,
     eqns: &[FlatEqn],
     turn: Turn,
     table: &mut [Reach],
 ) -> Result<(), AllocError>
-    ensures { OnOk result (table.new ≡ noted_turn base eqns.now turn table.old) }
+    ensures { OnOk result (table.new ≡ noted_turn depth base eqns.now turn table.old) }
 {
     if turn.index < eqns.len() {
-        note(base, table, &eqns[turn.index])?;
+        note(depth, base, table, &eqns[turn.index])?;
     }
     Ok(())
 }
 
 #[tactic(auto, using(crate::proofs::TurnRules::turning))]
 fn note_turns(
+    depth: usize,
     base: usize,
     eqns: &[FlatEqn],
     turns: &[Turn],
     table: &mut [Reach],
 ) -> Result<(), AllocError>
-    ensures { OnOk result (table.new ≡ noted_turns base eqns.now turns.now table.old) }
+    ensures { OnOk result (table.new ≡ noted_turns depth base eqns.now turns.now table.old) }
 {
     for turn in turns {
-        note_turn(base, eqns, *turn, table)?;
+        note_turn(depth, base, eqns, *turn, table)?;
     }
     Ok(())
 }
 
-/// How far the equations reach that read each of so many variables.
-fn reaches(alloc: Global, variables: usize, eqns: &[FlatEqn]) -> Result<Vec<Reach>, AllocError>
-    ensures { IfOk result (λ table. IsNoted variables eqns.now table.items) }
+/// How far the equations reach that read each of so many variables, by the controls at a depth of clocks.
+fn reaches(
+    alloc: Global,
+    depth: usize,
+    variables: usize,
+    eqns: &[FlatEqn],
+) -> Result<Vec<Reach>, AllocError>
+    ensures { IfOk result (λ table. IsNoted depth variables eqns.now table.items) }
 {
     let turns = turns(alloc, eqns)?;
     let mut table = vec![in alloc; Reach::unmet(); variables]?;
-    note_turns(variables, eqns, &turns, &mut table)?;
+    note_turns(depth, variables, eqns, &turns, &mut table)?;
     Ok(table)
 }
 
-fn push_weighed(weighed: &mut Vec<Weighed>, weight: Weight, eqn: FlatEqn) -> Result<(), AllocError>
-    ensures { OnOk result (weighed.new.items ≡ weighed.old.items ++ record { eqn = eqn; weight = weight } ∷ []) }
+fn push_weighed(weighed: &mut Vec<Weighed>, one: Weighed) -> Result<(), AllocError>
+    ensures { OnOk result (weighed.new.items ≡ weighed.old.items ++ one ∷ []) }
 {
-    match weighed.push(Weighed { eqn, weight }) {
+    match weighed.push(one) {
         Ok(()) => Ok(()),
         Err(_) => Err(AllocError),
     }
@@ -112,26 +122,39 @@ fn push_weighed(weighed: &mut Vec<Weighed>, weight: Weight, eqn: FlatEqn) -> Res
 fn weigh(
     alloc: Global,
     base: usize,
-    table: &[Reach],
+    outers: &[Reach],
+    inners: &[Reach],
     eqns: Vec<FlatEqn>,
 ) -> Result<Vec<Weighed>, AllocError>
-    ensures { IfOk result (λ weighed. weighed.items ≡ map (weighed_by base table.now) eqns.items) }
+    ensures { IfOk result (λ weighed. weighed.items ≡ map (weighed_by base outers.now inners.now) eqns.items) }
 {
     let mut weighed = Vec::new(alloc);
     for eqn in eqns {
-        let weight = weight_of(base, table, &eqn);
-        push_weighed(&mut weighed, weight, eqn)?;
+        let outer = weight_of(0, base, outers, &eqn);
+        let inner = weight_of(1, base, inners, &eqn);
+        push_weighed(&mut weighed, Weighed { eqn, outer, inner })?;
     }
     Ok(weighed)
 }
 
-/// By level, the greatest first, then by control, then by height, the greatest first.
+/// By level, the greatest first, then by control, and so within; then by height, the greatest first.
 fn in_order(mut weighed: Vec<Weighed>) -> Result<Vec<Weighed>, AllocError>
     ensures same { IfOk result (λ ordered. IsPermutation weighed.items ordered.items) }
     ensures sorted { IfOk result (λ ordered. IsSortedBy weighed_before ordered.items) }
     ensures stable { IfOk result (λ ordered. IsStableBy weighed_before weighed.items ordered.items) }
 {
-    weighed.sort_by_key(|one| (Reverse(one.weight.level), (one.weight.control, Reverse(one.weight.height))))?;
+    weighed.sort_by_key(|one| {
+        (
+            Reverse(one.outer.level),
+            (
+                one.outer.control,
+                (
+                    Reverse(one.inner.level),
+                    (one.inner.control, Reverse(one.outer.height)),
+                ),
+            ),
+        )
+    })?;
     Ok(weighed)
 }
 
@@ -162,8 +185,9 @@ fn by_clock(alloc: Global, variables: usize, eqns: Vec<FlatEqn>) -> Result<Vec<F
     ensures order { IfOk result (λ scheduled. IsInOrder scheduled.items) }
     ensures by_clock { IfOk result (λ scheduled. IsRanked eqns.items → AllByRecursion (λ (e : EqnSeen). AreBelow variables (reads e)) eqns.items → IsByClock variables eqns.items scheduled.items) }
 {
-    let table = reaches(alloc, variables, &eqns)?;
-    let weighed = weigh(alloc, variables, &table, eqns)?;
+    let outers = reaches(alloc, 0, variables, &eqns)?;
+    let inners = reaches(alloc, 1, variables, &eqns)?;
+    let weighed = weigh(alloc, variables, &outers, &inners, eqns)?;
     let ordered = in_order(weighed)?;
     let placed = place(alloc, ordered)?;
     Ok(placed)

@@ -16,7 +16,7 @@ use std::alloc::AllocError;
 pub struct Weight {
     /// How often controls change on a path of readers from it.
     pub level: usize,
-    /// The outermost variable of its clock, or a number for the base clock.
+    /// The variable at a depth of its clock, or a number where it has none.
     pub control: usize,
     /// How many equations stand behind it on a path of readers.
     pub height: usize,
@@ -122,23 +122,25 @@ fn raise_all(table: &[Reach], variables: &[usize], weight: &mut Weight)
     }
 }
 
-/// The outermost variable of the clock, or the base.
-fn control_of(base: usize, eqn: &FlatEqn) -> usize
-    ensures { result ≡ control base eqn.now }
+/// The variable at a depth of the clock, or the base.
+#[tactic(auto, using(crate::proofs::Rules::asking))]
+fn control_of(depth: usize, base: usize, eqn: &FlatEqn) -> usize
+    ensures { result ≡ control depth base eqn.now }
 {
-    match eqn.clock.first() {
-        None => base,
-        Some((variable, _constructor)) => *variable,
+    if depth < eqn.clock.len() {
+        eqn.clock[depth].0
+    } else {
+        base
     }
 }
 
-/// The weight of an equation, where those are noted that read it.
-pub fn weight_of(base: usize, table: &[Reach], eqn: &FlatEqn) -> Weight
-    ensures { result ≡ weight_of base table.now eqn.now }
+/// The weight of an equation, whose control stands at a depth of its clock, where those are noted that read it.
+pub fn weight_of(depth: usize, base: usize, table: &[Reach], eqn: &FlatEqn) -> Weight
+    ensures { result ≡ weight_of depth base table.now eqn.now }
 {
     let mut weight = Weight {
         level: 0,
-        control: control_of(base, eqn),
+        control: control_of(depth, base, eqn),
         height: 0,
     };
     raise_all(table, &eqn.targets, &mut weight);
@@ -216,9 +218,14 @@ fn note_reads(table: &mut [Reach], weight: Weight, eqn: &FlatEqn) -> Result<(), 
 }
 
 /// Notes what the equation reads.
-pub fn note(base: usize, table: &mut [Reach], eqn: &FlatEqn) -> Result<(), AllocError>
-    ensures { OnOk result (table.new ≡ noted base eqn.now table.old) }
+pub fn note(
+    depth: usize,
+    base: usize,
+    table: &mut [Reach],
+    eqn: &FlatEqn,
+) -> Result<(), AllocError>
+    ensures { OnOk result (table.new ≡ noted depth base eqn.now table.old) }
 {
-    let weight = weight_of(base, table, eqn);
+    let weight = weight_of(depth, base, table, eqn);
     note_reads(table, weight, eqn)
 }

@@ -13,9 +13,10 @@ use Rattle.hp_obc.specs.Steps.{Names, machine_behaviour, run}
 use Rattle.hp_form.specs.Regular.Regular.{IsRegular}
 use Rattle.hp_normal.specs.Retargeting.{with_eqns}
 use Rattle.hp_order.proofs.PlacedLaws.{Placed, placed-back, ranked-moved, form-alike, calls-alike, answered-alike}
+use Rattle.hp_order.proofs.ReadLaws.{reads-within}
 use Rattle.hp_order.proofs.UniqueLaws.{ranked-by_clock}
 use Rattle.law_equations.specs.Meaning.Reactions.{Answers}
-use Rattle.law_equations.specs.Meaning.Scheduling.{AreBelow, EqnWithin, IsRanked}
+use Rattle.law_equations.specs.Meaning.Scheduling.{AreBelow, EqnWithin, reads, IsRanked}
 use Rattle.law_equations.specs.Followed.Programs.{Answered, CallsOnly, file_of, all_answers}
 use Rattle.law_equations.specs.Fewer.Compiling.{AreCompiled, AreFlatNodes, CompiledLaw, FlatForm, IsCompiled}
 use Rattle.law_equations.specs.Made.Laws.{unplaced}
@@ -36,7 +37,7 @@ module _ (types : List ObcType) (n : FlatNode) (m : Machine) (made : IsMachineOf
   pub compiled_node : IsCompiled types placed_node m
   compiled_node = record { scheduled = (made.arranged).scheduled; same = placed_of.same; order = (made.arranged).order; made = (made.arranged).made }
 
-  pub placed_ranked : IsRanked (giving n).eqns → AllByRecursion (λ (e : FlatEqn). AreBelow (length n.variables) e.targets) (giving n).eqns → IsRanked placed_of.placed
+  pub placed_ranked : IsRanked (giving n).eqns → AllByRecursion (λ (e : FlatEqn). AreBelow (length n.variables) (reads e)) (giving n).eqns → IsRanked placed_of.placed
   placed_ranked ranked within =
       let a = made.arranged in
       ranked-moved a.scheduled placed_of.placed (IsPermutation-sym placed_of.placed a.scheduled placed_of.same) (ranked-by_clock (length n.variables) (giving n).eqns a.scheduled (a.by_clock ranked within))
@@ -44,7 +45,7 @@ module _ (types : List ObcType) (n : FlatNode) (m : Machine) (made : IsMachineOf
   pub placed_form : FlatForm types (giving n) → FlatForm types placed_node
   placed_form f =
       form-alike (giving n) placed_of.placed placed_of.alike types
-      (placed_ranked f.ranked (each_map (EqnWithin (length n.variables)) (λ (e : FlatEqn). AreBelow (length n.variables) e.targets) (λ e w. w.targets) (giving n).eqns (f.within).eqns)) f
+      (placed_ranked f.ranked (each_map (EqnWithin (length n.variables)) (λ (e : FlatEqn). AreBelow (length n.variables) (reads e)) (λ e w. reads-within (length n.variables) e w) (giving n).eqns (f.within).eqns)) f
 
 abbrev pub placed_nodes : (types : List ObcType) (ns : List FlatNode) (ms : List Machine) → AreMade types ns ms → List FlatNode
 placed_nodes types [] [] h = []

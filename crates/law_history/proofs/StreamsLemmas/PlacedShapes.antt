@@ -21,6 +21,7 @@ use Rattle.law_equations.proofs.FewerLemmas.OrderLaws.{each_moved}
 use Rattle.hp_complete.specs.Made.{AreMadeOf}
 use Rattle.hp_order.specs.ByClock.{IsByClock, numbered}
 use Rattle.hp_order.proofs.PlacedLaws.{all-alike, calls-alike, same-count, within-alike}
+use Rattle.hp_order.proofs.ReadLaws.{reads-within}
 use Rattle.hp_order.proofs.UniqueLaws.{ranked-by_clock}
 use Rattle.hp_machines.specs.Making.{AreMade, IsMachineOf, defines_some, giving}
 use Rattle.law_history.proofs.StreamsLemmas.MadeMachines.{placed_of, placed_node, placed_nodes, placed_ranked}
@@ -135,7 +136,7 @@ module _ (types : List ObcType) (n : FlatNode) (m : Machine) (made : IsMachineOf
   pub whole_given : filter defines_some whole_node.eqns ≡ (placed_of types n m made).placed
   whole_given = let p = placed_of types n m made in merged_given (length (made.arranged).scheduled) n.eqns p.placed p.alike
 
-  pub whole_ranked : IsRanked (giving n).eqns → AllByRecursion (λ (e : FlatEqn). AreBelow (length n.variables) e.targets) (giving n).eqns → IsRanked whole_node.eqns
+  pub whole_ranked : IsRanked (giving n).eqns → AllByRecursion (λ (e : FlatEqn). AreBelow (length n.variables) (reads e)) (giving n).eqns → IsRanked whole_node.eqns
   whole_ranked ranked within =
       let a = made.arranged in
       let p = placed_of types n m made in
@@ -179,8 +180,8 @@ module _ (types : List ObcType) (callees : Callees) where
   whole_nodes [] (m ∷ ms) h = []
   whole_nodes (n ∷ ns) [] h = []
 
-  targets_within : (n : FlatNode) → NodeShape types callees (giving n) → AllByRecursion (λ (e : FlatEqn). AreBelow (length n.variables) e.targets) (giving n).eqns
-  targets_within n h = each_map (EqnWithin (length n.variables)) (λ (e : FlatEqn). AreBelow (length n.variables) e.targets) (λ e w. w.targets) (giving n).eqns (h.within).eqns
+  reads_below : (n : FlatNode) → NodeShape types callees (giving n) → AllByRecursion (λ (e : FlatEqn). AreBelow (length n.variables) (reads e)) (giving n).eqns
+  reads_below n h = each_map (EqnWithin (length n.variables)) (λ (e : FlatEqn). AreBelow (length n.variables) (reads e)) (λ e w. reads-within (length n.variables) e w) (giving n).eqns (h.within).eqns
 
   -- they are made of the same nodes of the program
   pub whole_made : (k : Known) (items : List Item) (earlier : List (List ℕ)) (ns : List FlatNode) (ms : List Machine) (h : AreMade types ns ms) → AreShaped types callees earlier (map giving ns) → AreMadeOf k items ns
@@ -199,7 +200,7 @@ module _ (types : List ObcType) (callees : Callees) where
           inputs = one.inputs;
           outputs = one.outputs;
           eqns = whole_alike types n m h.0 ∙ one.eqns;
-          ranked = whole_ranked types n m h.0 s.1 (targets_within n s.0);
+          ranked = whole_ranked types n m h.0 s.1 (reads_below n s.0);
         },
         whole_made k items (n.name ∷ earlier) ns ms h.1 s.5 made.1,
       )
@@ -213,7 +214,7 @@ module _ (types : List ObcType) (callees : Callees) where
       let p = placed_of types n m h.0 in
       let apart : DefineApart p.placed = subst DefineApart (whole_given types n m h.0) (apart_given (whole_node types n m h.0).eqns a.0) in (
         placed_shape types n m h.0 callees apart s.0,
-        placed_ranked types n m h.0 s.1 (targets_within n s.0),
+        placed_ranked types n m h.0 s.1 (reads_below n s.0),
         record { takes = (s.2).takes; gives = (s.2).gives },
         s.3,
         calls-alike (giving n) p.placed p.alike earlier s.4,

@@ -8,18 +8,21 @@ use Rattle.hp_order.proofs.order.by_clock.Goals as goal
 
 pub returns-clause-same : goal.returns-clause-same
 returns-clause-same c =
-    let weighed : c.in_ok-weighed.weighed.items ≡ map (weighed_by c.args.variables c.in_ok-table.table.items) c.args.eqns.items =
-    c.in_ok-weighed.ensures ∙ ap (λ (t : List Reach). map (weighed_by c.args.variables t) c.args.eqns.items) c.deref-2.ensures.value in
-    same-eqns c.args.variables c.args.eqns.items c.in_ok-table.table.items c.in_ok-weighed.weighed.items c.in_ok-ordered.ordered.items c.in_ok-placed.placed.items weighed c.in_ok-ordered.ensures.same c.in_ok-placed.ensures
+    let weighed : c.in_ok-weighed.weighed.items ≡ map (weighed_by c.args.variables c.in_ok-outers.outers.items c.in_ok-inners.inners.items) c.args.eqns.items =
+    c.in_ok-weighed.ensures ∙ (λ i. map (weighed_by c.args.variables (c.deref-3.ensures.value i) (c.deref-4.ensures.value i)) c.args.eqns.items) in
+    same-eqns c.args.variables c.args.eqns.items c.in_ok-outers.outers.items c.in_ok-inners.inners.items c.in_ok-weighed.weighed.items c.in_ok-ordered.ordered.items c.in_ok-placed.placed.items weighed
+    c.in_ok-ordered.ensures.same c.in_ok-placed.ensures
 
 pub returns-clause-order : goal.returns-clause-order
 returns-clause-order c = numbered-in_order (map (λ (w : Weighed). w.eqn) c.in_ok-ordered.ordered.items) c.in_ok-placed.placed.items c.in_ok-placed.ensures
 
 pub returns-clause-by_clock : goal.returns-clause-by_clock
 returns-clause-by_clock c =
-    let weighed : c.in_ok-weighed.weighed.items ≡ map (weighed_by c.args.variables c.in_ok-table.table.items) c.args.eqns.items =
-    c.in_ok-weighed.ensures ∙ ap (λ (t : List Reach). map (weighed_by c.args.variables t) c.args.eqns.items) c.deref-2.ensures.value in
-    let noted : IsNoted c.args.variables c.args.eqns.items c.in_ok-table.table.items =
-    subst (λ (es : List FlatEqn). IsNoted c.args.variables es c.in_ok-table.table.items) c.deref.ensures.value c.in_ok-table.ensures in
-    made-by_clock c.args.variables c.args.eqns.items c.in_ok-table.table.items c.in_ok-weighed.weighed.items c.in_ok-ordered.ordered.items c.in_ok-placed.placed.items weighed c.in_ok-ordered.ensures.same c.in_ok-placed.ensures
-    noted c.in_ok-ordered.ensures.sorted c.in_ok-ordered.ensures.stable
+    let weighed : c.in_ok-weighed.weighed.items ≡ map (weighed_by c.args.variables c.in_ok-outers.outers.items c.in_ok-inners.inners.items) c.args.eqns.items =
+    c.in_ok-weighed.ensures ∙ (λ i. map (weighed_by c.args.variables (c.deref-3.ensures.value i) (c.deref-4.ensures.value i)) c.args.eqns.items) in
+    let first : IsNoted 0 c.args.variables c.args.eqns.items c.in_ok-outers.outers.items =
+    subst (λ (es : List FlatEqn). IsNoted 0 c.args.variables es c.in_ok-outers.outers.items) c.deref.ensures.value c.in_ok-outers.ensures in
+    let second : IsNoted 1 c.args.variables c.args.eqns.items c.in_ok-inners.inners.items =
+    subst (λ (es : List FlatEqn). IsNoted 1 c.args.variables es c.in_ok-inners.inners.items) c.deref-2.ensures.value c.in_ok-inners.ensures in
+    made-by_clock c.args.variables c.args.eqns.items c.in_ok-outers.outers.items c.in_ok-inners.inners.items c.in_ok-weighed.weighed.items c.in_ok-ordered.ordered.items c.in_ok-placed.placed.items weighed
+    c.in_ok-ordered.ensures.same c.in_ok-placed.ensures first second c.in_ok-ordered.ensures.sorted c.in_ok-ordered.ensures.stable

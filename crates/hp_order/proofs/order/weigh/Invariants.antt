@@ -3,4 +3,4 @@ use Rattle.hp_order.specs.Turning.{weighed_by}
 use Rattle.hp_order.proofs.order.weigh.Given as goal
 
 abbrev pub invariant-loop-eqn : goal.invariant-loop-eqn
-invariant-loop-eqn l = l.weighed.items ≡ map (weighed_by l.base l.table) l.yielded
+invariant-loop-eqn l = l.weighed.items ≡ map (weighed_by l.base l.outers l.inners) l.yielded
