@@ -21,10 +21,11 @@ use Rattle.law_equations.proofs.FewerLemmas.OrderLaws.{each_moved}
 use Rattle.hp_order.specs.declared.order.Turn.{Turn}
 use Rattle.hp_order.specs.declared.order.Weighed.{Weighed}
 use Rattle.hp_order.specs.declared.reach.Reach.{Reach}
-use Rattle.hp_order.specs.ByClock.{change, one, IsLongest, comes_before, numbered, IsByClock}
+use Rattle.hp_order.specs.ByClock.{change, one, Keys, IsLongest, comes_before, numbered, IsByClock}
 use Rattle.hp_order.specs.Reaching.{unmet, weight_of, noted, noted_eqns}
 use Rattle.hp_order.specs.Turning.{IsNoted, turns_from, blank, eqn_at, noted_turns, turns_before, weighed_by, weighed_before}
 use Rattle.hp_order.proofs.PathLaws.{awaited, control_of_weight, heights_by, levels_by, Falls, IsAwaited}
+use Rattle.hp_order.proofs.TurnLaws.{length-turns}
 use Rattle.hp_order.proofs.UniqueLaws.{longest-moved, sorted-rises, Rises}
 
 moved : {A : Type 0} (P : A → Type 0) (xs ys : List A) → IsPermutation xs ys → AllByRecursion P xs → AllByRecursion P ys
@@ -131,35 +132,37 @@ module _ (depth base : ℕ) (es : List FlatEqn) (table : List Reach) (h : IsNote
 
 -- ---- weights
 
-module _ (base : ℕ) (outers inners : List Reach) where
+-- a table has an entry for each variable
+pub noted-count : (depth base : ℕ) (es : List FlatEqn) (table : List Reach) → IsNoted depth base es table → length table ≡ base
+noted-count depth base es table h = ap length h.noted_are ∙ length-turns depth base es h.turns (replicate base unmet) ∙ length-replicate base
+
+module _ (base : ℕ) (outers middles inners : List Reach) where
   abbrev weigh : FlatEqn → Weighed
-  weigh e = weighed_by base outers inners e
+  weigh e = weighed_by base outers middles inners e
 
   abbrev plain : Weighed → FlatEqn
   plain w = w.eqn
 
-  abbrev level : FlatEqn → ℕ
-  level e = (weight_of 0 base outers e).level
-
-  abbrev within : FlatEqn → ℕ
-  within e = (weight_of 1 base inners e).level
-
-  abbrev height : FlatEqn → ℕ
-  height e = (weight_of 0 base outers e).height
+  abbrev pub keys_by : Keys
+  keys_by = record {
+    outer = λ e. (weight_of 0 base outers e).level;
+    middle = λ e. (weight_of 1 base middles e).level;
+    inner = λ e. (weight_of 2 base inners e).level;
+    height = λ e. (weight_of 0 base outers e).height;
+  }
 
   back : (es : List FlatEqn) → map plain (map weigh es) ≡ es
   back [] = refl
   back (e ∷ es) = ap (λ ds. e ∷ ds) (back es)
 
-  before_same : (d e : FlatEqn) → weighed_before (weigh d) (weigh e) ≡ comes_before base level within height d e
+  before_same : (d e : FlatEqn) → weighed_before (weigh d) (weigh e) ≡ comes_before base keys_by d e
   before_same d e = λ i. is_lt
-      (ordering_then (nat_cmp (level e) (level d))
-      (ordering_then (nat_cmp (control_of_weight 0 base outers d i) (control_of_weight 0 base outers e i))
-      (ordering_then (nat_cmp (within e) (within d))
-      (ordering_then (nat_cmp (control_of_weight 1 base inners d i) (control_of_weight 1 base inners e i))
-      (nat_cmp (height e) (height d))))))
+      (ordering_then (ordering_then (nat_cmp (keys_by.outer e) (keys_by.outer d)) (nat_cmp (control_of_weight 0 base outers d i) (control_of_weight 0 base outers e i)))
+      (ordering_then (ordering_then (nat_cmp (keys_by.middle e) (keys_by.middle d)) (nat_cmp (control_of_weight 1 base middles d i) (control_of_weight 1 base middles e i)))
+      (ordering_then (ordering_then (nat_cmp (keys_by.inner e) (keys_by.inner d)) (nat_cmp (control_of_weight 2 base inners d i) (control_of_weight 2 base inners e i)))
+      (nat_cmp (keys_by.height e) (keys_by.height d)))))
 
-  ties_same : (x e : FlatEqn) → ties weighed_before (weigh x) (weigh e) ≡ ties (comes_before base level within height) x e
+  ties_same : (x e : FlatEqn) → ties weighed_before (weigh x) (weigh e) ≡ ties (comes_before base keys_by) x e
   ties_same x e = λ i. not (before_same x e i) && not (before_same e x i)
 
   filtered : (p : Weighed → Bool) (q : FlatEqn → Bool) → ((e : FlatEqn) → p (weigh e) ≡ q e) → (es : List FlatEqn) → filter p (map weigh es) ≡ map weigh (filter q es)
@@ -188,7 +191,7 @@ module _ (base : ℕ) (outers inners : List Reach) where
     pub eqns_same : IsPermutation es eqns
     eqns_same = subst (λ ds. IsPermutation ds eqns) (back es) (IsPermutation-map plain (map weigh es) ordered same)
 
-    pub eqns_sorted : IsSortedBy weighed_before ordered → IsSortedBy (comes_before base level within height) eqns
+    pub eqns_sorted : IsSortedBy weighed_before ordered → IsSortedBy (comes_before base keys_by) eqns
     eqns_sorted h k d le lt =
         let up : IsSortedBy weighed_before (map weigh eqns) = subst (IsSortedBy weighed_before) (sym again) h in
         let count : length (map weigh eqns) ≡ length eqns = length-map eqns weigh in
@@ -196,16 +199,16 @@ module _ (base : ℕ) (outers inners : List Reach) where
         ∙ sym (λ i. weighed_before (get_or-mapped weigh eqns (k + 1) d i) (get_or-mapped weigh eqns k d i))
         ∙ up k (weigh d) le (omega (arith, count))
 
-    pub eqns_stable : IsStableBy weighed_before (map weigh es) ordered → IsStableBy (comes_before base level within height) es eqns
+    pub eqns_stable : IsStableBy weighed_before (map weigh es) ordered → IsStableBy (comes_before base keys_by) es eqns
     eqns_stable h x =
         let t = ties weighed_before (weigh x) in
-        let u = ties (comes_before base level within height) x in
+        let u = ties (comes_before base keys_by) x in
         let there : map weigh (filter u eqns) ≡ map weigh (filter u es) = sym (filtered t u (ties_same x) eqns) ∙ ap (filter t) again ∙ h (weigh x) ∙ filtered t u (ties_same x) es in
         sym (back (filter u eqns)) ∙ ap (map plain) there ∙ back (filter u es)
 
-module _ (base : ℕ) (es : List FlatEqn) (outers inners : List Reach) (weighed ordered : List Weighed) (scheduled : List FlatEqn) (is : weighed ≡ map (weighed_by base outers inners) es)
+module _ (base : ℕ) (es : List FlatEqn) (outers middles inners : List Reach) (weighed ordered : List Weighed) (scheduled : List FlatEqn) (is : weighed ≡ map (weighed_by base outers middles inners) es)
     (same : IsPermutation weighed ordered) (placed : scheduled ≡ numbered 0 (map (λ (w : Weighed). w.eqn) ordered)) where
-  same_weighed : IsPermutation (map (weighed_by base outers inners) es) ordered
+  same_weighed : IsPermutation (map (weighed_by base outers middles inners) es) ordered
   same_weighed = subst (λ ws. IsPermutation ws ordered) is same
 
   unplaced_numbered : (k : ℕ) (ds : List FlatEqn) → map unplaced (numbered k ds) ≡ map unplaced ds
@@ -214,21 +217,22 @@ module _ (base : ℕ) (es : List FlatEqn) (outers inners : List Reach) (weighed 
 
   pub same-eqns : IsPermutation (map unplaced es) (map unplaced scheduled)
   same-eqns = subst (IsPermutation (map unplaced es)) (sym (ap (map unplaced) placed ∙ unplaced_numbered 0 (map (λ (w : Weighed). w.eqn) ordered)))
-      (IsPermutation-map unplaced es (map (λ (w : Weighed). w.eqn) ordered) (eqns_same base outers inners es ordered same_weighed))
+      (IsPermutation-map unplaced es (map (λ (w : Weighed). w.eqn) ordered) (eqns_same base outers middles inners es ordered same_weighed))
 
-  pub made-by_clock : IsNoted 0 base es outers → IsNoted 1 base es inners → IsSortedBy weighed_before ordered → IsStableBy weighed_before weighed ordered → IsRanked es → AllByRecursion (λ (d : FlatEqn). AreBelow base (reads d)) es
-      → IsByClock base es scheduled
-  made-by_clock first second sorted stable ranked read_within = record {
-    level = λ e. (weight_of 0 base outers e).level;
-    within = λ e. (weight_of 1 base inners e).level;
-    height = λ e. (weight_of 0 base outers e).height;
-    levels = levels_are 0 base es outers first ranked read_within;
-    withins = levels_are 1 base es inners second ranked read_within;
-    heights = heights_are 0 base es outers first ranked read_within;
+  pub made-by_clock : IsNoted 0 base es outers → IsNoted 1 base es middles → IsNoted 2 base es inners → IsSortedBy weighed_before ordered → IsStableBy weighed_before weighed ordered → IsRanked es
+      → AllByRecursion (λ (d : FlatEqn). AreBelow base (reads d)) es → IsByClock base es scheduled
+  made-by_clock first second third sorted stable ranked read_within = record {
+    keys = keys_by base outers middles inners;
+    longest = record {
+      outers = levels_are 0 base es outers first ranked read_within;
+      middles = levels_are 1 base es middles second ranked read_within;
+      inners = levels_are 2 base es inners third ranked read_within;
+      heights = heights_are 0 base es outers first ranked read_within;
+    };
     ordered = map (λ (w : Weighed). w.eqn) ordered;
-    same = eqns_same base outers inners es ordered same_weighed;
-    sorted = eqns_sorted base outers inners es ordered same_weighed sorted;
-    stable = eqns_stable base outers inners es ordered same_weighed (subst (λ ws. IsStableBy weighed_before ws ordered) is stable);
+    same = eqns_same base outers middles inners es ordered same_weighed;
+    sorted = eqns_sorted base outers middles inners es ordered same_weighed sorted;
+    stable = eqns_stable base outers middles inners es ordered same_weighed (subst (λ ws. IsStableBy weighed_before ws ordered) is stable);
     places = placed;
   }
 

@@ -1,9 +1,10 @@
 -- There is one order by clock, and in it each equation stands behind those that it reads.
 use Rattle.std.proofs.Common.{◌≡◌, ℕ, zero, suc, ◌+◌, ◌<◌, ◌≤◌, nat_eq, nat_lt, length, drop, get_or, Bool, true, false, not, ◌&&◌, cond, if◌then◌else◌, List, [], ◌∷◌, map, refl, sym, ap, subst, ◌∙◌, arith}
-use Rattle.std.specs.Cmp.{IsStrictWeakOrder}
+use Rattle.std.specs.Cmp.{IsStrictWeakOrder, IsTotalOrder}
 use Rattle.std.specs.List.{AllByRecursion, filter}
 use Rattle.std.specs.List.Sorted.{IsPermutation, IsSortedBy, IsStableBy, ties}
 use Rattle.std.specs.Ordering.{is_lt, nat_cmp, ordering_then}
+use Rattle.std.specs.declared.cmp.Ordering.{Ordering}
 use Rattle.std.specs.declared.cmp.Ordering.TheVariants.{Less, Equal}
 use Rattle.std.specs.Cmp.{nat_cmp_is}
 use Rattle.std.proofs.lemmas.Bool.{eqb-true, ltb-true, ltb-false}
@@ -16,7 +17,7 @@ use Rattle.law_equations.specs.Meaning.Scheduling.{reads, IsDefinedBelow, IsRank
 use Rattle.law_equations.specs.Made.Laws.{unplaced}
 use Rattle.law_equations.proofs.FewerLemmas.Members.{each_at, each_both, each_map, has-count}
 use Rattle.law_equations.proofs.FewerLemmas.OrderLaws.{each_moved}
-use Rattle.hp_order.specs.ByClock.{control, change, one, IsLongest, comes_before, numbered, IsByClock}
+use Rattle.hp_order.specs.ByClock.{control, change, one, Keys, AreKeys, IsLongest, at_depth, comes_before, numbered, IsByClock}
 use Rattle.hp_order.proofs.PathLaws.{all_own}
 
 -- ---- longest paths
@@ -52,66 +53,52 @@ module _ (es : List FlatEqn) (height : FlatEqn → ℕ) (heights : IsLongest one
 
 -- ---- the order
 
-module _ (base : ℕ) (level within height : FlatEqn → ℕ) where
+less : (a b : ℕ) → a < b → nat_cmp a b ≡ Less
+less a b h = sym (nat_cmp_is a b Less h)
+
+equal : (a b : ℕ) → a ≡ b → nat_cmp a b ≡ Equal
+equal a b h = sym (nat_cmp_is a b Equal h)
+
+-- what is read comes before at a depth, or what stands behind decides
+module _ (depth base : ℕ) (level : FlatEqn → ℕ) (d e : FlatEqn) (rest : Ordering) where
+  abbrev Told : Type 0
+  Told = is_lt (ordering_then (at_depth depth base level d e) rest) ≡ true
+
+  by_level : level e < level d → Told
+  by_level h = ap (λ o. is_lt (ordering_then (ordering_then o (nat_cmp (control depth base d) (control depth base e))) rest)) (less (level e) (level d) h)
+
+  by_rest : level e ≡ level d → control depth base d ≡ control depth base e → is_lt rest ≡ true → Told
+  by_rest l c r = ap (λ o. is_lt (ordering_then o rest)) (λ i. ordering_then (equal (level e) (level d) l i) (equal (control depth base d) (control depth base e) c i)) ∙ r
+
+  no_lower : (b : Bool) → nat_lt (level e) (level d) ≡ b → level e ≤ level d → control depth base d ≡ control depth base e → is_lt rest ≡ true → Told
+  no_lower true q l c r = by_level (ltb-true (level e) (level d) q)
+  no_lower false q l c r = let back : level d ≤ level e = ltb-false (level e) (level d) q in by_rest (omega (arith, l, back)) c r
+
+  by_change : (b : Bool) → nat_eq (control depth base e) (control depth base d) ≡ b → level e + (if b then 0 else 1) ≤ level d → is_lt rest ≡ true → Told
+  by_change true q l r = no_lower (nat_lt (level e) (level d)) refl (omega arith) (sym (eqb-true (control depth base e) (control depth base d) q)) r
+  by_change false q l r = by_level (omega arith)
+
+  told : level e + change depth base e d ≤ level d → is_lt rest ≡ true → Told
+  told l r = by_change (nat_eq (control depth base e) (control depth base d)) refl l r
+
+module _ (base : ℕ) (k : Keys) where
   abbrev before : FlatEqn → FlatEqn → Bool
-  before d e = comes_before base level within height d e
+  before d e = comes_before base k d e
+
+  total_at : (depth : ℕ) (level : FlatEqn → ℕ) → IsTotalOrder (at_depth depth base level)
+  total_at depth level = then_total (on_total level (back_total nat_cmp_total)) (on_total (control depth base) nat_cmp_total)
 
   weak : IsStrictWeakOrder before
-  weak =
-      ranks_by
-      (then_total (on_total level (back_total nat_cmp_total))
-      (then_total (on_total (control 0 base) nat_cmp_total)
-      (then_total (on_total within (back_total nat_cmp_total))
-      (then_total (on_total (control 1 base) nat_cmp_total)
-      (on_total height (back_total nat_cmp_total)))))) (λ (e : FlatEqn). e)
-
-  less : (a b : ℕ) → a < b → nat_cmp a b ≡ Less
-  less a b h = sym (nat_cmp_is a b Less h)
-
-  equal : (a b : ℕ) → a ≡ b → nat_cmp a b ≡ Equal
-  equal a b h = sym (nat_cmp_is a b Equal h)
-
-  by_level : (d e : FlatEqn) → level e < level d → before d e ≡ true
-  by_level d e h =
-      ap (λ o. is_lt (ordering_then o (ordering_then (nat_cmp (control 0 base d) (control 0 base e)) (ordering_then (nat_cmp (within e) (within d)) (ordering_then (nat_cmp (control 1 base d) (control 1 base e)) (nat_cmp (height e) (height d)))))))
-      (less (level e) (level d) h)
-
-  module _ (d e : FlatEqn) (l : level e ≡ level d) (c : control 0 base d ≡ control 0 base e) where
-    by_within : within e < within d → before d e ≡ true
-    by_within h = λ i. is_lt
-        (ordering_then (equal (level e) (level d) l i)
-        (ordering_then (equal (control 0 base d) (control 0 base e) c i)
-        (ordering_then (less (within e) (within d) h i)
-        (ordering_then (nat_cmp (control 1 base d) (control 1 base e))
-        (nat_cmp (height e) (height d))))))
-
-    by_height : within e ≡ within d → control 1 base d ≡ control 1 base e → height e < height d → before d e ≡ true
-    by_height w k h = λ i. is_lt
-        (ordering_then (equal (level e) (level d) l i)
-        (ordering_then (equal (control 0 base d) (control 0 base e) c i)
-        (ordering_then (equal (within e) (within d) w i)
-        (ordering_then (equal (control 1 base d) (control 1 base e) k i)
-        (less (height e) (height d) h i)))))
-
-    at_least : (b : Bool) → nat_lt (within e) (within d) ≡ b → within e ≤ within d → control 1 base d ≡ control 1 base e → height e < height d → before d e ≡ true
-    at_least true q w k h = by_within (ltb-true (within e) (within d) q)
-    at_least false q w k h = let no_less : within d ≤ within e = ltb-false (within e) (within d) q in by_height (omega arith) k h
-
-    within_change : (b : Bool) → nat_eq (control 1 base e) (control 1 base d) ≡ b → within e + (if b then 0 else 1) ≤ within d → height e + 1 ≤ height d → before d e ≡ true
-    within_change true q w h = at_least (nat_lt (within e) (within d)) refl (omega arith) (sym (eqb-true (control 1 base e) (control 1 base d) q)) (omega arith)
-    within_change false q w h = by_within (omega arith)
-
-  no_lower : (d e : FlatEqn) (b : Bool) → nat_lt (level e) (level d) ≡ b → level e ≤ level d → control 0 base d ≡ control 0 base e → within e + change 1 base e d ≤ within d → height e + 1 ≤ height d → before d e ≡ true
-  no_lower d e true q l c w h = by_level d e (ltb-true (level e) (level d) q)
-  no_lower d e false q l c w h = let no_less : level d ≤ level e = ltb-false (level e) (level d) q in within_change d e (omega arith) c (nat_eq (control 1 base e) (control 1 base d)) refl w h
-
-  by_change : (d e : FlatEqn) (b : Bool) → nat_eq (control 0 base e) (control 0 base d) ≡ b → level e + (if b then 0 else 1) ≤ level d → within e + change 1 base e d ≤ within d → height e + 1 ≤ height d → before d e ≡ true
-  by_change d e true q l w h = no_lower d e (nat_lt (level e) (level d)) refl (omega arith) (sym (eqb-true (control 0 base e) (control 0 base d) q)) w h
-  by_change d e false q l w h = by_level d e (omega arith)
+  weak = ranks_by (then_total (total_at 0 k.outer) (then_total (total_at 1 k.middle) (then_total (total_at 2 k.inner) (on_total k.height (back_total nat_cmp_total))))) (λ (e : FlatEqn). e)
 
   -- what is read comes before
-  read_before : (d e : FlatEqn) → level e + change 0 base e d ≤ level d → within e + change 1 base e d ≤ within d → height e + 1 ≤ height d → before d e ≡ true
-  read_before d e l w h = by_change d e (nat_eq (control 0 base e) (control 0 base d)) refl l w h
+  read_before : (d e : FlatEqn) → k.outer e + change 0 base e d ≤ k.outer d → k.middle e + change 1 base e d ≤ k.middle d → k.inner e + change 2 base e d ≤ k.inner d → k.height e + 1 ≤ k.height d → before d e ≡ true
+  read_before d e o m n h =
+      let by_height : Ordering = nat_cmp (k.height e) (k.height d) in
+      let last : is_lt by_height ≡ true = ap is_lt (less (k.height e) (k.height d) (omega (arith, h))) in
+      told 0 base k.outer d e (ordering_then (at_depth 1 base k.middle d e) (ordering_then (at_depth 2 base k.inner d e) by_height)) o
+      (told 1 base k.middle d e (ordering_then (at_depth 2 base k.inner d e) by_height) m
+      (told 2 base k.inner d e by_height n last))
 
 -- no element comes before one in front of it
 abbrev pub Rises : {A : Type 0} → (A → A → Bool) → List A → Type 0
@@ -243,7 +230,7 @@ turned_round R (x ∷ xs) ys h =
 
 module _ (base : ℕ) (es scheduled : List FlatEqn) (h : IsByClock base es scheduled) where
   abbrev ahead : FlatEqn → FlatEqn → Bool
-  ahead d e = before base h.level h.within h.height d e
+  ahead d e = before base h.keys d e
 
   -- an equation stands before one that reads a variable, and before one that reads what it defines
   abbrev Ahead : FlatEqn → ℕ → FlatEqn → Type 0
@@ -253,30 +240,23 @@ module _ (base : ℕ) (es scheduled : List FlatEqn) (h : IsByClock base es sched
   Feeds e d = (x : ℕ) → has e.targets x ≡ true → has (reads d) x ≡ true → ahead e d ≡ true
 
   all_ahead : (e : FlatEqn) → AllByRecursion (λ x. AllByRecursion (Ahead e x) h.ordered) e.targets
-  all_ahead e = each e.targets (levels.above e) (withins.above e) (heights.above e)
+  all_ahead e = each e.targets (moved (change 0 base) (h.keys).outer (h.longest).outers) (moved (change 1 base) (h.keys).middle (h.longest).middles) (moved (change 2 base) (h.keys).inner (h.longest).inners)
+      (moved one (h.keys).height (h.longest).heights)
     where
-      levels : IsLongest (change 0 base) h.level h.ordered
-      levels = longest-moved (change 0 base) h.level es h.ordered h.same h.levels
+      abbrev Of : (FlatEqn → FlatEqn → ℕ) → (FlatEqn → ℕ) → List ℕ → Type 0
+      Of cost path xs = AllByRecursion (λ x. AllByRecursion (Step cost path e (path e) x) h.ordered) xs
 
-      withins : IsLongest (change 1 base) h.within h.ordered
-      withins = longest-moved (change 1 base) h.within es h.ordered h.same h.withins
+      moved : (cost : FlatEqn → FlatEqn → ℕ) (path : FlatEqn → ℕ) → IsLongest cost path es → Of cost path e.targets
+      moved cost path l = (longest-moved cost path es h.ordered h.same l).above e
 
-      heights : IsLongest one h.height h.ordered
-      heights = longest-moved one h.height es h.ordered h.same h.heights
+      at : (x : ℕ) (ds : List FlatEqn) → AllByRecursion (Step (change 0 base) (h.keys).outer e ((h.keys).outer e) x) ds → AllByRecursion (Step (change 1 base) (h.keys).middle e ((h.keys).middle e) x) ds
+          → AllByRecursion (Step (change 2 base) (h.keys).inner e ((h.keys).inner e) x) ds → AllByRecursion (Step one (h.keys).height e ((h.keys).height e) x) ds → AllByRecursion (Ahead e x) ds
+      at x [] a b c f = tt
+      at x (d ∷ ds) a b c f = ((λ r. read_before base h.keys e d (a.0 r) (b.0 r) (c.0 r) (f.0 r)), at x ds a.1 b.1 c.1 f.1)
 
-      abbrev Both : ℕ → FlatEqn → Type 0
-      Both x d = Step (change 1 base) h.within e (h.within e) x d × Step one h.height e (h.height e) x d
-
-      at : (x : ℕ) → AllByRecursion (Step (change 0 base) h.level e (h.level e) x) h.ordered → AllByRecursion (Step (change 1 base) h.within e (h.within e) x) h.ordered → AllByRecursion (Step one h.height e (h.height e) x) h.ordered
-          → AllByRecursion (Ahead e x) h.ordered
-      at x a b c =
-          each_both (Step (change 0 base) h.level e (h.level e) x) (Both x) (Ahead e x) (λ d p q r. read_before base h.level h.within h.height e d (p r) (q.0 r) (q.1 r)) h.ordered a
-          (each_both (Step (change 1 base) h.within e (h.within e) x) (Step one h.height e (h.height e) x) (Both x) (λ d p q. (p, q)) h.ordered b c)
-
-      each : (xs : List ℕ) → AllByRecursion (λ x. AllByRecursion (Step (change 0 base) h.level e (h.level e) x) h.ordered) xs → AllByRecursion (λ x. AllByRecursion (Step (change 1 base) h.within e (h.within e) x) h.ordered) xs
-          → AllByRecursion (λ x. AllByRecursion (Step one h.height e (h.height e) x) h.ordered) xs → AllByRecursion (λ x. AllByRecursion (Ahead e x) h.ordered) xs
-      each [] a b c = tt
-      each (x ∷ xs) a b c = (at x a.0 b.0 c.0, each xs a.1 b.1 c.1)
+      each : (xs : List ℕ) → Of (change 0 base) (h.keys).outer xs → Of (change 1 base) (h.keys).middle xs → Of (change 2 base) (h.keys).inner xs → Of one (h.keys).height xs → AllByRecursion (λ x. AllByRecursion (Ahead e x) h.ordered) xs
+      each [] a b c f = tt
+      each (x ∷ xs) a b c f = (at x h.ordered a.0 b.0 c.0 f.0, each xs a.1 b.1 c.1 f.1)
 
   all_feed : (ds : List FlatEqn) → AllByRecursion (λ (e : FlatEqn). AllByRecursion (Feeds e) h.ordered) ds
   all_feed [] = tt
@@ -286,20 +266,20 @@ module _ (base : ℕ) (es scheduled : List FlatEqn) (h : IsByClock base es sched
     all_feed ds,
   )
 
-  all_read : AllByRecursion (λ (e : FlatEqn). AllByRecursion (λ x. AllByRecursion (Reads (before base h.level h.within h.height) e x) h.ordered) (reads e)) h.ordered
+  all_read : AllByRecursion (λ (e : FlatEqn). AllByRecursion (λ x. AllByRecursion (Reads (before base h.keys) e x) h.ordered) (reads e)) h.ordered
   all_read =
-      each_map (λ (e : FlatEqn). AllByRecursion (λ (d : FlatEqn). Feeds d e) h.ordered) (λ (e : FlatEqn). AllByRecursion (λ x. AllByRecursion (Reads (before base h.level h.within h.height) e x) h.ordered) (reads e))
-      (λ e fed. each_map (λ x. has (reads e) x ≡ true) (λ x. AllByRecursion (Reads (before base h.level h.within h.height) e x) h.ordered)
-      (λ x there. each_map (λ (d : FlatEqn). Feeds d e) (Reads (before base h.level h.within h.height) e x) (λ d f own. f x own there) h.ordered fed) (reads e) (all_own (reads e))) h.ordered
+      each_map (λ (e : FlatEqn). AllByRecursion (λ (d : FlatEqn). Feeds d e) h.ordered) (λ (e : FlatEqn). AllByRecursion (λ x. AllByRecursion (Reads (before base h.keys) e x) h.ordered) (reads e))
+      (λ e fed. each_map (λ x. has (reads e) x ≡ true) (λ x. AllByRecursion (Reads (before base h.keys) e x) h.ordered)
+      (λ x there. each_map (λ (d : FlatEqn). Feeds d e) (Reads (before base h.keys) e x) (λ d f own. f x own there) h.ordered fed) (reads e) (all_own (reads e))) h.ordered
       (turned_round Feeds h.ordered h.ordered (all_feed h.ordered))
 
   -- In the order by clock each equation stands behind those that it reads.
   pub ranked-by_clock : IsRanked scheduled
   ranked-by_clock =
-      let lt = before base h.level h.within h.height in
+      let lt = before base h.keys in
       subst IsRanked (sym h.places)
-      (rises-ranked (before base h.level h.within h.height) (λ e. own_not (before base h.level h.within h.height) (weak base h.level h.within h.height) e (before base h.level h.within h.height e e) refl) 0 h.ordered
-      (sorted-rises (before base h.level h.within h.height) (weak base h.level h.within h.height) h.ordered h.sorted) all_read)
+      (rises-ranked (before base h.keys) (λ e. own_not (before base h.keys) (weak base h.keys) e (before base h.keys e e) refl) 0 h.ordered
+      (sorted-rises (before base h.keys) (weak base h.keys) h.ordered h.sorted) all_read)
 
 -- ---- the order does not depend on places
 
@@ -351,78 +331,82 @@ numbered_up : (k : ℕ) (es : List FlatEqn) → numbered k (map unplaced es) ≡
 numbered_up k [] = refl
 numbered_up k (e ∷ es) = ap (λ ds. record e { at = k } ∷ ds) (numbered_up (suc k) es)
 
-module _ (base : ℕ) (level within height : FlatEqn → ℕ) (f : (e : FlatEqn) → level (unplaced e) ≡ level e) (v : (e : FlatEqn) → within (unplaced e) ≡ within e) (g : (e : FlatEqn) → height (unplaced e) ≡ height e) where
-  abbrev told : ℕ → ℕ → ℕ → FlatEqn → ℕ → ℕ → ℕ → FlatEqn → Bool
-  told dl dw dh d el ew eh e = is_lt
-      (ordering_then (nat_cmp el dl)
-      (ordering_then (nat_cmp (control 0 base d) (control 0 base e))
-      (ordering_then (nat_cmp ew dw)
-      (ordering_then (nat_cmp (control 1 base d) (control 1 base e))
-      (nat_cmp eh dh)))))
+-- keys do not tell places
+record AreFree (k : Keys) : Type 0 where
+  outer : (e : FlatEqn) → k.outer (unplaced e) ≡ k.outer e
+  middle : (e : FlatEqn) → k.middle (unplaced e) ≡ k.middle e
+  inner : (e : FlatEqn) → k.inner (unplaced e) ≡ k.inner e
+  height : (e : FlatEqn) → k.height (unplaced e) ≡ k.height e
 
-  before_free : (d e : FlatEqn) → before base level within height (unplaced d) (unplaced e) ≡ before base level within height d e
-  before_free d e = λ i. told (f d i) (v d i) (g d i) d (f e i) (v e i) (g e i) e
+module _ (base : ℕ) (k : Keys) (f : AreFree k) where
+  -- the comparison, with the numbers of keys left open
+  abbrev with_numbers : FlatEqn → ℕ → ℕ → ℕ → ℕ → FlatEqn → ℕ → ℕ → ℕ → ℕ → Bool
+  with_numbers d dl dm di dh e el em ei eh = is_lt
+      (ordering_then (ordering_then (nat_cmp el dl) (nat_cmp (control 0 base d) (control 0 base e)))
+      (ordering_then (ordering_then (nat_cmp em dm) (nat_cmp (control 1 base d) (control 1 base e)))
+      (ordering_then (ordering_then (nat_cmp ei di) (nat_cmp (control 2 base d) (control 2 base e)))
+      (nat_cmp eh dh))))
 
-  before_half : (d e : FlatEqn) → (before base level within height d (unplaced e) ≡ before base level within height d e) × (before base level within height (unplaced d) e ≡ before base level within height d e)
+  before_free : (d e : FlatEqn) → before base k (unplaced d) (unplaced e) ≡ before base k d e
+  before_free d e = λ i. with_numbers d (f.outer d i) (f.middle d i) (f.inner d i) (f.height d i) e (f.outer e i) (f.middle e i) (f.inner e i) (f.height e i)
+
+  before_half : (d e : FlatEqn) → (before base k d (unplaced e) ≡ before base k d e) × (before base k (unplaced d) e ≡ before base k d e)
   before_half d e = (
-    (λ i. told (level d) (within d) (height d) d (f e i) (v e i) (g e i) e),
-    (λ i. told (f d i) (v d i) (g d i) d (level e) (within e) (height e) e),
+    (λ i. with_numbers d (k.outer d) (k.middle d) (k.inner d) (k.height d) e (f.outer e i) (f.middle e i) (f.inner e i) (f.height e i)),
+    (λ i. with_numbers d (f.outer d i) (f.middle d i) (f.inner d i) (f.height d i) e (k.outer e) (k.middle e) (k.inner e) (k.height e)),
   )
 
 -- an order by clock of equations without places
 record Plainly (base : ℕ) (us scheduled : List FlatEqn) : Type 0 where
-  level : FlatEqn → ℕ
-  within : FlatEqn → ℕ
-  height : FlatEqn → ℕ
-  levels : IsLongest (change 0 base) level us
-  withins : IsLongest (change 1 base) within us
-  heights : IsLongest one height us
+  keys : Keys
+  longest : AreKeys base keys us
   ordered : List FlatEqn
-  rises : Rises (before base level within height) ordered
-  stable : (x : FlatEqn) → filter (ties (before base level within height) x) ordered ≡ filter (ties (before base level within height) x) us
+  rises : Rises (before base keys) ordered
+  stable : (x : FlatEqn) → filter (ties (before base keys) x) ordered ≡ filter (ties (before base keys) x) us
   places : scheduled ≡ numbered 0 ordered
+
+keys_free : (base : ℕ) (k : Keys) (es : List FlatEqn) → AreKeys base k es → AreFree k
+keys_free base k es h = record {
+  outer = level_free 0 base k.outer es h.outers;
+  middle = level_free 1 base k.middle es h.middles;
+  inner = level_free 2 base k.inner es h.inners;
+  height = height_free k.height es h.heights;
+}
 
 plainly : (base : ℕ) (es scheduled : List FlatEqn) → IsByClock base es scheduled → Plainly base (map unplaced es) scheduled
 plainly base es scheduled h =
-    let f : (e : FlatEqn) → h.level (unplaced e) ≡ h.level e = level_free 0 base h.level es h.levels in
-    let v : (e : FlatEqn) → h.within (unplaced e) ≡ h.within e = level_free 1 base h.within es h.withins in
-    let g : (e : FlatEqn) → h.height (unplaced e) ≡ h.height e = height_free h.height es h.heights in
+    let f : AreFree h.keys = keys_free base h.keys es h.longest in
     record {
-      level = h.level;
-      within = h.within;
-      height = h.height;
-      levels = longest_up (change 0 base) h.level (λ d e. refl) f es h.levels;
-      withins = longest_up (change 1 base) h.within (λ d e. refl) v es h.withins;
-      heights = longest_up one h.height (λ d e. refl) g es h.heights;
+      keys = h.keys;
+      longest = record {
+        outers = longest_up (change 0 base) (h.keys).outer (λ d e. refl) f.outer es (h.longest).outers;
+        middles = longest_up (change 1 base) (h.keys).middle (λ d e. refl) f.middle es (h.longest).middles;
+        inners = longest_up (change 2 base) (h.keys).inner (λ d e. refl) f.inner es (h.longest).inners;
+        heights = longest_up one (h.keys).height (λ d e. refl) f.height es (h.longest).heights;
+      };
       ordered = map unplaced h.ordered;
-      rises = rises_up (before base h.level h.within h.height) (before_free base h.level h.within h.height f v g) (before_half base h.level h.within h.height f v g) h.ordered
-          (sorted-rises (before base h.level h.within h.height) (weak base h.level h.within h.height) h.ordered h.sorted);
-      stable = stable_up (before base h.level h.within h.height) (before_free base h.level h.within h.height f v g) (before_half base h.level h.within h.height f v g) es h.ordered h.stable;
+      rises = rises_up (before base h.keys) (before_free base h.keys f) (before_half base h.keys f) h.ordered (sorted-rises (before base h.keys) (weak base h.keys) h.ordered h.sorted);
+      stable = stable_up (before base h.keys) (before_free base h.keys f) (before_half base h.keys f) es h.ordered h.stable;
       places = h.places ∙ sym (numbered_up 0 h.ordered);
     }
 
--- orders of the same numbers
-module _ (base : ℕ) (us : List FlatEqn) where
-  abbrev IsOrdered : (FlatEqn → ℕ) → (FlatEqn → ℕ) → (FlatEqn → ℕ) → List FlatEqn → Type 0
-  IsOrdered level within height ordered =
-      Rises (before base level within height) ordered × ((x : FlatEqn) → filter (ties (before base level within height) x) ordered ≡ filter (ties (before base level within height) x) us)
+one_keys : (base : ℕ) (us : List FlatEqn) (k l : Keys) → AreKeys base k us → AreKeys base l us → l ≡ k
+one_keys base us k l p q =
+    let outer : (e : FlatEqn) → l.outer e ≡ k.outer e = one_longest us k.height p.heights (change 0 base) l.outer k.outer q.outers p.outers in
+    let middle : (e : FlatEqn) → l.middle e ≡ k.middle e = one_longest us k.height p.heights (change 1 base) l.middle k.middle q.middles p.middles in
+    let inner : (e : FlatEqn) → l.inner e ≡ k.inner e = one_longest us k.height p.heights (change 2 base) l.inner k.inner q.inners p.inners in
+    let height : (e : FlatEqn) → l.height e ≡ k.height e = one_longest us k.height p.heights one l.height k.height q.heights p.heights in
+    (λ i. record { outer = λ e. outer e i; middle = λ e. middle e i; inner = λ e. inner e i; height = λ e. height e i })
+
+abbrev IsOrdered : ℕ → List FlatEqn → List FlatEqn → Keys → Type 0
+IsOrdered base us ordered k = Rises (before base k) ordered × ((x : FlatEqn) → filter (ties (before base k) x) ordered ≡ filter (ties (before base k) x) us)
 
 one_plain : (base : ℕ) (us s t : List FlatEqn) → Plainly base us s → Plainly base us t → s ≡ t
 one_plain base us s t p q =
-    let l : (e : FlatEqn) → q.level e ≡ p.level e = one_longest us p.height p.heights (change 0 base) q.level p.level q.levels p.levels in
-    let w : (e : FlatEqn) → q.within e ≡ p.within e = one_longest us p.height p.heights (change 1 base) q.within p.within q.withins p.withins in
-    let h : (e : FlatEqn) → q.height e ≡ p.height e = one_longest us p.height p.heights one q.height p.height q.heights p.heights in
-    let level : q.level ≡ p.level = λ i e. l e i in
-    let within : q.within ≡ p.within = λ i e. w e i in
-    let height : q.height ≡ p.height = λ i e. h e i in
-    let own : IsOrdered base us q.level q.within q.height q.ordered = (q.rises, q.stable) in
-    let leveled : IsOrdered base us p.level q.within q.height q.ordered = subst (λ (k : FlatEqn → ℕ). IsOrdered base us k q.within q.height q.ordered) level own in
-    let lead : IsOrdered base us p.level p.within q.height q.ordered = subst (λ (k : FlatEqn → ℕ). IsOrdered base us p.level k q.height q.ordered) within leveled in
-    let all : IsOrdered base us p.level p.within p.height q.ordered = subst (λ (k : FlatEqn → ℕ). IsOrdered base us p.level p.within k q.ordered) height lead in
-    p.places
-    ∙ ap (numbered 0)
-        (one_order (before base p.level p.within p.height) (weak base p.level p.within p.height) p.ordered q.ordered p.rises all.0 (λ x. p.stable x ∙ sym (all.1 x)))
-    ∙ sym q.places
+    let keys : q.keys ≡ p.keys = one_keys base us p.keys q.keys p.longest q.longest in
+    let own : IsOrdered base us q.ordered q.keys = (q.rises, q.stable) in
+    let there : IsOrdered base us q.ordered p.keys = subst (IsOrdered base us q.ordered) keys own in
+    p.places ∙ ap (numbered 0) (one_order (before base p.keys) (weak base p.keys) p.ordered q.ordered p.rises there.0 (λ x. p.stable x ∙ sym (there.1 x))) ∙ sym q.places
 
 -- Equations that are the same but for their places have one order by clock.
 pub one_by_clock : (base : ℕ) (es fs s t : List FlatEqn) → map unplaced es ≡ map unplaced fs → IsByClock base es s → IsByClock base fs t → s ≡ t

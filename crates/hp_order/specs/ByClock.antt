@@ -32,34 +32,43 @@ module _ (cost : FlatEqn → FlatEqn → ℕ) (length_of : FlatEqn → ℕ) (es 
     pub above : (e : FlatEqn) → IsAbovePaths e (length_of e)
     pub least : (e : FlatEqn) (n : ℕ) → IsAbovePaths e n → length_of e ≤ n
 
--- by level, the greatest first, then by control, and so within; then by height, the greatest first
-abbrev pub compared : ℕ → (FlatEqn → ℕ) → (FlatEqn → ℕ) → (FlatEqn → ℕ) → FlatEqn → FlatEqn → Ordering
-compared base level within height d e =
-    ordering_then (nat_cmp (level e) (level d))
-    (ordering_then (nat_cmp (control 0 base d) (control 0 base e))
-    (ordering_then (nat_cmp (within e) (within d))
-    (ordering_then (nat_cmp (control 1 base d) (control 1 base e))
-    (nat_cmp (height e) (height d)))))
+-- Equations are ordered by four numbers: how far each is from the end by the controls at three depths of clocks, and by all steps.
+pub record Keys : Type 0 where
+  pub outer : FlatEqn → ℕ
+  pub middle : FlatEqn → ℕ
+  pub inner : FlatEqn → ℕ
+  pub height : FlatEqn → ℕ
 
-abbrev pub comes_before : ℕ → (FlatEqn → ℕ) → (FlatEqn → ℕ) → (FlatEqn → ℕ) → FlatEqn → FlatEqn → Bool
-comes_before base level within height d e = is_lt (compared base level within height d e)
+-- by level, the greatest first, then by control
+abbrev pub at_depth : ℕ → ℕ → (FlatEqn → ℕ) → FlatEqn → FlatEqn → Ordering
+at_depth depth base level d e = ordering_then (nat_cmp (level e) (level d)) (nat_cmp (control depth base d) (control depth base e))
+
+-- by depth, the outermost first, and then by height, the greatest first
+abbrev pub compared : ℕ → Keys → FlatEqn → FlatEqn → Ordering
+compared base k d e = ordering_then (at_depth 0 base k.outer d e) (ordering_then (at_depth 1 base k.middle d e) (ordering_then (at_depth 2 base k.inner d e) (nat_cmp (k.height e) (k.height d))))
+
+abbrev pub comes_before : ℕ → Keys → FlatEqn → FlatEqn → Bool
+comes_before base k d e = is_lt (compared base k d e)
 
 -- equations with places in a row
 abbrev pub numbered : ℕ → List FlatEqn → List FlatEqn
 numbered k [] = []
 numbered k (e ∷ es) = record e { at = k } ∷ numbered (suc k) es
 
--- Equations stand by how often the outermost control changes on a path of readers from them, the most often first, then by that control, by both of the second control within, and by how many wait for them, the most first;
+-- the keys are longest paths
+pub record AreKeys (base : ℕ) (k : Keys) (es : List FlatEqn) : Type 0 where
+  pub outers : IsLongest (change 0 base) k.outer es
+  pub middles : IsLongest (change 1 base) k.middle es
+  pub inners : IsLongest (change 2 base) k.inner es
+  pub heights : IsLongest one k.height es
+
+-- Equations stand by how often the outermost control changes on a path of readers from them, the most often first, then by that control, then so by the second and by the third, and by how many wait for them, the most first;
 -- where all are the same, in the order in which they were.
 pub record IsByClock (base : ℕ) (es scheduled : List FlatEqn) : Type 0 where
-  pub level : FlatEqn → ℕ
-  pub within : FlatEqn → ℕ
-  pub height : FlatEqn → ℕ
-  pub levels : IsLongest (change 0 base) level es
-  pub withins : IsLongest (change 1 base) within es
-  pub heights : IsLongest one height es
+  pub keys : Keys
+  pub longest : AreKeys base keys es
   pub ordered : List FlatEqn
   pub same : IsPermutation es ordered
-  pub sorted : IsSortedBy (comes_before base level within height) ordered
-  pub stable : IsStableBy (comes_before base level within height) es ordered
+  pub sorted : IsSortedBy (comes_before base keys) ordered
+  pub stable : IsStableBy (comes_before base keys) es ordered
   pub places : scheduled ≡ numbered 0 ordered

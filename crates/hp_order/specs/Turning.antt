@@ -6,7 +6,9 @@ use Rattle.std.proofs.Math.ListN.{replicate}
 use Rattle.hp_flat.specs.Equations.{FlatEqn, called}
 use Rattle.hp_order.specs.declared.order.Turn.{Turn}
 use Rattle.hp_order.specs.declared.order.Weighed.{Weighed}
+use Rattle.std.specs.declared.cmp.Ordering.{Ordering}
 use Rattle.hp_order.specs.declared.reach.Reach.{Reach}
+use Rattle.hp_order.specs.declared.reach.Weight.{Weight}
 use Rattle.hp_order.specs.Reaching.{unmet, noted, weight_of}
 
 abbrev pub turn_of : ℕ → FlatEqn → Turn
@@ -30,17 +32,15 @@ abbrev pub noted_turns : ℕ → ℕ → List FlatEqn → List Turn → List Rea
 noted_turns depth base es [] table = table
 noted_turns depth base es (t ∷ ts) table = noted_turns depth base es ts (noted_turn depth base es t table)
 
-abbrev pub weighed_by : ℕ → List Reach → List Reach → FlatEqn → Weighed
-weighed_by base outers inners e = record { eqn = e; outer = weight_of 0 base outers e; inner = weight_of 1 base inners e }
+abbrev pub weighed_by : ℕ → List Reach → List Reach → List Reach → FlatEqn → Weighed
+weighed_by base outers middles inners e = record { eqn = e; outer = weight_of 0 base outers e; middle = weight_of 1 base middles e; inner = weight_of 2 base inners e }
+
+abbrev pub compared_weights : Weight → Weight → Ordering
+compared_weights v w = ordering_then (nat_cmp w.level v.level) (nat_cmp v.control w.control)
 
 abbrev pub weighed_before : Weighed → Weighed → Bool
 weighed_before v w =
-    is_lt
-    (ordering_then (nat_cmp w.outer.level v.outer.level)
-    (ordering_then (nat_cmp v.outer.control w.outer.control)
-    (ordering_then (nat_cmp w.inner.level v.inner.level)
-    (ordering_then (nat_cmp v.inner.control w.inner.control)
-    (nat_cmp w.outer.height v.outer.height)))))
+    is_lt (ordering_then (compared_weights v.outer w.outer) (ordering_then (compared_weights v.middle w.middle) (ordering_then (compared_weights v.inner w.inner) (nat_cmp w.outer.height v.outer.height))))
 
 -- a turn stands before those of lesser places
 abbrev pub turns_before : Turn → Turn → Bool

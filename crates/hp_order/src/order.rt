@@ -30,6 +30,8 @@ pub struct Weighed {
     /// By the outermost variables of clocks.
     pub outer: Weight,
     /// By the second variables of clocks.
+    pub middle: Weight,
+    /// By the third variables of clocks.
     pub inner: Weight,
 }
 
@@ -121,23 +123,33 @@ fn push_weighed(weighed: &mut Vec<Weighed>, one: Weighed) -> Result<(), AllocErr
 /// The equations with their weights.
 fn weigh(
     alloc: Global,
-    base: usize,
     outers: &[Reach],
+    middles: &[Reach],
     inners: &[Reach],
     eqns: Vec<FlatEqn>,
 ) -> Result<Vec<Weighed>, AllocError>
-    ensures { IfOk result (λ weighed. weighed.items ≡ map (weighed_by base outers.now inners.now) eqns.items) }
+    ensures { IfOk result (λ weighed. weighed.items ≡ map (weighed_by (length outers.now) outers.now middles.now inners.now) eqns.items) }
 {
+    let base = outers.len();
     let mut weighed = Vec::new(alloc);
     for eqn in eqns {
         let outer = weight_of(0, base, outers, &eqn);
-        let inner = weight_of(1, base, inners, &eqn);
-        push_weighed(&mut weighed, Weighed { eqn, outer, inner })?;
+        let middle = weight_of(1, base, middles, &eqn);
+        let inner = weight_of(2, base, inners, &eqn);
+        push_weighed(
+            &mut weighed,
+            Weighed {
+                eqn,
+                outer,
+                middle,
+                inner,
+            },
+        )?;
     }
     Ok(weighed)
 }
 
-/// By level, the greatest first, then by control, and so within; then by height, the greatest first.
+/// By depth, the outermost first: by level, the greatest first, then by control. Then by height, the greatest first.
 fn in_order(mut weighed: Vec<Weighed>) -> Result<Vec<Weighed>, AllocError>
     ensures same { IfOk result (λ ordered. IsPermutation weighed.items ordered.items) }
     ensures sorted { IfOk result (λ ordered. IsSortedBy weighed_before ordered.items) }
@@ -145,12 +157,12 @@ fn in_order(mut weighed: Vec<Weighed>) -> Result<Vec<Weighed>, AllocError>
 {
     weighed.sort_by_key(|one| {
         (
-            Reverse(one.outer.level),
+            (Reverse(one.outer.level), one.outer.control),
             (
-                one.outer.control,
+                (Reverse(one.middle.level), one.middle.control),
                 (
-                    Reverse(one.inner.level),
-                    (one.inner.control, Reverse(one.outer.height)),
+                    (Reverse(one.inner.level), one.inner.control),
+                    Reverse(one.outer.height),
                 ),
             ),
         )
@@ -186,8 +198,9 @@ fn by_clock(alloc: Global, variables: usize, eqns: Vec<FlatEqn>) -> Result<Vec<F
     ensures by_clock { IfOk result (λ scheduled. IsRanked eqns.items → AllByRecursion (λ (e : EqnSeen). AreBelow variables (reads e)) eqns.items → IsByClock variables eqns.items scheduled.items) }
 {
     let outers = reaches(alloc, 0, variables, &eqns)?;
-    let inners = reaches(alloc, 1, variables, &eqns)?;
-    let weighed = weigh(alloc, variables, &outers, &inners, eqns)?;
+    let middles = reaches(alloc, 1, variables, &eqns)?;
+    let inners = reaches(alloc, 2, variables, &eqns)?;
+    let weighed = weigh(alloc, &outers, &middles, &inners, eqns)?;
     let ordered = in_order(weighed)?;
     let placed = place(alloc, ordered)?;
     Ok(placed)

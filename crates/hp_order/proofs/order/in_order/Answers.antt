@@ -5,10 +5,10 @@ use Rattle.hp_order.proofs.order.in_order.Goals as goal
 
 pub returns-clause-sorted : goal.returns-clause-sorted
 returns-clause-sorted c =
-    c.in_ok-sort_by_key.ensures.sorted (λ (w : Weighed). (record { 0 = w.outer.level }, (w.outer.control, (record { 0 = w.inner.level }, (w.inner.control, record { 0 = w.outer.height })))))
+    c.in_ok-sort_by_key.ensures.sorted (λ (w : Weighed). ((record { 0 = w.outer.level }, w.outer.control), ((record { 0 = w.middle.level }, w.middle.control), ((record { 0 = w.inner.level }, w.inner.control), record { 0 = w.outer.height }))))
     (answers_always _ _ _ (λ f a r g h. search rules))
 
 pub returns-clause-stable : goal.returns-clause-stable
 returns-clause-stable c =
-    c.sort_by_key.ensures.stable (λ (w : Weighed). (record { 0 = w.outer.level }, (w.outer.control, (record { 0 = w.inner.level }, (w.inner.control, record { 0 = w.outer.height })))))
+    c.sort_by_key.ensures.stable (λ (w : Weighed). ((record { 0 = w.outer.level }, w.outer.control), ((record { 0 = w.middle.level }, w.middle.control), ((record { 0 = w.inner.level }, w.inner.control), record { 0 = w.outer.height }))))
     (answers_always _ _ _ (λ f a r g h. search rules))
