@@ -239,14 +239,15 @@ module _ (base : ℕ) (es scheduled : List FlatEqn) (h : IsByClock base es sched
   abbrev Feeds : FlatEqn → FlatEqn → Type 0
   Feeds e d = (x : ℕ) → has e.targets x ≡ true → has (reads d) x ≡ true → ahead e d ≡ true
 
+  -- the steps of paths from an equation, to the readers of some variables
+  abbrev Steps : FlatEqn → (FlatEqn → FlatEqn → ℕ) → (FlatEqn → ℕ) → List ℕ → Type 0
+  Steps e cost path xs = AllByRecursion (λ x. AllByRecursion (Step cost path e (path e) x) h.ordered) xs
+
   all_ahead : (e : FlatEqn) → AllByRecursion (λ x. AllByRecursion (Ahead e x) h.ordered) e.targets
   all_ahead e = each e.targets (moved (change 0 base) (h.keys).outer (h.longest).outers) (moved (change 1 base) (h.keys).middle (h.longest).middles) (moved (change 2 base) (h.keys).inner (h.longest).inners)
       (moved one (h.keys).height (h.longest).heights)
     where
-      abbrev Of : (FlatEqn → FlatEqn → ℕ) → (FlatEqn → ℕ) → List ℕ → Type 0
-      Of cost path xs = AllByRecursion (λ x. AllByRecursion (Step cost path e (path e) x) h.ordered) xs
-
-      moved : (cost : FlatEqn → FlatEqn → ℕ) (path : FlatEqn → ℕ) → IsLongest cost path es → Of cost path e.targets
+      moved : (cost : FlatEqn → FlatEqn → ℕ) (path : FlatEqn → ℕ) → IsLongest cost path es → Steps e cost path e.targets
       moved cost path l = (longest-moved cost path es h.ordered h.same l).above e
 
       at : (x : ℕ) (ds : List FlatEqn) → AllByRecursion (Step (change 0 base) (h.keys).outer e ((h.keys).outer e) x) ds → AllByRecursion (Step (change 1 base) (h.keys).middle e ((h.keys).middle e) x) ds
@@ -254,7 +255,7 @@ module _ (base : ℕ) (es scheduled : List FlatEqn) (h : IsByClock base es sched
       at x [] a b c f = tt
       at x (d ∷ ds) a b c f = ((λ r. read_before base h.keys e d (a.0 r) (b.0 r) (c.0 r) (f.0 r)), at x ds a.1 b.1 c.1 f.1)
 
-      each : (xs : List ℕ) → Of (change 0 base) (h.keys).outer xs → Of (change 1 base) (h.keys).middle xs → Of (change 2 base) (h.keys).inner xs → Of one (h.keys).height xs → AllByRecursion (λ x. AllByRecursion (Ahead e x) h.ordered) xs
+      each : (xs : List ℕ) → Steps e (change 0 base) (h.keys).outer xs → Steps e (change 1 base) (h.keys).middle xs → Steps e (change 2 base) (h.keys).inner xs → Steps e one (h.keys).height xs → AllByRecursion (λ x. AllByRecursion (Ahead e x) h.ordered) xs
       each [] a b c f = tt
       each (x ∷ xs) a b c f = (at x h.ordered a.0 b.0 c.0 f.0, each xs a.1 b.1 c.1 f.1)
 
@@ -262,7 +263,7 @@ module _ (base : ℕ) (es scheduled : List FlatEqn) (h : IsByClock base es sched
   all_feed [] = tt
   all_feed (e ∷ ds) = (
     each_map (λ (d : FlatEqn). AllByRecursion (λ x. Ahead e x d) e.targets) (Feeds e) (λ d a x own there. each_at (λ y. Ahead e y d) e.targets x a (has-count e.targets x own) there) h.ordered
-    (turned_round (Ahead e) e.targets h.ordered (all_ahead e)),
+        (turned_round (Ahead e) e.targets h.ordered (all_ahead e)),
     all_feed ds,
   )
 

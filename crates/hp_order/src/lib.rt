@@ -1,4 +1,4 @@
-//! Clocked equations in one order, which their node alone determines: by clock, as far as what they read lets them. Invariant: each stands behind those that it reads. Its use will be in `hp_machines`, in place of `hp_schedule`.
+//! Clocked equations in one order, which their node alone determines: by clock, as late as their readers let them. Invariant: each stands behind those that it reads. Used by `hp_machines`; its laws by `law_history`.
 #![tactic(auto)]
 
 mod laws;

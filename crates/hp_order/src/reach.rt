@@ -218,12 +218,7 @@ fn note_reads(table: &mut [Reach], weight: Weight, eqn: &FlatEqn) -> Result<(), 
 }
 
 /// Notes what the equation reads.
-pub fn note(
-    depth: usize,
-    base: usize,
-    table: &mut [Reach],
-    eqn: &FlatEqn,
-) -> Result<(), AllocError>
+pub fn note(depth: usize, base: usize, table: &mut [Reach], eqn: &FlatEqn) -> Result<(), AllocError>
     ensures { OnOk result (table.new ≡ noted depth base eqn.now table.old) }
 {
     let weight = weight_of(depth, base, table, eqn);
