@@ -134,7 +134,7 @@ module _ (depth base : ℕ) (es : List FlatEqn) (table : List Reach) (h : IsNote
 
 -- a table has an entry for each variable
 pub noted-count : (depth base : ℕ) (es : List FlatEqn) (table : List Reach) → IsNoted depth base es table → length table ≡ base
-noted-count depth base es table h = ap length h.noted_are ∙ length-turns depth base es h.turns (replicate base unmet) ∙ length-replicate unmet
+noted-count depth base es table h = ap length h.noted_are ∙ length-turns depth base es h.turns (replicate base unmet) ∙ length-replicate base unmet
 
 module _ (base : ℕ) (outers middles inners : List Reach) where
   abbrev weigh : FlatEqn → Weighed
