@@ -7,7 +7,7 @@ use Rattle.std.specs.Cmp.{nat_cmp_is, IsStrictWeakOrder}
 use Rattle.std.specs.declared.cmp.Ordering.TheVariants.{Less}
 use Rattle.std.proofs.lemmas.Bool.{lt-ltb, ltb-false, ltb-true}
 use Rattle.std.proofs.lemmas.Cmp.{back_total, nat_cmp_total}
-use Rattle.std.proofs.lemmas.List.{append_assoc, get_or-map, length-append, length-map, length-replicate}
+use Rattle.std.proofs.lemmas.List.{append_assoc, length-append, length-map, length-replicate}
 use Rattle.std.proofs.lemmas.List.Elements.{All-from_recursion, recursion_from_All}
 use Rattle.std.proofs.lemmas.List.Sorted.{All-permutation, IsPermutation-map, IsPermutation-sym, ranks_by}
 use Rattle.std.proofs.Math.ListN.{get_or-map as get_or-mapped, replicate}
