@@ -2,3 +2,4 @@ mod MakingLaws
 mod Rules
 mod HeadingLaws
 mod NotBuiltLaws
+mod OneLaws
