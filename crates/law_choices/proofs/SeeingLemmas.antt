@@ -4,3 +4,4 @@ pub mod Values
 pub mod Found
 pub mod Held
 pub mod Watching
+pub mod Plants

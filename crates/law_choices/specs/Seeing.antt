@@ -3,3 +3,4 @@ pub mod Laws
 pub mod Found
 pub mod Held
 pub mod Greatest
+pub mod Plants

@@ -7,6 +7,7 @@ ghost use Rattle.law_choices.specs.Seeing.Found.{FilledFoundLaw};
 ghost use Rattle.law_choices.specs.Seeing.Greatest.{SeenGreatestLaw};
 ghost use Rattle.law_choices.specs.Seeing.Held.{HeldCodesLaw};
 ghost use Rattle.law_choices.specs.Seeing.Laws.{GivenLaw, ValuesChoiceLaw, ValuesPlayLaw};
+ghost use Rattle.law_choices.specs.Seeing.Plants.{PlantNamesLaw, PlantReactionLaw};
 
 use crate::adding::{
     callees_may_differ_elsewhere, equations_may_be_added, made_nodes_may_be_added_to,
@@ -42,6 +43,14 @@ pub fn machines_that_see_values_choose()
 pub fn found_places_keep_their_values()
     ensures { FilledFoundLaw }
 {}
+
+/// In the variables of its plant, each reaction of a node that defines its controllable variables itself is the plant's reaction in which these values are chosen. So the names of the node's body have in it the values that they have in the program, wherever these are not Nil.
+pub fn closed_nodes_react_as_their_plants()
+    ensures reaction { PlantReactionLaw }
+    ensures names { PlantNamesLaw }
+{
+    added_equations_give_inputs();
+}
 
 /// In the nodes of a program that ask controllers of machines which mirror their contracts, the controllable variables of a node have the greatest permitted values at each instant of each reaction with which the nodes answer, where the equations of the node hold values of its free places: of their types, and the reaction's own wherever an instant looks at them. Then early and late variables have their codes.
 pub fn nodes_that_see_values_choose_the_greatest()
