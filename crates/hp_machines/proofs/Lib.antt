@@ -3,3 +3,4 @@ mod Rules
 mod HeadingLaws
 mod NotBuiltLaws
 mod OneLaws
+mod ApartLaws

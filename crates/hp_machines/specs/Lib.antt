@@ -3,3 +3,4 @@ pub mod Machined
 pub mod Flattened
 pub mod NotBuilt
 pub mod One
+pub mod Apart
