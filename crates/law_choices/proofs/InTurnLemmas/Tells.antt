@@ -17,6 +17,7 @@ use Rattle.hp_controller.specs.declared.decoding.Control.{Control}
 use Rattle.hp_controller.specs.Extending.{rows_with}
 use Rattle.hp_watch.specs.Watching.{Observing}
 use Rattle.law_choices.specs.Answered.Loops.{IsClosed}
+use Rattle.law_choices.specs.InTurn.Laws.{TellsContract}
 use Rattle.law_choices.specs.InTurn.Nodes.{Chosen, Contracted, contract_name, telling, IsOwn, IsContracted}
 use Rattle.law_choices.proofs.InTurnLemmas.Contracted.{NodeLaws, Ground, plant_well, chooses, own_named, chosen_named, chosen_is_headed}
 
@@ -119,9 +120,9 @@ module _ (types : List ObcType) (all : Callees) (one : OneReactionLaw) (answers 
           by [] e own closes = plant_same own e closes
           by (k ∷ ks) e own closes = chosen_same own
 
-    pub told : (args : List Value) (earlier : List (List Value)) → AreOfKinds (all.takes c.own.name) args → AllByRecursion (AreOfKinds (all.takes c.own.name)) earlier
+    answers_told : (args : List Value) (earlier : List (List Value)) → AreOfKinds (all.takes c.own.name) args → AllByRecursion (AreOfKinds (all.takes c.own.name)) earlier
         → (assumed enforced : Value) × (answers (contract_name c.own.name) args earlier ≡ answers c.own.name args earlier ++ assumed ∷ enforced ∷ [])
-    told args earlier h hs =
+    answers_told args earlier h hs =
         let own = own_given args earlier h hs in
         let tell = tell_given args earlier (subst (λ ks. AreOfKinds ks args) takes_same h) (subst (λ ks. AllByRecursion (AreOfKinds ks) earlier) takes_same hs) in
         let same = own_same args earlier own.now tell.now own.past tell.past (h, hs) own.reaction (tell_reaction answers c.chosen (args ∷ earlier) (tell.now ∷ tell.past) tell.reaction) in (
@@ -132,3 +133,6 @@ module _ (types : List ObcType) (all : Callees) (one : OneReactionLaw) (answers 
               ∙ map-append tell.now chosen.outputs (c.chosen.assume ∷ c.chosen.enforce ∷ [])
               ∙ ap (λ vs. vs ++ tell.now c.chosen.assume ∷ tell.now c.chosen.enforce ∷ []) (sym (own.answer ∙ same)),
         )
+
+    pub told : TellsContract all answers c
+    told = record { named = ap contract_name (sym own_name); takes = ap (λ f. all.takes (contract_name f)) own_name ∙ sym takes_same; tells = answers_told }
