@@ -7,6 +7,7 @@ use Rattle.std.specs.Prelude.{Contains}
 use Rattle.std.proofs.lemmas.List.Elements.{All-contains, All-from_recursion}
 use Rattle.hp_base.specs.Kinds.{KindData, AreOfKinds}
 use Rattle.hp_base.specs.declared.value.Value.{Value}
+use Rattle.hp_base.specs.declared.value.Value.TheVariants.{B}
 use Rattle.hp_obc.specs.Machines.{Obc}
 use Rattle.hp_obc.specs.Steps.{machine_behaviour, run}
 use Rattle.hp_tree.specs.declared.program.Item.{Item}
@@ -93,7 +94,7 @@ module _ (program after : List Item) (o : Obc) (r : RunsAllowed program after o)
 
   -- what is answered is told
   told_rows : (answer tell : List Value → List (List Value) → List Value) (inputs : List (List Value)) (Takes : List Value → Type 0) → AllByRecursion Takes inputs
-      → ((args : List Value) (earlier : List (List Value)) → Takes args → AllByRecursion Takes earlier → (assumed enforced : Value) × (tell args earlier ≡ answer args earlier ++ assumed ∷ enforced ∷ []))
+      → ((args : List Value) (earlier : List (List Value)) → Takes args → AllByRecursion Takes earlier → (assumed enforced : Bool) × (tell args earlier ≡ answer args earlier ++ B assumed ∷ B enforced ∷ []))
       → AreTold (all_answers answer inputs) (all_answers tell inputs)
   told_rows answer tell [] Takes h tells = tt
   told_rows answer tell (args ∷ earlier) Takes h tells = (tells args earlier h.0 h.1, told_rows answer tell earlier Takes h.1 tells)

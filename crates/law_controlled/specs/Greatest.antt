@@ -47,6 +47,6 @@ abbrev pub SaysGreatest : List Item → Obc → List ℕ → Node → Type 0
 SaysGreatest program o f n =
     (inputs : List (List Value)) → AllByRecursion (AreOfKinds (kinds_of_decls (types_of program) n.inputs)) inputs → IsSteeredRun program f n inputs (reverse (run (machine_behaviour o f) (reverse inputs)))
 
--- So is that of each node; and the machine of a contract says what the machine of its node says, with two values behind.
+-- So is that of each node; and the machine of a contract says what the machine of its node says, with two truth values behind.
 abbrev pub AllSayGreatest : List Item → Obc → Type 0
 AllSayGreatest program o = (f : List ℕ) (n : Node) → node_among program f ≡ Some n → SaysGreatest program o f n × TellsBeside program o f n

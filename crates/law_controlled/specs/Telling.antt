@@ -1,9 +1,10 @@
 -- The machine of a contract says what the machine of its node says, and behind it what is assumed and what is enforced.
 -- Source: own.
-use Rattle.std.specs.Prelude.{◌≡◌, ⊤, ℕ, List, [], ◌∷◌, ◌++◌, reverse}
+use Rattle.std.specs.Prelude.{◌≡◌, ⊤, ℕ, Bool, List, [], ◌∷◌, ◌++◌, reverse}
 use Rattle.std.specs.List.{AllByRecursion}
 use Rattle.hp_base.specs.Kinds.{AreOfKinds}
 use Rattle.hp_base.specs.declared.value.Value.{Value}
+use Rattle.hp_base.specs.declared.value.Value.TheVariants.{B}
 use Rattle.hp_obc.specs.Machines.{Obc}
 use Rattle.hp_obc.specs.Steps.{machine_behaviour, run}
 use Rattle.hp_tree.specs.declared.program.Item.{Item}
@@ -13,10 +14,10 @@ use Rattle.hp_meaning.specs.Contract.Guarantee.{HasContract}
 use Rattle.law_wellmade.specs.Timely.Kinds.{kinds_of_decls}
 use Rattle.law_choices.specs.InTurn.Nodes.{contract_name}
 
--- One by one, the second lines are the first ones with two values behind each.
+-- One by one, the second lines are the first ones with two truth values behind each.
 abbrev pub AreTold : List (List Value) → List (List Value) → Type 0
 AreTold [] [] = ⊤
-AreTold (line ∷ lines) (told ∷ more) = ((assumed enforced : Value) × (told ≡ line ++ assumed ∷ enforced ∷ [])) × AreTold lines more
+AreTold (line ∷ lines) (told ∷ more) = ((assumed enforced : Bool) × (told ≡ line ++ B assumed ∷ B enforced ∷ [])) × AreTold lines more
 AreTold lines more = ⊥
 
 -- So it is of what the machines of a node with a contract, and of its contract, say over inputs of its kinds, newest first.

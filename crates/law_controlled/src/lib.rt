@@ -121,7 +121,7 @@ pub fn machines_of_texts_say_what_is_allowed()
     contracts_of_texts_can_be_observed();
 }
 
-/// And if nothing is free in such a node but its inputs, the controllable variables have the greatest permitted values in that reaction; so it keeps its contract. So it is of each instance in the reaction, at every depth, if none of its inputs is an integer either. The machine of a contract says what the machine of its node says, with two values behind.
+/// And if nothing is free in such a node but its inputs, the controllable variables have the greatest permitted values in that reaction; so it keeps its contract. So it is of each instance in the reaction, at every depth, if none of its inputs is an integer either. The machine of a contract says what the machine of its node says, with two truth values behind.
 pub fn machines_of_texts_choose_the_greatest()
     ensures { GreatestSaidLaw }
 {

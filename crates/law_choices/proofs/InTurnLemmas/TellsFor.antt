@@ -5,6 +5,7 @@ use Rattle.std.specs.List.{AllByRecursion}
 use Rattle.std.proofs.lemmas.List.Elements.{Contains-append_right}
 use Rattle.hp_base.specs.Kinds.{KindData, AreOfKinds}
 use Rattle.hp_base.specs.declared.value.Value.{Value}
+use Rattle.hp_base.specs.declared.value.Value.TheVariants.{B}
 use Rattle.hp_obc.specs.Machines.{ObcType}
 use Rattle.hp_tree.specs.declared.program.Item.{Item}
 use Rattle.hp_tree.specs.declared.program.Item.TheVariants.{TypeItem, NodeItem}
@@ -106,5 +107,5 @@ tells_for_law laws one_law program after observers ms h one f n e has =
       takes = takes_own ∙ takes_same;
       tells = λ args earlier a b.
           let x = (t.contract).tells args earlier (subst (λ ks. AreOfKinds ks args) (sym its_kinds) a) (subst (λ ks. AllByRecursion (AreOfKinds ks) earlier) (sym its_kinds) b) in
-          (x.0, x.1, ap (λ g. one.answers (contract_name g) args earlier) (sym own) ∙ x.2 ∙ ap (λ g. one.answers g args earlier ++ x.0 ∷ x.1 ∷ []) own);
+          (x.0, x.1, ap (λ g. one.answers (contract_name g) args earlier) (sym own) ∙ x.2 ∙ ap (λ g. one.answers g args earlier ++ B x.0 ∷ B x.1 ∷ []) own);
     }

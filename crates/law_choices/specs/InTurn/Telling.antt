@@ -1,9 +1,10 @@
 -- Of each node of a program with a contract, one of the nodes that are made tells what the contract assumes and enforces.
 -- Source: own.
-use Rattle.std.specs.Prelude.{◌≡◌, ℕ, List, [], ◌∷◌, ◌++◌, reverse, Contains, Some}
+use Rattle.std.specs.Prelude.{◌≡◌, ℕ, Bool, List, [], ◌∷◌, ◌++◌, reverse, Contains, Some}
 use Rattle.std.specs.List.{AllByRecursion}
 use Rattle.hp_base.specs.Kinds.{AreOfKinds}
 use Rattle.hp_base.specs.declared.value.Value.{Value}
+use Rattle.hp_base.specs.declared.value.Value.TheVariants.{B}
 use Rattle.hp_tree.specs.declared.program.Item.{Item}
 use Rattle.hp_tree.specs.Meaning.{types_of, node_among}
 use Rattle.hp_tree.specs.Programs.{Node}
@@ -16,7 +17,7 @@ use Rattle.law_choices.specs.OnClocks.Meaning.{HasOneMeaning}
 use Rattle.law_choices.specs.InTurn.Laws.{IsChoosing, said_of}
 use Rattle.law_choices.specs.InTurn.Nodes.{Made, all_nodes, contract_name}
 
--- It takes values of the kinds of the node's inputs, and answers what the node answers, with two values behind: what is assumed, and what is enforced.
+-- It takes values of the kinds of the node's inputs, and answers what the node answers, with two truth values behind: what is assumed, and what is enforced.
 pub record TellsFor (after : List Item) (ms : List Made) (answers : Answers) (f : List ℕ) (n : Node) : Type 0 where
   pub node : FlatNode
   pub there : Contains (all_nodes ms) node
@@ -24,7 +25,7 @@ pub record TellsFor (after : List Item) (ms : List Made) (answers : Answers) (f 
   pub takes : (said_of after ms).takes (contract_name f) ≡ kinds_of_decls (types_of after) n.inputs
   pub tells :
       (args : List Value) (earlier : List (List Value)) → AreOfKinds (kinds_of_decls (types_of after) n.inputs) args → AllByRecursion (AreOfKinds (kinds_of_decls (types_of after) n.inputs)) earlier
-      → (assumed enforced : Value) × (answers (contract_name f) args earlier ≡ answers f args earlier ++ assumed ∷ enforced ∷ [])
+      → (assumed enforced : Bool) × (answers (contract_name f) args earlier ≡ answers f args earlier ++ B assumed ∷ B enforced ∷ [])
 
 -- So it is of each node with a contract.
 abbrev pub TellsForLaw : Type 0
