@@ -18,9 +18,9 @@ use hp_meaning::contract::{
     choice_is_permitted, choices_are_values, duty_is_kept, reactions_are_instants_of_the_game,
 };
 use law_choices::in_turn::{
-    a_node_stands_for_each, a_node_tells_each_contract, nodes_that_choose_answer_as_the_program_allows,
-    nodes_that_choose_stand_in_turn, observers_of_contracts_suit, programs_of_texts_may_choose,
-    well_built_observers_suit,
+    a_node_stands_for_each, a_node_tells_each_contract,
+    nodes_that_choose_answer_as_the_program_allows, nodes_that_choose_stand_in_turn,
+    observers_of_contracts_suit, programs_of_texts_may_choose, well_built_observers_suit,
 };
 use law_choices::instances::instances_react_as_callees;
 use law_choices::observed::{
