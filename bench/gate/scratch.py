@@ -313,7 +313,7 @@ class Writer:
         """A function whose proof loads all that was written, with one answer."""
         module, lemma = self.scratch.plan['answer'].rsplit('.', 1)
         uses = [f'use {self.new_name(name)}.{{{sorted(self.scratch.asked[name])[0]}}}' for name in self.scratch.plan['modules'] if '.proofs.' in name and name != module and self.scratch.asked.get(name)]
-        self.put(f'{self.crate}/src/lib.rt', '//! Scratch.\n#![tactic(auto)]\n\nghost use Rattle.std.specs.Prelude.{◌≡◌};\n\n/// Loads the laws.\npub fn checked()\n    ensures { 0 ≡ 0 }\n{}\n')
+        self.put(f'{self.crate}/src/lib.rt', '//! Scratch.\n#![tactic(auto)]\n\nghost use Rattle.std.specs.Prelude.{◌≡◌, true};\n\n/// Loads the laws.\npub fn checked()\n    ensures { true ≡ true }\n{}\n')
         text = '\n'.join(uses + [f'use {self.new_name(module)}.{{{lemma}}}', 'use Rattle.std.proofs.Common.{refl}', 'use Rattle.scratch.proofs.checked.Goals as goal', '', 'pub returns : goal.returns', f'returns c = let law = {lemma} in refl', ''])
         self.put(f'{self.crate}/proofs/checked/Answers.antt', text)
 
