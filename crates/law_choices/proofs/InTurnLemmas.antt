@@ -9,6 +9,7 @@ mod Said
 pub mod Standing
 mod Telling
 mod Tells
+pub mod TellsFor
 pub mod Texts
 pub mod Types
 pub mod WorkedContract

@@ -8,3 +8,4 @@ pub mod Observers
 pub mod Observed
 pub mod Texts
 pub mod Standing
+pub mod Telling

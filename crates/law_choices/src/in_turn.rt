@@ -8,6 +8,7 @@ ghost use Rattle.law_choices.specs.InTurn.Laws.{ChoosingProgramLaw, TellingLaw, 
 ghost use Rattle.law_choices.specs.InTurn.Observed.{ObservedLaw};
 ghost use Rattle.law_choices.specs.InTurn.Observers.{ObserverLaw};
 ghost use Rattle.law_choices.specs.InTurn.Standing.{StandsLaw};
+ghost use Rattle.law_choices.specs.InTurn.Telling.{TellsForLaw};
 ghost use Rattle.law_choices.specs.InTurn.Texts.{SignLaw, TextLaw};
 ghost use Rattle.law_choices.specs.InTurn.Worked.{SomeContractedLaw};
 
@@ -54,6 +55,20 @@ pub fn a_node_stands_for_each()
     extended_nodes_close();
     targets_differ();
     calls_are_kept();
+}
+
+/// Of each node with a contract one of the nodes that are made tells the contract: it takes what the node takes, and answers what the node answers, with what is assumed and enforced behind.
+pub fn a_node_tells_each_contract()
+    ensures { TellsForLaw }
+{
+    callees_may_differ_elsewhere();
+    equations_may_be_added();
+    made_nodes_may_be_added_to();
+    watched_nodes_choose();
+    extended_nodes_close();
+    targets_differ();
+    calls_are_kept();
+    nodes_have_one_reaction();
 }
 
 /// Line by line: the answers of a node are the outputs of a reaction of the program in which all controllable variables have values of their types.

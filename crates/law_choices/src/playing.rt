@@ -5,7 +5,7 @@
 
 ghost use Rattle.law_choices.specs.Playing.Drawn.{DrawnFlagsLaw};
 ghost use Rattle.law_choices.specs.Playing.Greatest.{GreatestLaw, GreatestRunLaw};
-ghost use Rattle.law_choices.specs.Playing.Laws.{InputsChoiceLaw, PlayingLaw, SteeredChoiceLaw};
+ghost use Rattle.law_choices.specs.Playing.Laws.{InputsChoiceLaw, InputsOweLaw, PlayingLaw, SteeredChoiceLaw};
 ghost use Rattle.law_choices.specs.Playing.Worked.{SomeMirroredLaw};
 ghost use Rattle.law_choices.specs.Playing.Steering.{ControllerAnswersLaw, TypedAtLaw, WholeRunLaw};
 
@@ -37,6 +37,14 @@ pub fn machines_that_are_asked_choose()
 /// Where nothing is free but the inputs of a node, each choice that a machine makes which is asked at each instant is the greatest permitted one.
 pub fn machines_that_know_all_choose()
     ensures { InputsChoiceLaw }
+{
+    permitted_is_fitting();
+    machines_go_along();
+}
+
+/// There the machine sees, at each instant, whether the contract is kept: its hypothesis and its duty are those of the node.
+pub fn machines_that_know_all_owe_what_nodes_do()
+    ensures { InputsOweLaw }
 {
     permitted_is_fitting();
     machines_go_along();

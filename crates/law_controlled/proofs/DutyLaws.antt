@@ -32,6 +32,7 @@ use Rattle.law_controlled.specs.Greatest.{KeepsDuty}
 use Rattle.law_controlled.proofs.KeepingLaws.{keeps_duty, safe_of}
 use Rattle.law_choices.specs.Choosing.Choices.{Choices}
 use Rattle.law_choices.specs.Instances.Reacting.{InstancesLaw}
+use Rattle.law_choices.specs.InTurn.Telling.{TellsForLaw}
 
 -- the laws that are joined here
 pub record SteeringLaws : Type 0 where
@@ -45,6 +46,7 @@ pub record SteeringLaws : Type 0 where
   pub settled : ReadySettledLaw
   pub stands : StandsLaw
   pub instances : InstancesLaw
+  pub tells : TellsForLaw
 
 drop_front : (P : Node → Type 0) (later items : List Item) → EachNode P (later ++ items) → EachNode P items
 drop_front P [] items v = v

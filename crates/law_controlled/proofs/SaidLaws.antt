@@ -7,6 +7,7 @@ use Rattle.std.specs.Prelude.{Contains}
 use Rattle.std.proofs.lemmas.List.Elements.{All-contains, All-from_recursion}
 use Rattle.hp_base.specs.Kinds.{KindData, AreOfKinds}
 use Rattle.hp_base.specs.declared.value.Value.{Value}
+use Rattle.hp_base.specs.declared.value.Value.TheVariants.{B}
 use Rattle.hp_obc.specs.Machines.{Obc}
 use Rattle.hp_obc.specs.Steps.{machine_behaviour, run}
 use Rattle.hp_tree.specs.declared.program.Item.{Item}
@@ -24,12 +25,14 @@ use Rattle.law_choices.specs.Observed.Texts.{ObservableTextsLaw}
 use Rattle.law_choices.specs.InTurn.AllowedRuns.{IsAllowedRun}
 use Rattle.law_choices.specs.InTurn.Allowed.{AllowedRunLaw}
 use Rattle.law_choices.specs.InTurn.Laws.{said_of}
-use Rattle.law_choices.specs.InTurn.Nodes.{all_nodes}
+use Rattle.law_choices.specs.InTurn.Nodes.{all_nodes, contract_name}
+use Rattle.law_choices.specs.InTurn.Telling.{TellsForLaw}
 use Rattle.law_choices.specs.InTurn.Texts.{SignLaw}
 use Rattle.law_choices.proofs.OnClocksLemmas.Texts.{when_accepted}
 use Rattle.law_controlled.specs.Allowed.{AllowedLaw, RunsAllowed}
 use Rattle.law_controlled.specs.Greatest.{IsSteeredRun, SaysGreatest}
 use Rattle.law_controlled.specs.Saying.{SaysAllowed}
+use Rattle.law_controlled.specs.Telling.{AreTold, TellsBeside}
 use Rattle.law_controlled.specs.Said.{GreatestSaidLaw, SaidLaw}
 use Rattle.law_controlled.proofs.DutyLaws.{SteeringLaws}
 use Rattle.law_controlled.proofs.GreatestLaws.{steered}
@@ -89,6 +92,24 @@ module _ (program after : List Item) (o : Obc) (r : RunsAllowed program after o)
   says_greatest : SteeringLaws → (ranks : List (List ℕ)) → IsInOrder program after ranks → AllSafe after (reverse after) → (f : List ℕ) (n : Node) → node_among (reverse after) f ≡ Some n → SaysGreatest after o f n
   says_greatest laws ranks order safe f n e inputs kinds = subst (IsSteeredRun after f n inputs) (sym (answers_said f n e inputs kinds)) (steered laws program after ranks order safe o r f n inputs e kinds)
 
+  -- what is answered is told
+  told_rows : (answer tell : List Value → List (List Value) → List Value) (inputs : List (List Value)) (Takes : List Value → Type 0) → AllByRecursion Takes inputs
+      → ((args : List Value) (earlier : List (List Value)) → Takes args → AllByRecursion Takes earlier → (assumed enforced : Bool) × (tell args earlier ≡ answer args earlier ++ B assumed ∷ B enforced ∷ []))
+      → AreTold (all_answers answer inputs) (all_answers tell inputs)
+  told_rows answer tell [] Takes h tells = tt
+  told_rows answer tell (args ∷ earlier) Takes h tells = (tells args earlier h.0 h.1, told_rows answer tell earlier Takes h.1 tells)
+
+  tells_beside : TellsForLaw → (f : List ℕ) (n : Node) → node_among (reverse after) f ≡ Some n → TellsBeside after o f n
+  tells_beside law f n e has inputs kinds =
+      let answers = r.allowed.one.answers in
+      let takes = (said_of after r.all).takes in
+      let t = law program after r.observers r.all r.chooses r.allowed.one f n e has in
+      let Answers_so : List ℕ → Type 0 = λ g. (rows : List (List Value)) → AllByRecursion (AreOfKinds (takes g)) rows → run (machine_behaviour o g) (reverse rows) ≡ reverse (all_answers (answers g) rows) in
+      let ran : Answers_so (contract_name f) = subst Answers_so t.named (at_one (λ (v : FlatNode). Answers_so v.name) (all_nodes r.all) t.node r.runs t.there) in
+      let told = ap reverse (ran inputs (subst (λ ks. AllByRecursion (AreOfKinds ks) inputs) (sym t.takes) kinds)) ∙ reverse-reverse (all_answers (answers (contract_name f)) inputs) in
+      subst (λ xs. AreTold xs (reverse (run (machine_behaviour o (contract_name f)) (reverse inputs)))) (sym (answers_said f n e inputs kinds))
+      (subst (AreTold (all_answers (answers f) inputs)) (sym told) (told_rows (answers f) (answers (contract_name f)) inputs (AreOfKinds (kinds_of_decls (types_of after) n.inputs)) kinds t.tells))
+
 pub said_law : AllowedRunLaw → AllowedLaw → SignLaw → TextOrderLaw → ObservableTextsLaw → SaidLaw
 said_law runs allowed sign order observable text tokens program after ranks o a p named typed defined formed initialised clocks fall machines f n e =
     let q = when_accepted text tokens program after a p named typed defined formed initialised clocks in
@@ -101,4 +122,5 @@ greatest_said_law laws allowed sign order observable text tokens program after r
     let q = when_accepted text tokens program after a p named typed defined formed initialised clocks in
     let in_order = order text tokens program after ranks a p named typed defined formed initialised clocks fall in
     let r = allowed program after ranks o in_order q.removable q.form q.short (sign text tokens program after a p clocks) (observable text tokens program after a p clocks) machines in
-    says_greatest program after o r laws ranks in_order safe f n (from_behind after (ready_apart_after program after q.ready) f n e)
+    let found = from_behind after (ready_apart_after program after q.ready) f n e in
+    (says_greatest program after o r laws ranks in_order safe f n found, tells_beside program after o r laws.tells f n found)

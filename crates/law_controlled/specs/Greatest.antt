@@ -19,6 +19,7 @@ use Rattle.law_wellmade.specs.Timely.Kinds.{kinds_of_decls}
 use Rattle.law_choices.specs.InTurn.AllowedRuns.{IsAllowedRun}
 use Rattle.law_choices.specs.Playing.Greatest.{ChoosesGreatest, KnowsAll}
 use Rattle.law_controlled.specs.AtDepth.{AreGreatestAtDepth}
+use Rattle.law_controlled.specs.Telling.{TellsBeside}
 
 -- At each instant of a past, the duty of the node holds where its hypothesis holds and held at all instants before: it supposes its assumption, and that each callee keeps its contract; it owes its guarantee, and the assumption of each callee.
 abbrev pub KeepsDuty : Node → Past → Type 0
@@ -46,6 +47,6 @@ abbrev pub SaysGreatest : List Item → Obc → List ℕ → Node → Type 0
 SaysGreatest program o f n =
     (inputs : List (List Value)) → AllByRecursion (AreOfKinds (kinds_of_decls (types_of program) n.inputs)) inputs → IsSteeredRun program f n inputs (reverse (run (machine_behaviour o f) (reverse inputs)))
 
--- so is that of each node
+-- So is that of each node; and the machine of a contract says what the machine of its node says, with two truth values behind.
 abbrev pub AllSayGreatest : List Item → Obc → Type 0
-AllSayGreatest program o = (f : List ℕ) (n : Node) → node_among program f ≡ Some n → SaysGreatest program o f n
+AllSayGreatest program o = (f : List ℕ) (n : Node) → node_among program f ≡ Some n → SaysGreatest program o f n × TellsBeside program o f n

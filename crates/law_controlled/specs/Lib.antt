@@ -9,4 +9,5 @@ pub mod Parts
 pub mod Program
 pub mod Saying
 pub mod Said
+pub mod Telling
 pub mod Worked

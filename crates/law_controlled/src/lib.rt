@@ -18,9 +18,9 @@ use hp_meaning::contract::{
     choice_is_permitted, choices_are_values, duty_is_kept, reactions_are_instants_of_the_game,
 };
 use law_choices::in_turn::{
-    a_node_stands_for_each, nodes_that_choose_answer_as_the_program_allows,
-    nodes_that_choose_stand_in_turn, observers_of_contracts_suit, programs_of_texts_may_choose,
-    well_built_observers_suit,
+    a_node_stands_for_each, a_node_tells_each_contract,
+    nodes_that_choose_answer_as_the_program_allows, nodes_that_choose_stand_in_turn,
+    observers_of_contracts_suit, programs_of_texts_may_choose, well_built_observers_suit,
 };
 use law_choices::instances::instances_react_as_callees;
 use law_choices::observed::{
@@ -121,13 +121,14 @@ pub fn machines_of_texts_say_what_is_allowed()
     contracts_of_texts_can_be_observed();
 }
 
-/// And if nothing is free in such a node but its inputs, the controllable variables have the greatest permitted values in that reaction; so it keeps its contract. So it is of each instance in the reaction, at every depth, if none of its inputs is an integer either.
+/// And if nothing is free in such a node but its inputs, the controllable variables have the greatest permitted values in that reaction; so it keeps its contract. So it is of each instance in the reaction, at every depth, if none of its inputs is an integer either. The machine of a contract says what the machine of its node says, with two truth values behind.
 pub fn machines_of_texts_choose_the_greatest()
     ensures { GreatestSaidLaw }
 {
     machines_say_what_is_allowed();
     nodes_that_know_all_choose_the_greatest();
     instances_react_as_callees();
+    a_node_tells_each_contract();
     chosen_values_make_one_reaction();
     choice_is_permitted();
     choices_are_values();

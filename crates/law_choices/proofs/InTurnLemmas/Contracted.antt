@@ -38,7 +38,7 @@ use Rattle.law_choices.proofs.AddingLemmas.Rows.{each_range}
 use Rattle.law_choices.specs.InTurn.Calling.{CallNothing}
 use Rattle.law_choices.specs.InTurn.Nodes.{Contracted, controller_name, telling, IsOfType, AreOfTypes, IsOwn, IsContracted}
 use Rattle.law_choices.proofs.InTurnLemmas.Calls.{calls_among, calls_nothing, stateless_calls, copy_good, watched_good, controlled_good}
-use Rattle.law_choices.proofs.InTurnLemmas.Telling.{copy_outputs, telling_well, telling_in_range}
+use Rattle.law_choices.proofs.InTurnLemmas.Telling.{copy_outputs, telling_well, telling_in_range, told_kinds}
 
 -- the laws that are joined here
 pub record NodeLaws : Type 0 where
@@ -228,6 +228,9 @@ module _ (laws : NodeLaws) (types : List ObcType) (all : Callees) (observers : O
 
   pub telling_within : IsWithin (telling c.chosen)
   telling_within = let whole = is.whole in telling_in_range types all asking whole.assume whole.enforce c.chosen whole.placed is.assume is.enforce chooses.1
+
+  pub told_truth : (variable_kind types c.chosen.node.variables c.chosen.assume ≡ Bools) × (variable_kind types c.chosen.node.variables c.chosen.enforce ≡ Bools)
+  told_truth = let whole = is.whole in told_kinds types all asking whole.assume whole.enforce c.chosen whole.placed is.assume is.enforce
 
   -- ---- the node that stands for it
 

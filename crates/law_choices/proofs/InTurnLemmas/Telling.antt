@@ -1,14 +1,16 @@
 -- The node that tells what its contract assumes and enforces is well made as the node that chooses.
-use Rattle.std.proofs.Common.{◌≡◌, ℕ, suc, ◌<◌, Bool, true, false, ◌||◌, List, [], ◌∷◌, refl, sym, ap, subst, ◌∙◌, arith}
-use Rattle.std.specs.Prelude.{length, nat_lt}
+use Rattle.std.proofs.Common.{◌≡◌, ℕ, suc, ◌<◌, Bool, true, false, ◌||◌, List, [], ◌∷◌, ◌++◌, append_assoc, refl, sym, ap, subst, ◌∙◌, arith}
+use Rattle.std.specs.Prelude.{get_or, length, nat_lt}
 use Rattle.std.proofs.lemmas.List.{length-append}
 use Rattle.hp_obc.specs.Machines.{ObcType}
 use Rattle.hp_flat.specs.declared.equation.Atom.TheVariants.{Variable as Read}
-use Rattle.hp_flat.specs.declared.node.FlatTy.TheVariants.{Bool as Truth}
+use Rattle.hp_base.specs.Kinds.{Bools, KindData}
+use Rattle.hp_flat.specs.declared.node.FlatTy.TheVariants.{Bool as Truth, Int as FlatInt}
+use Rattle.hp_flat.specs.declared.node.Variable.{Variable}
 use Rattle.hp_flat.specs.Nodes.{FlatNode}
 use Rattle.law_equations.specs.Meaning.Fitting.{IsThere}
 use Rattle.law_equations.specs.Meaning.Instants.{Instant}
-use Rattle.law_equations.specs.Meaning.Kinding.{Callees, OptionallyOf, variable_kind, IsPossible, ClocksFit, IsWellMade}
+use Rattle.law_equations.specs.Meaning.Kinding.{Callees, OptionallyOf, kind_of_type, variable_kind, IsPossible, ClocksFit, IsWellMade}
 use Rattle.law_equations.specs.Meaning.Reactions.{is_set}
 use Rattle.law_equations.specs.Meaning.Scheduling.{IsWithin}
 use Rattle.hp_watch.specs.Adding.{added_variable, with_eqn, with_variable, with_copy, next_variable}
@@ -95,3 +97,26 @@ module _ (types : List ObcType) (callees : Callees) (asking : FlatNode) (assume 
     outputs = both (λ x. x < length c.node.variables) c.node.outputs (c.assume ∷ c.enforce ∷ []) w.outputs (omega (arith, long, assumed), (omega (arith, long, assumed, enforced), tt));
     eqns = w.eqns;
   }
+
+  -- ---- what it tells are truth values
+
+  none : Variable
+  none = record { name = []; ty = FlatInt }
+
+  variable_at : (xs : List Variable) (v : Variable) (ys : List Variable) → get_or (xs ++ v ∷ ys) (length xs) none ≡ v
+  variable_at [] v ys = refl
+  variable_at (x ∷ xs) v ys = variable_at xs v ys
+
+  kind_in : List Variable → ℕ → KindData
+  kind_in vs x = kind_of_type types (get_or vs x none).ty
+
+  pub told_kinds : (variable_kind types c.node.variables c.assume ≡ Bools) × (variable_kind types c.node.variables c.enforce ≡ Bools)
+  unfolding with_eqn with_variable
+  told_kinds =
+      let one = added_variable (next_variable asking) Truth in
+      let other = added_variable (next_variable first) Truth in
+      let at : c.enforce ≡ next_variable first = enforced ∙ ap suc assumed ∙ sym (copy_next assume asking) in
+      let both : c.node.variables ≡ asking.variables ++ one ∷ other ∷ [] = placed.variables ∙ append_assoc asking.variables (one ∷ []) (other ∷ []) in (
+        ap (λ vs. kind_in vs c.assume) both ∙ ap (kind_in (asking.variables ++ one ∷ other ∷ [])) assumed ∙ ap (λ (v : Variable). kind_of_type types v.ty) (variable_at asking.variables one (other ∷ [])),
+        ap (λ vs. kind_in vs c.enforce) placed.variables ∙ ap (kind_in second.variables) at ∙ ap (λ (v : Variable). kind_of_type types v.ty) (variable_at first.variables other []),
+      )

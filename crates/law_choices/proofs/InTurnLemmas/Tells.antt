@@ -1,24 +1,26 @@
 -- What the node that tells a contract answers is what the node answers, with two values behind.
-use Rattle.std.proofs.Common.{◌≡◌, ℕ, List, [], ◌∷◌, ◌++◌, map, refl, sym, ap, ap₂, subst, ◌∙◌, arith}
+use Rattle.std.proofs.Common.{◌≡◌, ℕ, Bool, List, [], ◌∷◌, ◌++◌, map, refl, sym, ap, ap₂, subst, ◌∙◌, arith}
 use Rattle.std.specs.Prelude.{length}
 use Rattle.std.specs.List.{AllByRecursion, range_with_len}
 use Rattle.std.proofs.lemmas.List.{append-nil, map-append}
-use Rattle.hp_base.specs.Kinds.{AreOfKinds}
+use Rattle.hp_base.specs.Kinds.{AreOfKinds, Bools, IsOfKind, KindData}
 use Rattle.hp_base.specs.declared.value.Value.{Value}
+use Rattle.hp_base.specs.declared.value.Value.TheVariants.{Absent, B, E, I, Nil, Star}
 use Rattle.hp_obc.specs.Machines.{ObcType}
 use Rattle.hp_tree.specs.Programs.{Node}
 use Rattle.hp_flat.specs.Nodes.{FlatNode}
 use Rattle.law_equations.specs.Followed.Programs.{Answered}
 use Rattle.law_equations.specs.Meaning.Instants.{Instant}
-use Rattle.law_equations.specs.Meaning.Kinding.{Callees, kinds_at, IsWellMade, AnswersOfKinds, OneReactionLaw}
+use Rattle.law_equations.specs.Meaning.Kinding.{Callees, kinds_at, variable_kind, IsWellMade, AnswersOfKinds, OneReactionLaw}
 use Rattle.law_equations.specs.Meaning.Reactions.{Answers, Reaction, inputs_of, outputs_at}
 use Rattle.law_equations.specs.Shaped.Shaped.{IsHeaded}
 use Rattle.hp_controller.specs.declared.decoding.Control.{Control}
 use Rattle.hp_controller.specs.Extending.{rows_with}
 use Rattle.hp_watch.specs.Watching.{Observing}
 use Rattle.law_choices.specs.Answered.Loops.{IsClosed}
+use Rattle.law_choices.specs.InTurn.Laws.{TellsContract}
 use Rattle.law_choices.specs.InTurn.Nodes.{Chosen, Contracted, contract_name, telling, IsOwn, IsContracted}
-use Rattle.law_choices.proofs.InTurnLemmas.Contracted.{NodeLaws, Ground, plant_well, chooses, own_named, chosen_named, chosen_is_headed}
+use Rattle.law_choices.proofs.InTurnLemmas.Contracted.{NodeLaws, Ground, plant_well, chooses, own_named, chosen_named, chosen_is_headed, told_truth}
 
 -- ---- reactions
 
@@ -37,6 +39,19 @@ rows_stay answers n from [] [] r = refl
 rows_stay answers n from [] (now ∷ past) r = absurd r
 rows_stay answers n from (row ∷ rows) [] r = absurd r
 rows_stay answers n from (row ∷ rows) (now ∷ past) r = ap₂ (λ x xs. x ∷ xs) (append-nil row) (rows_stay answers n from rows past r.0)
+
+-- the last two of some values are of their kinds
+last_two : (kind : ℕ → KindData) (now : Instant) (xs : List ℕ) (a b : ℕ) → AreOfKinds (map kind (xs ++ a ∷ b ∷ [])) (map now (xs ++ a ∷ b ∷ [])) → IsOfKind (kind a) (now a) × IsOfKind (kind b) (now b)
+last_two kind now [] a b h = (h.0, h.1.0)
+last_two kind now (x ∷ xs) a b h = last_two kind now xs a b h.1
+
+truth_of : (v : Value) → IsOfKind Bools v → (b : Bool) × (v ≡ B b)
+truth_of (B b) h = (b, refl)
+truth_of Absent h = absurd h
+truth_of Nil h = absurd h
+truth_of (E t k) h = absurd h
+truth_of (I n) h = absurd h
+truth_of Star h = absurd h
 
 -- the first of some lists
 first_row : List (List Value) → List Value
@@ -119,16 +134,28 @@ module _ (types : List ObcType) (all : Callees) (one : OneReactionLaw) (answers 
           by [] e own closes = plant_same own e closes
           by (k ∷ ks) e own closes = chosen_same own
 
-    pub told : (args : List Value) (earlier : List (List Value)) → AreOfKinds (all.takes c.own.name) args → AllByRecursion (AreOfKinds (all.takes c.own.name)) earlier
-        → (assumed enforced : Value) × (answers (contract_name c.own.name) args earlier ≡ answers c.own.name args earlier ++ assumed ∷ enforced ∷ [])
-    told args earlier h hs =
+    answers_told : (args : List Value) (earlier : List (List Value)) → AreOfKinds (all.takes c.own.name) args → AllByRecursion (AreOfKinds (all.takes c.own.name)) earlier
+        → (assumed enforced : Bool) × (answers (contract_name c.own.name) args earlier ≡ answers c.own.name args earlier ++ B assumed ∷ B enforced ∷ [])
+    answers_told args earlier h hs =
         let own = own_given args earlier h hs in
         let tell = tell_given args earlier (subst (λ ks. AreOfKinds ks args) takes_same h) (subst (λ ks. AllByRecursion (AreOfKinds ks) earlier) takes_same hs) in
-        let same = own_same args earlier own.now tell.now own.past tell.past (h, hs) own.reaction (tell_reaction answers c.chosen (args ∷ earlier) (tell.now ∷ tell.past) tell.reaction) in (
-          tell.now c.chosen.assume,
-          tell.now c.chosen.enforce,
+        let same = own_same args earlier own.now tell.now own.past tell.past (h, hs) own.reaction (tell_reaction answers c.chosen (args ∷ earlier) (tell.now ∷ tell.past) tell.reaction) in
+        let kinds = typed (telling c.chosen).name args earlier (subst (λ ks. AreOfKinds ks args) takes_same h) (subst (λ ks. AllByRecursion (AreOfKinds ks) earlier) takes_same hs) in
+        let these : AreOfKinds (kinds_at types chosen (chosen.outputs ++ c.chosen.assume ∷ c.chosen.enforce ∷ [])) (map tell.now (chosen.outputs ++ c.chosen.assume ∷ c.chosen.enforce ∷ [])) =
+        subst (AreOfKinds (kinds_at types chosen (chosen.outputs ++ c.chosen.assume ∷ c.chosen.enforce ∷ []))) tell.answer (subst (λ ks. AreOfKinds ks (answers (telling c.chosen).name args earlier)) tell_headed.gives kinds) in
+        let two = last_two (variable_kind types chosen.variables) tell.now chosen.outputs c.chosen.assume c.chosen.enforce these in
+        let truth = told_truth laws types all observers node c g in
+        let assumed = truth_of (tell.now c.chosen.assume) (subst (λ k. IsOfKind k (tell.now c.chosen.assume)) truth.0 two.0) in
+        let enforced = truth_of (tell.now c.chosen.enforce) (subst (λ k. IsOfKind k (tell.now c.chosen.enforce)) truth.1 two.1) in
+        let own_outputs = own.answer ∙ same in (
+          assumed.0,
+          enforced.0,
           ap (λ f. answers (contract_name f) args earlier) own_name
               ∙ tell.answer
               ∙ map-append tell.now chosen.outputs (c.chosen.assume ∷ c.chosen.enforce ∷ [])
-              ∙ ap (λ vs. vs ++ tell.now c.chosen.assume ∷ tell.now c.chosen.enforce ∷ []) (sym (own.answer ∙ same)),
+              ∙ ap₂ (λ v w. map tell.now chosen.outputs ++ v ∷ w ∷ []) assumed.1 enforced.1
+              ∙ ap (λ vs. vs ++ B assumed.0 ∷ B enforced.0 ∷ []) (sym own_outputs),
         )
+
+    pub told : TellsContract all answers c
+    told = record { named = ap contract_name (sym own_name); takes = ap (λ f. all.takes (contract_name f)) own_name ∙ sym takes_same; tells = answers_told }

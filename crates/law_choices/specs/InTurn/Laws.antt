@@ -1,9 +1,10 @@
 -- The nodes that are made of a program stand in turn, and have one meaning, which the program allows.
 -- Source: own.
-use Rattle.std.specs.Prelude.{◌≡◌, ⊤, ℕ, false, List, [], ◌∷◌, ◌++◌}
+use Rattle.std.specs.Prelude.{◌≡◌, ⊤, ℕ, Bool, false, List, [], ◌∷◌, ◌++◌}
 use Rattle.std.specs.List.{AllByRecursion}
 use Rattle.hp_base.specs.Kinds.{AreOfKinds}
 use Rattle.hp_base.specs.declared.value.Value.{Value}
+use Rattle.hp_base.specs.declared.value.Value.TheVariants.{B}
 use Rattle.hp_obc.specs.Form.{TypesForm}
 use Rattle.hp_tree.specs.declared.program.Item.{Item}
 use Rattle.hp_tree.specs.Meaning.{types_of}
@@ -28,7 +29,7 @@ use Rattle.law_choices.specs.Adding.Surveyed.{AllSuit}
 use Rattle.law_choices.specs.Answered.Loops.{plants}
 use Rattle.law_choices.specs.Answered.Programs.{AnswersAllowed}
 use Rattle.law_choices.specs.InTurn.Calling.{CallNothing}
-use Rattle.law_choices.specs.InTurn.Nodes.{Made, plain, contracted, contract_name, AreAllMade, loops, all_nodes, all_said}
+use Rattle.law_choices.specs.InTurn.Nodes.{Contracted, Made, plain, contracted, contract_name, telling, AreAllMade, loops, all_nodes, all_said}
 
 -- what is said of all nodes that are made of a program
 abbrev pub said_of : List Item → List Made → Callees
@@ -64,12 +65,18 @@ pub record IsAllowed (after : List Item) (ms : List Made) : Type 0 where
 abbrev pub ChoosingProgramLaw : Type 0
 ChoosingProgramLaw = (program after : List Item) (ranks : List (List ℕ)) (observers : Observing) (ms : List Made) → AllFall after ranks → IsChoosing program after observers ms → IsAllowed after ms
 
--- what the node that tells a contract answers is what the node answers, with two values behind: what is assumed, and what is enforced
+-- The node that tells a contract stands under a name of its own, and takes what the node takes. What it answers is what the node answers, with two truth values behind: what is assumed, and what is enforced.
+pub record TellsContract (said : Callees) (answers : Answers) (c : Contracted) : Type 0 where
+  pub named : (telling c.chosen).name ≡ contract_name c.own.name
+  pub takes : said.takes (contract_name c.own.name) ≡ said.takes c.own.name
+  pub tells :
+      (args : List Value) (earlier : List (List Value)) → AreOfKinds (said.takes c.own.name) args → AllByRecursion (AreOfKinds (said.takes c.own.name)) earlier
+      → (assumed enforced : Bool) × (answers (contract_name c.own.name) args earlier ≡ answers c.own.name args earlier ++ B assumed ∷ B enforced ∷ [])
+
+-- so it is of what is made of a node with a contract
 abbrev pub Tells : Callees → Answers → Made → Type 0
 Tells said answers (plain f) = ⊤
-Tells said answers (contracted c) =
-    (args : List Value) (earlier : List (List Value)) → AreOfKinds (said.takes c.own.name) args → AllByRecursion (AreOfKinds (said.takes c.own.name)) earlier
-    → (assumed enforced : Value) × (answers (contract_name c.own.name) args earlier ≡ answers c.own.name args earlier ++ assumed ∷ enforced ∷ [])
+Tells said answers (contracted c) = TellsContract said answers c
 
 -- So it is of each node with a contract.
 abbrev pub TellingLaw : Type 0

@@ -2,14 +2,17 @@
 -- Source: own.
 use Rattle.std.specs.Prelude.{◌≡◌, List, [], ◌∷◌, length, map}
 use Rattle.hp_base.specs.declared.value.Value.{Value}
-use Rattle.hp_boolx.specs.Machine.{Machine}
+use Rattle.hp_boolx.specs.Game.{joined}
+use Rattle.hp_boolx.specs.Machine.{Machine, game}
+use Rattle.hp_boolx.specs.Search.{Bits}
 use Rattle.hp_tree.specs.declared.program.Item.{Item}
 use Rattle.hp_tree.specs.Instant.{Instant, Past}
 use Rattle.hp_tree.specs.Meaning.{types_of}
 use Rattle.hp_tree.specs.Operators.{marked}
 use Rattle.hp_tree.specs.Programs.{Node}
 use Rattle.hp_tree.specs.Reaction.{controls_at}
-use Rattle.hp_meaning.specs.Contract.Forgetting.{erase}
+use Rattle.hp_meaning.specs.Contract.Duties.{duty, hypothesis}
+use Rattle.hp_meaning.specs.Contract.Forgetting.{erased, erase}
 use Rattle.hp_meaning.specs.Contract.FreePlaces.{InputsFit}
 use Rattle.hp_meaning.specs.Contract.Game.{Choice, IsChoiceOf, IsChosen}
 use Rattle.hp_meaning.specs.Contract.Slots.{slots_of_node}
@@ -19,7 +22,7 @@ use Rattle.law_games.specs.Forced.Twins.{Plays}
 use Rattle.law_games.specs.Mirror.Choices.{BitsInOrder, choice_bits}
 use Rattle.law_games.specs.Mirror.Memories.{SlotsFit}
 use Rattle.law_games.specs.Mirror.Mirrored.{Mirrors, codes_at, early_among, given_with}
-use Rattle.hp_controller.specs.Steps.{Placing, AlwaysSteered, bits_of, state_after}
+use Rattle.hp_controller.specs.Steps.{Placing, AlwaysSteered, bits_of, control_places, register_places, state_after}
 use Rattle.law_choices.specs.Playing.Given.{GiveSame}
 use Rattle.law_choices.specs.Playing.Inputs.{GiveInputs, HasInputsAlone}
 
@@ -48,3 +51,16 @@ InputsChoiceLaw =
     HasInputsAlone after n → (m : Machine) → Mirrors after earlier n m → BitsInOrder after n m.prefer → length m.prefer ≡ m.control → (p : Placing) → p.late ≡ []
     → (i : flat.Instant) (instants : List flat.Instant) (now : Instant) (past : Past) → AlwaysSteered m p (i ∷ instants) → (given : GiveInputs after n m p (i ∷ instants) (now ∷ past))
     → IsChosen after n (erase past) (given.1).inputs now (controls_at n now))
+
+-- the bits that the variables of a machine have at an instant of clocked equations
+abbrev pub bits_at : Machine → Placing → flat.Instant → Bits
+bits_at m p i = joined (bits_of i (register_places m p)) (bits_of i p.early) (bits_of i (control_places m p)) (bits_of i p.late)
+
+-- And the machine supposes and owes what the node does at the instant: it sees whether the contract is kept.
+abbrev pub InputsOweLaw : Type 0
+InputsOweLaw =
+    OfReadyNodes
+    (λ after earlier n.
+    HasInputsAlone after n → (m : Machine) → Mirrors after earlier n m → (p : Placing) → p.late ≡ []
+    → (i : flat.Instant) (instants : List flat.Instant) (now : Instant) (past : Past) → AlwaysSteered m p (i ∷ instants) → GiveInputs after n m p (i ∷ instants) (now ∷ past)
+    → ((game m).hyp (bits_at m p i) ≡ hypothesis n (erased now)) × ((game m).duty (bits_at m p i) ≡ duty n (erased now)))

@@ -1,0 +1,26 @@
+-- The machine of a contract says what the machine of its node says, and behind it what is assumed and what is enforced.
+-- Source: own.
+use Rattle.std.specs.Prelude.{◌≡◌, ⊤, codes, ℕ, Bool, List, [], ◌∷◌, ◌++◌, reverse}
+use Rattle.std.specs.List.{AllByRecursion}
+use Rattle.hp_base.specs.Kinds.{AreOfKinds}
+use Rattle.hp_base.specs.declared.value.Value.{Value}
+use Rattle.hp_base.specs.declared.value.Value.TheVariants.{B}
+use Rattle.hp_obc.specs.Machines.{Obc}
+use Rattle.hp_obc.specs.Steps.{machine_behaviour, run}
+use Rattle.hp_tree.specs.declared.program.Item.{Item}
+use Rattle.hp_tree.specs.Meaning.{types_of}
+use Rattle.hp_tree.specs.Programs.{Node}
+use Rattle.hp_meaning.specs.Contract.Guarantee.{HasContract}
+use Rattle.law_wellmade.specs.Timely.Kinds.{kinds_of_decls}
+
+-- One by one, the second lines are the first ones with two truth values behind each.
+abbrev pub AreTold : List (List Value) → List (List Value) → Type 0
+AreTold [] [] = ⊤
+AreTold (line ∷ lines) (told ∷ more) = ((assumed enforced : Bool) × (told ≡ line ++ B assumed ∷ B enforced ∷ [])) × AreTold lines more
+AreTold lines more = ⊥
+
+-- So it is of what the machines of a node with a contract, and of the contract, say over inputs of its kinds, newest first.
+abbrev pub TellsBeside : List Item → Obc → List ℕ → Node → Type 0
+TellsBeside program o f n =
+    HasContract n → (inputs : List (List Value)) → AllByRecursion (AreOfKinds (kinds_of_decls (types_of program) n.inputs)) inputs
+    → AreTold (reverse (run (machine_behaviour o f) (reverse inputs))) (reverse (run (machine_behaviour o (f ++ codes "$contract")) (reverse inputs)))
