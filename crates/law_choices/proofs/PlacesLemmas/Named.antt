@@ -2,12 +2,11 @@
 use Rattle.std.proofs.Common.{◌≡◌, ◌⊎◌, inl, inr, ℕ, List, [], ◌∷◌, ◌++◌, map, refl, sym, ap, subst, ◌∙◌, Option, None, Some}
 use Rattle.std.specs.Prelude.{Bool, true, false, IsTrue, if◌then◌else◌}
 use Rattle.std.specs.List.{AllByRecursion}
-use Rattle.std.proofs.lemmas.List.{append_assoc}
-use Rattle.hp_base.specs.declared.span.Span.{Span}
+use Rattle.std.proofs.lemmas.List.{append-nil, append_assoc}
 use Rattle.hp_base.specs.declared.value.Value.{Value}
 use Rattle.hp_tree.specs.declared.expr.Op2.{Op2}
 use Rattle.hp_tree.specs.Expressions.{Expr, two}
-use Rattle.hp_tree.specs.Blocks.{Decl, Block, block, Eqns, no_eqn, more_eqns, Eqn, define}
+use Rattle.hp_tree.specs.Blocks.{Decl, Block, block, Eqns}
 use Rattle.hp_tree.specs.Programs.{Node}
 use Rattle.hp_tree.specs.Meaning.{controls_of}
 use Rattle.hp_flat.specs.declared.equation.Atom.TheVariants.{Variable}
@@ -16,12 +15,11 @@ use Rattle.law_automata.specs.Lowered.Standing.{Along}
 use Rattle.law_equations.specs.Flattened.Flatten.{obc_two}
 use Rattle.law_equations.specs.Made.Laws.{unplaced}
 use Rattle.law_equations.specs.Made.Making.{Known, Sketch, Site, Sight, Seen, Body, base_site, bind, block_layer, copy_of, each_once, enter_path, names_of_eqns, next, no_entry, nothing_made, over, path_for, remember_all, signed, sketch_block, sketch_eqn, sketch_eqns, sketch_expr, sketch_node, type_two, unknown, value_of}
-use Rattle.law_equations.specs.Meaning.Instants.{Instant, holds}
+use Rattle.law_equations.specs.Meaning.Instants.{Instant}
 use Rattle.law_equations.specs.Meaning.Reactions.{Answers, Holds}
 use Rattle.hp_watch.specs.Walk.{compares, is_event}
 use Rattle.law_choices.specs.Places.Laws.{IsEventOf, KnowsOutputs, events}
-use Rattle.law_choices.specs.Places.Named.{AreNamed, nothing, quiet, named, CopyLaw, HasCopy, IsCopied, IsIn, IsQuiet, IsQuietEqn, NamedLaw}
-use Rattle.law_choices.specs.Places.Spots.{Spot}
+use Rattle.law_choices.specs.Places.Named.{AreNamed, nothing, quiet, named, CopyLaw, HasCopy, IsCopied, IsIn, IsQuiet, NamedLaw}
 use Rattle.law_choices.proofs.PlacesLemmas.Adding.{Adds, adds-lasts, adds-more, adds-path, adds-signed, compares-same, events-append}
 use Rattle.law_choices.proofs.PlacesLemmas.Events.{eqn-adds, expr-adds, heads_alike, layer-adds}
 
@@ -113,22 +111,24 @@ module _ (see : Sight) where
             let copy : FlatEqn = record { targets = w ∷ []; clock = at.clock; right = copy_of (Variable (next d)); restart = at.restart; at = 0 } in (
               e ∷ copy ∷ [],
               append_assoc d.eqns (e ∷ []) (copy ∷ []),
-              subst (λ (f : Bool). Along (CopiedBy (e ∷ copy ∷ [])) (if f then e ∷ [] else []) (y ∷ [])) (sym is)
-                  ((
-                next d,
-                refl,
-                λ x v.
-                    let same : w ≡ x = (let s : Some w ≡ Some x = sym h ∙ v in cc) in
-                    record { copy = copy; is_in = inr (inl refl); targets = ap (λ i. i ∷ []) same; clock = refl; restart = refl; right = refl },
-              ), tt),
+              subst (λ (f : Bool). Along (CopiedBy (e ∷ copy ∷ [])) (if f then e ∷ [] else []) (y ∷ [])) (sym is) (
+                (
+                  next d,
+                  refl,
+                  λ x v.
+                      let same : w ≡ x = (let s : Some w ≡ Some x = sym h ∙ v in cc) in
+                      record { copy = copy; is_in = inr (inl refl); targets = ap (λ i. i ∷ []) same; clock = refl; restart = refl; right = refl },
+                ),
+                tt,
+              ),
             )
 
     eqns-copies : (es : Eqns) (ys : List (List ℕ)) → AreNamed outputs es ys → (at : Site) (ds : List Decl) (d : Sketch) → Copies d (sketch_eqns k see at ds es d) ys
-    eqns-copies no_eqn [] nothing at ds d = ([], refl, tt)
-    eqns-copies (more_eqns e es) ys (quiet e es ys q r) at ds d =
+    eqns-copies all names nothing at ds d = ([], sym (append-nil d.eqns), tt)
+    eqns-copies all names (quiet e es ys q r) at ds d =
         let x = sketch_eqn k see at ds e d in
         copies-two d x (sketch_eqns k see at ds es x) [] ys (copies-none d x (subst (Adds d x) (q (λ p. p)) (eqn-adds outputs k knows e see at ds (λ p. p) d))) (eqns-copies es ys r at ds x)
-    eqns-copies (more_eqns (define s ((y, t) ∷ []) (two u o a b)) es) (y ∷ ys) (named s t u y o a b es ys c qa qb r) at ds d =
+    eqns-copies all names (named s t u y o a b es ys c qa qb r) at ds d =
         let e = two u o a b in
         let p = enter_path k see (path_for ds ((y, t) ∷ []) e) at d in
         let i = sketch_expr k see p.0 a p.1 in
