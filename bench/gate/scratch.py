@@ -312,10 +312,15 @@ class Writer:
     def check(self):
         """A function whose proof loads all that was written, with one answer."""
         module, lemma = self.scratch.plan['answer'].rsplit('.', 1)
-        uses = [f'use {self.new_name(name)}.{{{sorted(self.scratch.asked[name])[0]}}}' for name in self.scratch.plan['modules'] if '.proofs.' in name and name != module and self.scratch.asked.get(name)]
+        uses = [f'use {self.new_name(name)}.{{{named}}}' for name in self.scratch.plan['modules'] if '.proofs.' in name and name != module for named in self.public(name)]
         self.put(f'{self.crate}/src/lib.rt', '//! Scratch.\n#![tactic(auto)]\n\nghost use Rattle.std.specs.Prelude.{◌≡◌, true};\n\n/// Loads the laws.\npub fn checked()\n    ensures { true ≡ true }\n{}\n')
         text = '\n'.join(uses + [f'use {self.new_name(module)}.{{{lemma}}}', 'use Rattle.std.proofs.Common.{refl}', 'use Rattle.scratch.proofs.checked.Goals as goal', '', 'pub returns : goal.returns', f'returns c = let law = {lemma} in refl', ''])
         self.put(f'{self.crate}/proofs/checked/Answers.antt', text)
+
+    def public(self, name):
+        """The first name of a module that others may use."""
+        text = '\n'.join(item.text() for item in self.scratch.module(name).items)
+        return re.findall(r'^\s*(?:abbrev )?pub (?:unfoldable |record |data )?([^\s:(){}]+)', text, re.M)[:1]
 
     def run(self):
         for part in ('specs', 'proofs'):

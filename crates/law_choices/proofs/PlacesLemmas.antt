@@ -9,3 +9,4 @@ pub mod Numbers
 pub mod Slots
 pub mod Absent
 pub mod Values
+pub mod Named

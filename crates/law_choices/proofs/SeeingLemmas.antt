@@ -5,3 +5,4 @@ pub mod Found
 pub mod Held
 pub mod Watching
 pub mod Plants
+pub mod Named

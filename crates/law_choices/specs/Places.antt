@@ -2,3 +2,4 @@ pub mod Spots
 pub mod Found
 pub mod Laws
 pub mod Values
+pub mod Named

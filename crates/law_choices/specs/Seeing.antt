@@ -4,3 +4,4 @@ pub mod Found
 pub mod Held
 pub mod Greatest
 pub mod Plants
+pub mod Named

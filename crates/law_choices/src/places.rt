@@ -1,9 +1,10 @@
 //! Laws: the comparisons and calls among a node's equations, by their order, and how a walk over the tree finds them.
 //!
-//! The functions here do nothing: each is a law, which its contract states. What variable stands for which place is not said here.
+//! The functions here do nothing: each is a law, which its contract states. What variable stands for which place is said of comparisons that have names alone.
 #![tactic(auto)]
 
 ghost use Rattle.law_choices.specs.Places.Laws.{CountLaw, EventsLaw, FoundLaw, SlotsLaw, WalkLaw};
+ghost use Rattle.law_choices.specs.Places.Named.{CopyLaw, NamedLaw};
 ghost use Rattle.law_choices.specs.Places.Values.{ValuesLaw};
 
 /// The equations of comparisons and calls that are made of a node without automata are those of its comparisons and calls, in turn: with that operator and one target, or with that callee and a target for each output.
@@ -26,4 +27,10 @@ pub fn free_places_are_found()
 /// Where an instant without automata stands for one of the program, what the walk finds outside of transitions has the same values in both, wherever it is there.
 pub fn found_places_keep_values()
     ensures { ValuesLaw }
+{}
+
+/// Where each comparison of a node is the right side of an equation of its body that defines a name, and it calls nothing, the events that are made of it are those of these names, in turn, and the target of each is copied to the variable of the name: so this has its value wherever the event is there.
+pub fn named_comparisons_are_copied()
+    ensures named { NamedLaw }
+    ensures copy { CopyLaw }
 {}

@@ -7,6 +7,7 @@ ghost use Rattle.law_choices.specs.Seeing.Found.{FilledFoundLaw};
 ghost use Rattle.law_choices.specs.Seeing.Greatest.{SeenGreatestLaw};
 ghost use Rattle.law_choices.specs.Seeing.Held.{HeldCodesLaw};
 ghost use Rattle.law_choices.specs.Seeing.Laws.{GivenLaw, ValuesChoiceLaw, ValuesPlayLaw};
+ghost use Rattle.law_choices.specs.Seeing.Named.{NamedValuesLaw};
 ghost use Rattle.law_choices.specs.Seeing.Plants.{PlantNamesLaw, PlantReactionLaw};
 
 use crate::adding::{
@@ -48,6 +49,13 @@ pub fn found_places_keep_their_values()
 pub fn closed_nodes_react_as_their_plants()
     ensures reaction { PlantReactionLaw }
     ensures names { PlantNamesLaw }
+{
+    added_equations_give_inputs();
+}
+
+/// So where comparisons of a node have names, the targets of their equations have the values of these names in it, wherever the comparisons are there and the names are not Nil.
+pub fn named_comparisons_have_their_values()
+    ensures { NamedValuesLaw }
 {
     added_equations_give_inputs();
 }

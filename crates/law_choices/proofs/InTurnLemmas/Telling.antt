@@ -100,14 +100,14 @@ module _ (types : List ObcType) (callees : Callees) (asking : FlatNode) (assume 
 
   -- ---- what it tells are truth values
 
-  none : Variable
+  abbrev none : Variable
   none = record { name = []; ty = FlatInt }
 
   variable_at : (xs : List Variable) (v : Variable) (ys : List Variable) → get_or (xs ++ v ∷ ys) (length xs) none ≡ v
   variable_at [] v ys = refl
   variable_at (x ∷ xs) v ys = variable_at xs v ys
 
-  kind_in : List Variable → ℕ → KindData
+  abbrev kind_in : List Variable → ℕ → KindData
   kind_in vs x = kind_of_type types (get_or vs x none).ty
 
   pub told_kinds : (variable_kind types c.node.variables c.assume ≡ Bools) × (variable_kind types c.node.variables c.enforce ≡ Bools)

@@ -25,7 +25,7 @@ use Rattle.law_choices.specs.Places.Laws.{events, IsEventOf}
 
 -- ---- lists
 
-events-append : (xs ys : List FlatEqn) → events (xs ++ ys) ≡ events xs ++ events ys
+pub events-append : (xs ys : List FlatEqn) → events (xs ++ ys) ≡ events xs ++ events ys
 events-append [] ys = refl
 events-append (x ∷ xs) ys = by (is_event x.right) (events-append xs ys)
   where

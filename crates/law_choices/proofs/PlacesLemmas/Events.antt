@@ -125,7 +125,7 @@ module _ (outputs : List ℕ → List (List ℕ)) (k : Known) (knows : KnowsOutp
       (adds-value at (type_at y.0 y.1) (register (constant_value k c) (Variable y.1)) y.0 refl))
 
   mutual
-    expr-adds : (e : Expr) → OfExpr e
+    pub expr-adds : (e : Expr) → OfExpr e
     expr-adds (constant s c) see at here d = adds-value at (type_of_value (constant_value k c)) _ d refl
     expr-adds (variable s x) see at here d = adds-value at (see x).ty (copy_of (atom_of (see x).value)) d refl
     expr-adds (last_of s x) see at here d = adds-value at (see x).ty (copy_of (atom_of (see x).last)) d refl
@@ -220,7 +220,7 @@ module _ (outputs : List ℕ → List (List ℕ)) (k : Known) (knows : KnowsOutp
 
   -- ---- blocks
 
-  layer-adds : (standing : Standing) (out : Sight) (at : Site) (ds : List Decl) (names : List (List ℕ)) (d : Sketch) → Adds d (block_layer k standing out at ds names d).1 []
+  pub layer-adds : (standing : Standing) (out : Sight) (at : Site) (ds : List Decl) (names : List (List ℕ)) (d : Sketch) → Adds d (block_layer k standing out at ds names d).1 []
   layer-adds standing out at ds names d =
       let s = own_names standing ds out names (declared k ds out, d) in
       adds-more d s.1 (remember_all k at out ds s).1 [] (adds-names standing ds out names (declared k ds out, d)) (adds-lasts k at out ds s)
@@ -267,7 +267,7 @@ module _ (outputs : List ℕ → List (List ℕ)) (k : Known) (knows : KnowsOutp
         let x = sketch_eqn k see at ds e d in
         adds-two d x (sketch_eqns k see at ds es x) (spots_of_eqn outputs e (below Head here)) (spots_of_eqns outputs es (below Tail here)) (eqn-adds e see at ds (below Head here) d) (eqns-add es see at ds (below Tail here) x)
 
-    eqn-adds : (e : Eqn) (see : Sight) (at : Site) (ds : List Decl) (here : Prefix) (d : Sketch) → Adds d (sketch_eqn k see at ds e d) (spots_of_eqn outputs e here)
+    pub eqn-adds : (e : Eqn) (see : Sight) (at : Site) (ds : List Decl) (here : Prefix) (d : Sketch) → Adds d (sketch_eqn k see at ds e d) (spots_of_eqn outputs e here)
     eqn-adds (define s ys e) see at ds here d =
         let p = enter_path k see (path_for ds ys e) at d in
         adds-two d p.1 (sketch_right k see p.0 ys e p.1) [] (spots outputs e (below RightOf here)) (adds-path k see (path_for ds ys e) at d) (right-adds e see p.0 ys (below RightOf here) p.1)
@@ -313,7 +313,7 @@ event_alike : (e x : FlatEqn) (s : Spot) → unplaced e ≡ unplaced x → IsEve
 event_alike e x (compared o p) h is = (is.0, is.1, is.2, ap (λ (d : FlatEqn). d.right) h ∙ is.3, ap (λ (d : FlatEqn). d.targets) h ∙ is.4)
 event_alike e x (called f ps) h is = (is.0, ap (λ (d : FlatEqn). d.right) h ∙ is.1, ap (λ (d : FlatEqn). length d.targets) h ∙ is.2)
 
-heads_alike : (e x : FlatEqn) (es xs : List FlatEqn) → map unplaced (e ∷ es) ≡ map unplaced (x ∷ xs) → (unplaced e ≡ unplaced x) × (map unplaced es ≡ map unplaced xs)
+pub heads_alike : (e x : FlatEqn) (es xs : List FlatEqn) → map unplaced (e ∷ es) ≡ map unplaced (x ∷ xs) → (unplaced e ≡ unplaced x) × (map unplaced es ≡ map unplaced xs)
 heads_alike e x es xs h = (cc, cc)
 
 events_alike : (es xs : List FlatEqn) (ss : List Spot) → map unplaced es ≡ map unplaced xs → Along IsEventOf (events xs) ss → Along IsEventOf (events es) ss

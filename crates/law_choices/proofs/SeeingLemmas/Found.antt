@@ -1,23 +1,20 @@
 -- What a walk finds has its values in the filled form too, where it is not Nil.
 use Rattle.std.proofs.Common.{◌≡◌, ℕ, List, [], ◌∷◌, refl, sym, ap, subst, ◌∙◌}
-use Rattle.std.specs.Prelude.{IsTrue, IsFalse, reverse, Some}
+use Rattle.std.specs.Prelude.{reverse, Some}
 use Rattle.hp_base.specs.declared.value.Value.{Value}
 use Rattle.hp_base.specs.declared.value.Value.TheVariants.{Absent, Nil, B, E, I, Star}
 use Rattle.hp_tree.specs.declared.program.Item.{Item}
 use Rattle.hp_tree.specs.Programs.{Node}
-use Rattle.hp_tree.specs.Operators.{real, is_there}
+use Rattle.hp_tree.specs.Operators.{real}
 use Rattle.hp_tree.specs.Instant.{Place, Instant, Past, Given}
 use Rattle.hp_tree.specs.Meaning.{node_among}
 use Rattle.hp_tree.specs.Reaction.{Each, Meets, Reaction}
 use Rattle.law_automata.specs.Lowered.Standing.{Along, Stands}
 use Rattle.law_values.specs.Filled.Under.{Under, PastsUnder}
-use Rattle.law_choices.specs.Choosing.Choices.{Choices}
-use Rattle.law_choices.specs.Filled.Ready.{FilledForOne}
 use Rattle.law_choices.specs.Places.Found.{Both, found_in_node}
 use Rattle.law_choices.specs.Places.Laws.{places_of}
 use Rattle.law_choices.specs.Places.Spots.{Spot}
-use Rattle.law_choices.specs.Places.Values.{SameWhereThere, in_transition}
-use Rattle.law_choices.specs.Runs.Laws.{OfProgramLaw}
+use Rattle.law_choices.specs.Places.Values.{SameWhereThere}
 use Rattle.law_choices.specs.Seeing.Found.{KnownAlike, FoundAlike, FilledFoundLaw}
 use Rattle.law_choices.proofs.PlacesLemmas.Values.{values-are}
 use Rattle.law_choices.proofs.RunsLemmas.Chosen.{of_program}
