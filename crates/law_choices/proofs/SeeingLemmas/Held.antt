@@ -1,7 +1,6 @@
 -- Where free places of equations have the codes of what is given at inputs and free places, so have the early and the late ones.
 use Rattle.std.proofs.Common.{◌≡◌, List, [], ◌∷◌, ◌++◌, refl, ap₂}
 use Rattle.std.specs.Prelude.{Bool, true, false, if◌then◌else◌}
-use Rattle.hp_base.specs.declared.ty.Ty.{Ty}
 use Rattle.hp_boolx.specs.Search.{Bits}
 use Rattle.hp_obc.specs.Machines.{ObcType}
 use Rattle.hp_flat.specs.Nodes.{FlatNode}

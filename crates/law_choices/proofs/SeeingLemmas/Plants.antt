@@ -1,5 +1,5 @@
 -- Reactions of closed nodes are reactions of their plants under the choice.
-use Rattle.std.proofs.Common.{◌≡◌, ℕ, List, sym, subst}
+use Rattle.std.proofs.Common.{List, sym, subst}
 use Rattle.hp_base.specs.declared.value.Value.{Value}
 use Rattle.law_equations.specs.Meaning.Instants.{Instant}
 use Rattle.law_equations.specs.Meaning.Reactions.{Reaction}

@@ -1,6 +1,5 @@
 -- A machine that is asked, and sees values of free places, plays along with the game and chooses.
 use Rattle.std.proofs.Common.{◌≡◌, ◌↔◌, ℕ, List, [], ◌∷◌, map, sym, ◌∙◌}
-use Rattle.hp_base.specs.declared.value.Value.{Value}
 use Rattle.hp_boolx.specs.Machine.{Machine}
 use Rattle.hp_tree.specs.declared.program.Item.{Item}
 use Rattle.hp_tree.specs.Programs.{Node}

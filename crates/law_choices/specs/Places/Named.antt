@@ -1,6 +1,6 @@
 -- Comparisons that are the right side of an equation of a node's body: what is made of each is copied to the variable of its name.
 -- Source: own.
-use Rattle.std.specs.Prelude.{ℕ, ◌≡◌, ◌⊎◌, Bool, true, IsTrue, List, [], ◌∷◌, Some}
+use Rattle.std.specs.Prelude.{ℕ, ◌≡◌, ◌⊎◌, true, IsTrue, List, [], ◌∷◌, Some}
 use Rattle.std.specs.List.{AllByRecursion}
 use Rattle.hp_base.specs.declared.span.Span.{Span}
 use Rattle.hp_tree.specs.declared.expr.Op2.{Op2}
