@@ -24,11 +24,19 @@ struct Sights<'a> {
     hidden: Table<'a, &'a Decl>,
 }
 
-/// The names that a text has.
+/// Whether names behind this word are not read at the instant itself.
+fn is_past(word: &[u8]) -> bool {
+    matches!(word, b"pre" | b"fby" | b"last" | b"inlined")
+}
+
+/// The names that a text has before the first word behind which they are not read at the instant itself.
 fn add_words<'s>(text: &'s [u8], into: &mut Vec<&'s [u8]>) -> Result<(), AllocError> {
     let mut from = 0;
     for i in 0..text.len() {
         if !is_word_part(text[i]) {
+            if from < i && is_past(&text[from..i]) {
+                return Ok(());
+            }
             if from < i {
                 into.push(&text[from..i])?;
             }
