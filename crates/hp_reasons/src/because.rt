@@ -1,8 +1,9 @@
 //! Why a part of a guarantee is false: the truth values that it reads, each with its equation, and those that these read.
 
 use crate::error::WhyErr;
-use crate::names::{Names, QUOTED};
-use crate::page::{Page, add_place};
+use crate::labels::add_text;
+use crate::names::Names;
+use crate::page::Page;
 use crate::parts::Probe;
 use hp_base::{Ty, is_word_part};
 use hp_tables::declarations::Table;
@@ -141,19 +142,13 @@ impl<'c, 'a> Cause<'c, 'a> {
         value: bool,
         page: &mut Page,
     ) -> Result<(), AllocError> {
-        let mut piece = Vec::new(self.probe.alloc);
-        self.names.add_name(&decl.name, &mut piece)?;
-        piece.extend_from_slice(if value { b" = true" } else { b" = false" })?;
+        page.begin(b"because")?;
+        page.tab()?;
+        self.names.add_name(&decl.name, &mut page.text)?;
+        page.word(if value { b"true" } else { b"false" })?;
         if let Some(right) = right {
-            piece.extend_from_slice(b"   ")?;
-            self.names.add_name(&decl.name, &mut piece)?;
-            piece.extend_from_slice(b" = ")?;
-            self.names.source.add(right.span, QUOTED, &mut piece)?;
-            piece.extend_from_slice(b" (")?;
-            add_place(right.span, &mut piece)?;
-            piece.push(b')')?;
+            add_text(self.names, right, page)?;
         }
-        page.put(&piece)?;
         page.end()
     }
 
@@ -169,7 +164,6 @@ impl<'c, 'a> Cause<'c, 'a> {
         let Some(value) = self.probe.value(self.guarantee, &decl.name)? else {
             return Ok(());
         };
-        page.begin(if queue.count == 0 { "because" } else { "" })?;
         queue.count = queue.count.saturating_add(1);
         let right = sights.rights.find(decl.name.bytes());
         self.add_value(decl, right, value, page)?;

@@ -5,15 +5,15 @@
 
 mod because;
 mod error;
-mod legend;
+mod labels;
+mod machine;
 mod names;
 mod page;
 mod parts;
-mod plays;
 mod reason;
 mod slots;
 mod source;
 mod values;
 
 pub use error::WhyErr;
-pub use reason::{Reason, explain, reason_of};
+pub use reason::{Reason, facts, reason_of};

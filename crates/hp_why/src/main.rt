@@ -4,7 +4,7 @@
 use hp_base::What;
 use hp_compile::{Refusal, front};
 use hp_io::{Folder, ReadErr, RealFolder, write_whole};
-use hp_reasons::{WhyErr, explain, reason_of};
+use hp_reasons::{WhyErr, facts, reason_of};
 use hp_tree::{Item, Node, Program};
 use std::alloc::{AllocError, Global};
 use std::process::ExitCode;
@@ -69,7 +69,7 @@ fn unexplained(e: &WhyErr) -> Fault {
 fn explained(alloc: Global, text: &[u8], program: &Program, node: &Node) -> Result<Vec<u8>, Fault> {
     match reason_of(alloc, program, node) {
         Err(e) => Err(unexplained(&e)),
-        Ok(reason) => match explain(alloc, text, program, node, &reason) {
+        Ok(reason) => match facts(alloc, text, program, node, &reason) {
             Ok(text) => Ok(text),
             Err(e) => Err(unexplained(&e)),
         },
