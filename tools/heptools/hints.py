@@ -1,78 +1,17 @@
 """What may help where a contract is lost. That something helps is said only where the changed program was solved: a copy of the node with the change stands behind
 the program, under a name of its own."""
-import itertools
-import os
 import re
 import subprocess
 import tempfile
 
 from . import program
-from .facts import Certificate, Facts
-from .plays import WHOLE, valued
+from .copies import Copy
+from .facts import Facts
+from .plays import WHOLE
 
-MOST, MOST_CLAUSES, MOST_LITERALS, MOST_TRIES = 3, 4, 4, 6
+MOST, MOST_CLAUSES, MOST_LITERALS = 3, 4, 4
 BOUND = re.compile(r'([a-z]\w*) ?(<=|>=|<>|<|>|=) ?(-?\d+)')
 TURNED = {'<': '>=', '<=': '>', '>': '<=', '>=': '<', '=': '<>', '<>': '='}
-
-
-class Copy:
-    """A node of a program, of which copies can be changed."""
-
-    def __init__(self, source, node):
-        self.source, self.node = source, node
-        self.words = source.heading(node)
-        behind = next((at for word, at in self.words[1:] if word in (b'node', b'type')), len(source.text))
-        self.start, self.stop = (self.words[0][1] if self.words else 0), behind
-        self.words = [it for it in self.words if it[1] < behind]
-        names = set(source.nodes())
-        self.name = next(it for it in (f'tried_{at}' for at in itertools.count(1)) if it not in names)
-        self.tries = 0
-
-    def span(self, text):
-        """The offsets of an expression, if it stands in the node itself."""
-        start = self.source.offset(text.line, text.column)
-        return (start, text.end) if self.start <= start < text.end <= self.stop else None
-
-    def inputs(self):
-        """The names of the inputs."""
-        found, names = [], []
-        for word, _ in self.words[3:]:
-            if word == b')':
-                break
-            found.append(word.decode('latin-1'))
-        for at, word in enumerate(found):
-            if re.fullmatch(r'[a-z]\w*', word) and (at == 0 or found[at - 1] in (',', ';')):
-                names.append(word)
-        return names
-
-    def changed(self, changes, inputs=()):
-        """The program with a copy of the node in which offsets have other texts, and which has further truth values as inputs."""
-        changes = [(self.words[1][1], self.words[1][1] + len(self.words[1][0]), self.name), *changes]
-        if inputs:
-            more = ', '.join(inputs) + ' : bool' + ('' if self.words[3][0] == b')' else '; ')
-            changes.append((self.words[3][1], self.words[3][1], more))
-        text, at = [self.source.text, b'\n'], self.start
-        for start, end, new in sorted(changes):
-            text += [self.source.text[at:start], new.encode()]
-            at = end
-        return b''.join([*text, self.source.text[at:self.stop], b'\n'])
-
-    def solved(self, text, folder):
-        """The certificate of the copy and the file in which it stands; none where the copy is refused or too much was tried."""
-        self.tries += 1
-        if self.tries > MOST_TRIES:
-            return None, None
-        path, cert = os.path.join(folder, f'{self.tries}.ept'), os.path.join(folder, f'{self.tries}.cert')
-        with open(path, 'wb') as file:
-            file.write(text)
-        if program.call(['prove', path, self.name, cert]).returncode or not os.path.exists(cert):
-            return None, path
-        with open(cert, encoding='ascii') as file:
-            return Certificate(file.read()), path
-
-    def is_kept(self, text, folder):
-        found, _ = self.solved(text, folder)
-        return found is not None and found.kind == 'win'
 
 
 class Hints:

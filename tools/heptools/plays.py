@@ -1,4 +1,6 @@
 """A shortest play of a lost contract, and what the variables of a certificate stand for, in words."""
+import re
+
 from .groups import assumptions, game_at, valued
 
 # columns of a line that can be broken, and where it goes on
@@ -16,18 +18,16 @@ class Page:
     def add(self, line=''):
         self.lines.append(line)
 
-    def entry(self, word, *items, between=', '):
-        """A line of an instant, broken between items where it is long."""
+    def entry(self, word, *items):
+        """A line of an instant, broken behind commas where it is long."""
         line = '  ' + word.ljust(INDENT - 2)
-        for at, item in enumerate(items):
-            if at:
-                line += between.rstrip()
-                if len(line) + len(item) >= COLUMNS:
-                    self.add(line)
-                    line = ' ' * INDENT
-                else:
-                    line += ' '
-            line += item
+        for at, piece in enumerate(re.split('(?<=[,;]) ', ', '.join(items))):
+            if at and len(line) + len(piece) >= COLUMNS:
+                self.add(line)
+                line = ' ' * INDENT
+            elif at:
+                line += ' '
+            line += piece
         self.add(line.rstrip())
 
     def text(self):
