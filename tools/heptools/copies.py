@@ -18,8 +18,8 @@ class Copy:
         behind = next((at for word, at in self.words[1:] if word in (b'node', b'type')), len(source.text))
         self.start, self.stop = (self.words[0][1] if self.words else 0), behind
         self.words = [it for it in self.words if it[1] < behind]
-        names = set(source.nodes())
-        self.name = next(it for it in (f'tried_{at}' for at in itertools.count(1)) if it not in names)
+        # (no name of the text begins so)
+        self.name = next(it for it in (f'tried{at}' for at in itertools.count(1)) if it.encode() not in source.text)
         self.tries = 0
 
     def span(self, text):

@@ -41,6 +41,7 @@ class Game:
         self.certificate, self.rank = certificate, certificate.ranks[self.left - 1] if self.left else 0
         self.choices = self.tables.some(self.answers, valid)
         self.violated = valid & hyp & ~duty
+        self.all_violated = not valid & hyp & duty
         self.led = valid & hyp & duty & self.tables.diagram(certificate, self.rank, self.next)
         self.reasons = self.violations()
 

@@ -45,7 +45,7 @@ class Hints:
         """The program in which comparisons are inputs; those of one text are one."""
         names = {}
         for it in slots:
-            names.setdefault(self.words(it), f'tried_{len(names) + 1}')
+            names.setdefault(self.words(it), f'{self.copy.name}_{len(names) + 1}')
         return self.copy.changed([(*self.copy.span(it.text), names[self.words(it)]) for it in slots], list(names.values()))
 
     def same(self):
@@ -121,10 +121,11 @@ class Hints:
             self.found.append(f'{told}: known only after the choice. Tried: known before, the contract would be kept. Let an equation of the body itself define it, that reads nothing that is chosen.')
 
     def both(self):
-        """Several reasons at the last instant, where nothing comes behind the choice."""
-        groups, is_whole = self.play.groups[len(self.facts.instants) - 1]
+        """Several reasons at the last instant, where no answer keeps the contract."""
+        last = len(self.facts.instants) - 1
+        groups, is_whole = self.play.groups[last]
         told = list(dict.fromkeys(it.reason.told.removesuffix(' is false') for it in groups))
-        if is_whole and len(told) > 1 and not any(it.late for it in groups):
+        if is_whole and len(told) > 1 and self.play.games[last].all_violated:
             self.found.append(f'At the last instant no choice keeps all of: {"; ".join(told)}. One has to give way, or the surroundings must not ask for it.')
 
     def nothing(self):
