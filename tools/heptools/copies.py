@@ -2,6 +2,8 @@
 import itertools
 import os
 import re
+import subprocess
+import time
 
 from . import program
 from .facts import Certificate
@@ -12,7 +14,7 @@ MOST_TRIES = 6
 class Copy:
     """A node of a program, of which copies can be changed."""
 
-    def __init__(self, source, node):
+    def __init__(self, source, node, seconds=1.0):
         self.source, self.node = source, node
         self.words = source.heading(node)
         behind = next((at for word, at in self.words[1:] if word in (b'node', b'type')), len(source.text))
@@ -20,7 +22,7 @@ class Copy:
         self.words = [it for it in self.words if it[1] < behind]
         # (no name of the text begins so)
         self.name = next(it for it in (f'tried{at}' for at in itertools.count(1)) if it.encode() not in source.text)
-        self.tries = 0
+        self.tries, self.end = 0, time.monotonic() + seconds
 
     def span(self, text):
         """The offsets of an expression, if it stands in the node itself."""
@@ -75,14 +77,19 @@ class Copy:
         return self.changed([(self.words[behind][1], self.words[behind][1], named), (self.words[last][1], self.words[last][1], equations)])
 
     def solved(self, text, folder):
-        """The certificate of the copy and the file in which it stands; none where the copy is refused or too much was tried."""
+        """The certificate of the copy and the file in which it stands; none where the copy is refused, or too much was tried."""
         self.tries += 1
-        if self.tries > MOST_TRIES:
+        left = self.end - time.monotonic()
+        if self.tries > MOST_TRIES or left <= 0:
             return None, None
         path, cert = os.path.join(folder, f'{self.tries}.ept'), os.path.join(folder, f'{self.tries}.cert')
         with open(path, 'wb') as file:
             file.write(text)
-        if program.call(['prove', path, self.name, cert]).returncode or not os.path.exists(cert):
+        try:
+            done = program.call(['prove', path, self.name, cert], timeout=left)
+        except subprocess.TimeoutExpired:
+            return None, path
+        if done.returncode or not os.path.exists(cert):
             return None, path
         with open(cert, encoding='ascii') as file:
             return Certificate(file.read()), path

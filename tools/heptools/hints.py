@@ -5,7 +5,6 @@ import subprocess
 import tempfile
 
 from . import program
-from .copies import Copy
 from .facts import Facts
 from .plays import WHOLE
 
@@ -17,8 +16,8 @@ TURNED = {'<': '>=', '<=': '>', '>': '<=', '>=': '<', '=': '<>', '<>': '='}
 class Hints:
     """The hints of a play."""
 
-    def __init__(self, facts, play, source, node):
-        self.facts, self.play, self.copy = facts, play, Copy(source, node)
+    def __init__(self, facts, play, copy):
+        self.facts, self.play, self.copy = facts, play, copy
         self.may_try = len(facts.instants) <= WHOLE and bool(self.copy.words)
         self.found = []
 
@@ -90,12 +89,15 @@ class Hints:
         """A part that compares what is computed."""
         inputs = self.copy.inputs()
         for part in self.facts.parts:
-            for it in self.comparisons():
-                names = re.findall(r'\b[a-z]\w*', self.words(it))
-                if not part.holds and part.text.end - 1 in range(it.text.end - 1, part.text.end) and self.copy.span(it.text)[0] >= self.copy.span(part.text)[0] \
-                        and any(name not in inputs for name in names):
+            for it in [] if part.holds else self.comparisons():
+                if self.is_in(it.text, part.text) and any(name not in inputs for name in names_in(self.words(it))):
                     self.found.append(f'`{self.words(it)}` ({it.text.place}) compares an integer that is computed, and integers are not computed in the game: enforce a truth value that the node computes.')
                     return
+
+    def is_in(self, inner, outer):
+        """Whether an expression of the node stands in another one."""
+        (start, end), (first, last) = self.copy.span(inner), self.copy.span(outer)
+        return first <= start and end <= last
 
     def callees(self):
         """Nodes that promise nothing."""
@@ -115,10 +117,11 @@ class Hints:
 
     def late(self):
         """Comparisons that are known too late."""
-        slots = [it for it in self.comparisons() if it.row == 'late' and self.play.matters(it)]
+        inputs = self.copy.inputs()
+        slots = [it for it in self.comparisons() if it.row == 'late' and self.play.matters(it) and all(name in inputs for name in names_in(self.words(it)))]
         if slots and self.may_try and self.copy.is_kept(self.with_inputs(slots), self.folder):
             told = ' and '.join(dict.fromkeys(f'`{self.words(it)}` ({it.text.place})' for it in slots))
-            self.found.append(f'{told}: known only after the choice. Tried: known before, the contract would be kept. Let an equation of the body itself define it, that reads nothing that is chosen.')
+            self.found.append(f'{told}: known only after the choice. Tried: known before, the contract would be kept. Let an equation of the body itself define it.')
 
     def both(self):
         """Several reasons at the last instant, where no answer keeps the contract."""
@@ -133,49 +136,37 @@ class Hints:
         if self.facts.row('control') and all(is_whole and len(groups) == 1 and not groups[0].late for groups, is_whole in self.play.groups.values()):
             self.found.append('No choice changes anything on this play: let what is chosen reach what is violated, at this instant or before.')
 
-    def literals(self, instant):
-        """The inputs that matter at an instant, as a source text says that they have these values."""
-        slots = [it for it in self.facts.row('early') if it.kind == 'input' and it.width and not instant.may_differ(it)]
-        return {it.label: literal(it, instant.values) for it in slots}
-
     def assumed(self):
         """An assumption on the inputs of one instant: the weakest with which the contract is kept."""
         if not self.may_try:
             return
-        asked = [self.literals(it) for it in self.facts.instants]
+        asked = [literals(self.facts, it) for it in self.facts.instants]
         for it in sorted(asked, key=len, reverse=True):
             if 2 <= len(it) <= MOST_LITERALS:
-                clauses = self.clauses(list(it.values()))
+                clauses = self.clauses(it)
                 if clauses:
                     told = ' & '.join(clauses)
                     self.found.append(f'It would be enough that the surroundings keep `assume {told}`. Tried: then the contract is kept.')
                     return
 
-    def clauses(self, literals):
-        """Clauses of an assumption with which the contract is kept, from the first one on; none where they are not found."""
-        clauses = [clause(literals)]
-        for _ in range(MOST_CLAUSES):
+    def clauses(self, first):
+        """Clauses of an assumption with which the contract is kept, the first one of these literals; none where they are not found."""
+        asked, clauses, left = first, [], 1.0
+        # (what is left is a part of all inputs, or more: some have to be possible)
+        while 2 <= len(asked) <= MOST_LITERALS and clause(asked) not in clauses and len(clauses) < MOST_CLAUSES and left > 0.5 ** len(asked):
+            clauses.append(clause(asked))
+            left -= 0.5 ** len(asked)
             found, path = self.copy.solved(self.assuming(clauses), self.folder)
-            if found is None:
+            if found is None or found.kind == 'win':
+                return clauses if found else None
+            if len(self.facts.instants) > 1:
                 return None
-            if found.kind == 'win':
-                return clauses
-            if len(self.facts.instants) > 1 or len(clauses) == MOST_CLAUSES:
-                return None
-            done = subprocess.run([program.find_why(), path, self.copy.name], stdin=subprocess.DEVNULL, capture_output=True)
+            done = subprocess.run([program.find_why(), path, self.copy.name], stdin=subprocess.DEVNULL, stdout=subprocess.PIPE, stderr=subprocess.PIPE)
             facts = Facts(done.stdout.decode('utf-8', 'replace'))
             if done.returncode or len(facts.instants) != 1:
                 return None
-            literals = list(Hints.literals(self.of(facts), facts.instants[0]).values())
-            if not 2 <= len(literals) <= MOST_LITERALS or clause(literals) in clauses:
-                return None
-            clauses.append(clause(literals))
+            asked = literals(facts, facts.instants[0])
         return None
-
-    def of(self, facts):
-        it = object.__new__(Hints)
-        it.facts = facts
-        return it
 
     def assuming(self, clauses):
         """The program in which the node assumes clauses too."""
@@ -189,6 +180,15 @@ class Hints:
     def choose(self):
         if not self.facts.row('control'):
             self.found.append('Nothing can be chosen: where the program may hold something back, declare a controllable variable after `with`.')
+
+
+def literals(facts, instant):
+    """The inputs that matter at an instant, as a source text says that they have these values."""
+    return [literal(it, instant.values) for it in facts.row('early') if it.kind == 'input' and it.width and not instant.may_differ(it)]
+
+
+def names_in(words):
+    return re.findall(r'\b[a-z]\w*', words)
 
 
 def literal(slot, bits):
