@@ -30,7 +30,7 @@ class Choices:
         """What the copy shows: a name of an output, its type, and what it is, of each slot that is no input."""
         types, found = self.copy.types(), []
         for it in self.controls + self.others:
-            words = it.label.rpartition('@')[0].strip('`') if it.kind == 'comparison' else it.label
+            words = it.quoted[1:-1] if it.kind == 'comparison' else it.label
             if it.kind == 'comparison' and (PAST.search(words) or words.endswith('..')) or it.kind == 'output' and not re.fullmatch(r'[a-z]\w*', words):
                 raise Wrong(f'the values of {it.label} are not known here')
             kind = 'bool' if it.values == ['false', 'true'] else types.get(words)

@@ -40,6 +40,11 @@ class Slot:
         return self.text.words
 
     @property
+    def quoted(self):
+        """The words of a comparison between quotes; of one in the contract of a called node all that it is called."""
+        return f'{self.label.partition("`@")[0].rstrip("`")}`' if self.label.startswith('`') else self.label
+
+    @property
     def variables(self):
         return range(self.first, self.first + self.width)
 
@@ -92,6 +97,14 @@ class Facts:
         self.init, self.assume, self.enforce = [], None, None
         for line in text.split('\n')[:-1]:
             self.add(*line.split('\t'))
+        self.shorten()
+
+    def shorten(self):
+        """A comparison whose words stand once is told without its place."""
+        found = [it for it in self.slots if it.kind == 'comparison']
+        for it in found:
+            if sum(it.quoted == other.quoted for other in found) == 1:
+                it.text.words = it.quoted
 
     def add(self, kind, *words):
         if kind in GATES:

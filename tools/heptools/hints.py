@@ -38,7 +38,7 @@ class Hints:
 
     @staticmethod
     def words(slot):
-        return slot.label.rpartition('@')[0].strip('`')
+        return slot.quoted[1:-1]
 
     def with_inputs(self, slots):
         """The program in which comparisons are inputs; those of one text are one."""

@@ -79,11 +79,11 @@ class Play:
         self.page.add()
         self.page.add('free beside the inputs (each by itself, at every instant anew)')
         for it in places:
-            what = 'a comparison; true or false, whatever the integers are'
+            name, what = it.quoted, f'a comparison at {it.text.place}; true or false, whatever the integers are'
             if it.kind == 'output':
                 promise = '; any value that its contract allows' if it.has_contract else ', which promises nothing; any value'
-                what = f'output {it.output} of {it.node} at {it.text.place}{promise}'
-            self.page.add(f'  {it.label}: {what}' + '; known after the choice' * (it.row == 'late'))
+                name, what = it.label, f'output {it.output} of {it.node} at {it.text.place}{promise}'
+            self.page.add(f'  {name}: {what}' + '; known after the choice' * (it.row == 'late'))
 
     @staticmethod
     def is_free(slot, instant):

@@ -98,7 +98,7 @@ let a1 = c1; a2 = c2; a3 = c3 tel
 '''
 # of each program: its text and node, the inputs of a plant in which what is given, chosen and answered are inputs, under the names that are shown, and the plant
 CHOICES = {
-    'valve': (VALVE, 'valve', ['run', 'c', '`pressure > 80`@3:52'], '''node plant(run, c, high : bool) returns (fine : bool)
+    'valve': (VALVE, 'valve', ['run', 'c', '`pressure > 80`'], '''node plant(run, c, high : bool) returns (fine : bool)
 var relief, alarm : bool;
 let relief = run & c; switch run | true do alarm = high | false do alarm = false end; fine = relief = alarm tel
 '''),
