@@ -178,15 +178,27 @@ impl<'p> Probe<'p> {
         Ok(holds)
     }
 
+    /// Adds a part of the guarantee, where this is the guarantee in which no other part may be false. It says whether the part is false at the instant.
+    fn is_false(
+        &self,
+        names: &Names,
+        part: &Expr,
+        enforce: Option<Expr>,
+        page: &mut Page,
+    ) -> Result<bool, WhyErr> {
+        match self.made(enforce)? {
+            None => Ok(false),
+            Some(made) => Ok(self.add_part(names, part, &made, page)? == Some(false)),
+        }
+    }
+
     /// Adds the parts of the guarantee, and gives those that are false.
     pub fn add_parts(&self, names: &Names, page: &mut Page) -> Result<Vec<&'p Expr>, WhyErr> {
         let parts = parts_of(self.alloc, self.node)?;
         let mut found = Vec::new(self.alloc);
         for i in 0..parts.len() {
             let enforce = only(self.alloc, &parts, i)?;
-            if let Some(made) = self.made(enforce)?
-                && self.add_part(names, parts[i], &made, page)? == Some(false)
-            {
+            if self.is_false(names, parts[i], enforce, page)? {
                 add_part(parts[i], &mut found)?;
             }
         }
