@@ -20,5 +20,5 @@ mod words;
 
 pub use abstracted::Abstraction;
 pub use error::AbsErr;
-pub use hp_circuit::{Given, Shape};
+pub use hp_circuit::{Given, Shape, shape_width};
 pub use machine::{abstract_node, abstraction};

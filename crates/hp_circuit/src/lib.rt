@@ -20,6 +20,7 @@ mod wires;
 mod words;
 
 pub use abstraction::Abstraction;
+pub use bits::shape_width;
 pub use circuit::{Circuit, Role, Shape, Slot, Wire};
 pub use error::CircuitErr;
 pub use given::Given;

@@ -1,3 +1,3 @@
 pub mod CausalLemmas
 pub mod ClockingLemmas
-mod ContractLemmas
+pub mod ContractLemmas

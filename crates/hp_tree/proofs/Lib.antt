@@ -1,5 +1,6 @@
 pub mod Lists
 pub mod KindSizes
 pub mod BlockLists
+pub mod CountLaws
 pub mod Rules
 pub mod Worked

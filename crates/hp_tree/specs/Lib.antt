@@ -4,6 +4,7 @@ pub mod Programs
 pub mod Instant
 pub mod Meaning
 pub mod Sizes
+pub mod Counting
 pub mod ExpressionCode
 pub mod ExpressionView
 pub mod ExpressionFalls
