@@ -55,6 +55,9 @@ class Play:
             elif place == ENDS:
                 self.add_between(place, count - ENDS)
         self.add_violated()
+        if re.search(r'\w#\d', self.page.text()):
+            self.page.add()
+            self.page.add('(A name with # and a number is that of a variable of an inlined call.)')
         return self.page.text()
 
     # --- what is free

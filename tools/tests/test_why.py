@@ -103,7 +103,7 @@ var relief, alarm : bool;
 let relief = run & c; switch run | true do alarm = high | false do alarm = false end; fine = relief = alarm tel
 '''),
     'tank': (TANK, 'tank', ['need', 'c', 'flow'], '''node plant(need, c, flow : bool) returns (fine : bool)
-var go, last was : bool = false; dry, kept : bool;
+var go, dry, kept : bool; last was : bool = false;
 let go = need & c; was = flow; dry = need & not go; kept = flow = go; fine = not dry & not (go & last was) or not kept tel
 '''),
     'three': (THREE, 'three', ['f1', 'f2', 'f3', 'c1', 'c2', 'c3'], THREE.replace('node three(f1, f2, f3 : bool) returns (a1, a2, a3 : bool)', 'node plant(f1, f2, f3, c1, c2, c3 : bool) returns (fine : bool)\nvar a1, a2, a3 : bool;')
