@@ -43,6 +43,11 @@ contract enforce y
 var last z : bool = true;
 let y = last z; z = x tel
 '''
+HEATED = '''type mode = Full | Half | Off
+node heated(ask : mode; hot : bool) returns (m : mode)
+contract enforce not (hot & m = Full)
+let m = ask tel
+'''
 
 
 def chain(count):
@@ -239,6 +244,16 @@ class Why(unittest.TestCase):
                 said = self.why(text, node).stdout.decode()
                 self.assertIn(hint, ' '.join(said.split('what may help')[1].split()), said)
                 self.assertEqual(hept('check', self.write('changed.ept', changed)).returncode, 0)
+
+    def test_an_assumption_that_is_told_is_enough(self):
+        for text, node in ((PLAYS['alarm'][0], 'alarms'), (HEATED, 'heated'), (THREE, 'three'), (HEATED.replace('enforce', 'assume ask <> Off enforce'), 'heated')):
+            with self.subTest(text):
+                said = ' '.join(self.why(text, node).stdout.decode().split())
+                told = re.search('It would be enough that the surroundings keep `assume (.*?)`. Tried: then the contract is kept.', said)
+                self.assertIsNotNone(told, said)
+                changed = text.replace('assume ', f'assume {told[1]} & ') if 'assume' in text else text.replace('enforce', f'assume {told[1]} enforce')
+                self.assertEqual(hept('check', self.write('changed.ept', changed)).stderr, b'')
+                self.assertNotEqual(hept('check', self.write('text.ept', text)).stderr, b'')
 
     def test_other_hints(self):
         for text, node, hint in (
