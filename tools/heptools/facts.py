@@ -1,5 +1,6 @@
 """What the program hp_why finds of a contract, as it writes it: lines of words between tabs; and what a certificate says."""
 import dataclasses
+import itertools
 
 GATES = ('const', 'var', 'not', 'and', 'or', 'xor', 'ite')
 ROWS = ('register', 'early', 'control', 'late')
@@ -32,6 +33,8 @@ class Slot:
     output: str = ''
     has_contract: bool = False
     assumes: Text = None
+    # of what was at the instant before: whether there was such an instant
+    past: object = None
     # of the state of an automaton: each transition with its kind, the state in which it stands, and the one to which it leads
     moves: list = dataclasses.field(default_factory=list)
 
@@ -51,6 +54,10 @@ class Slot:
     def number(self, bits):
         """The number of the value, where the variables of the machine have these values."""
         return int(''.join('1' if bits[it] else '0' for it in self.variables) or '0', 2)
+
+    def is_none_yet(self, bits):
+        """Whether there was nothing before."""
+        return self.past is not None and not self.past.number(bits)
 
     def value(self, bits):
         number = self.number(bits)
@@ -100,7 +107,10 @@ class Facts:
         self.shorten()
 
     def shorten(self):
-        """A comparison whose words stand once is told without its place."""
+        """A comparison whose words stand once is told without its place. What was before is told with whether there was something before."""
+        for it, behind in itertools.pairwise(self.slots):
+            if (it.kind, behind.kind) == ('previous', 'past') and it.text.place == behind.text.place:
+                it.past = behind
         found = [it for it in self.slots if it.kind == 'comparison']
         for it in found:
             if sum(it.quoted == other.quoted for other in found) == 1:

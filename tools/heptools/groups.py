@@ -212,6 +212,8 @@ def valued(slot, bits):
     """A slot with its value."""
     if slot.kind == 'afresh':
         return slot.label if slot.number(bits) else 'not ' + slot.label
+    if slot.is_none_yet(bits):
+        return f'{slot.label}: none yet'
     between = {'state': ' in ', 'comparison': ' taken as ', 'output': ' taken as '}.get(slot.kind, ' = ')
     return slot.label + between + slot.value(bits)
 

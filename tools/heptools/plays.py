@@ -110,6 +110,8 @@ class Play:
     def is_told(self, slot, instant):
         if slot.kind == 'past' or not slot.width:
             return False
+        if instant is self.facts.instants[0] and (slot.is_none_yet(instant.values) or slot.kind == 'previous'):
+            return False
         if self.everything:
             return slot.kind != 'afresh' or slot.number(instant.values) != 0
         return not instant.may_differ(slot) and (slot.kind != 'afresh' or slot.number(instant.values) != 0)
@@ -202,7 +204,8 @@ class Play:
             self.page.entry('' if at else 'because', f'{it.name} = {it.value}{equation}')
         kept = ['the assumption holds'] if self.facts.assume else []
         nodes = dict.fromkeys(it.node for it in self.facts.slots if it.has_contract)
-        kept += [f'the guarantee of {it} holds' for it in nodes]
+        # (a node whose assumption is false owes nothing)
+        kept += [f'the guarantee of {it} holds' for it in nodes if found]
         if kept:
             self.page.entry('while', *kept)
 
