@@ -107,10 +107,12 @@ class Facts:
         self.shorten()
 
     def shorten(self):
-        """A comparison whose words stand once is told without its place. What was before is told with whether there was something before."""
+        """What is told of slots together: whether there was something before, of which automaton it is, and a comparison whose words stand once without its place."""
         for it, behind in itertools.pairwise(self.slots):
             if (it.kind, behind.kind) == ('previous', 'past') and it.text.place == behind.text.place:
                 it.past = behind
+            if (it.kind, behind.kind) == ('state', 'afresh'):
+                behind.text.words = f'{it.label} to be entered afresh'
         found = [it for it in self.slots if it.kind == 'comparison']
         for it in found:
             if sum(it.quoted == other.quoted for other in found) == 1:

@@ -225,8 +225,8 @@ def assumptions(facts):
 
 
 def game_at(facts, certificate, place):
-    """The game at an instant; none where nothing is to choose, where too much is open, or where nothing is known of what comes."""
+    """The game at an instant; none where nothing is open, where too much is, or where nothing is known of what comes."""
     opened = sum(it.width for it in facts.row('control') + facts.row('late'))
-    if not any(it.width for it in facts.row('control')) or opened > MOST_OPEN or certificate is None:
+    if not 0 < opened <= MOST_OPEN or certificate is None:
         return None
     return Game(facts, certificate, place)

@@ -148,7 +148,7 @@ class Play:
             self.add_groups(place, found, chosen)
         else:
             self.page.entry('choice', f'{chosen} (no other choice helps)')
-        late = [valued(it, instant.values) for it in self.facts.row('late') if it.width]
+        late = [valued(it, instant.values) for it in self.late_at(place) if it.width]
         if late and not (is_whole and controls):
             self.page.entry('then', *late)
 
