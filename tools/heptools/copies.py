@@ -14,7 +14,7 @@ MOST_TRIES = 6
 class Copy:
     """A node of a program, of which copies can be changed."""
 
-    def __init__(self, source, node, seconds=1.0):
+    def __init__(self, source, node, seconds=5.0):
         self.source, self.node = source, node
         self.words = source.heading(node)
         behind = next((at for word, at in self.words[1:] if word in (b'node', b'type')), len(source.text))
