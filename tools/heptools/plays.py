@@ -171,10 +171,10 @@ class Play:
         self.page.entry('', f'(* is shown below: {chosen})')
 
     def add_moves(self, instant, following):
-        for slot in self.facts.row('register'):
+        states = [it for it in self.facts.row('register') if it.kind == 'state' and it.value(instant.values) != it.value(following.values)]
+        for at, slot in enumerate(states):
             source, target = slot.value(instant.values), slot.value(following.values)
-            if slot.kind == 'state' and source != target:
-                self.page.entry('moves', f'{slot.label} from {source} to {target}{by(slot.moves, source, target)}')
+            self.page.entry('' if at else 'moves', f'{slot.label} from {source} to {target}{by(slot.moves, source, target)}')
 
     def add_between(self, start, end):
         """What is given at the instants between two, by runs of the same."""
