@@ -95,9 +95,9 @@ class Hints:
                     return
 
     def is_in(self, inner, outer):
-        """Whether an expression of the node stands in another one."""
-        (start, end), (first, last) = self.copy.span(inner), self.copy.span(outer)
-        return first <= start and end <= last
+        """Whether an expression stands in another one of the node."""
+        (start, end), (first, last) = self.copy.span(inner) or (0, 0), self.copy.span(outer) or (0, 0)
+        return first <= start < end <= last
 
     def callees(self):
         """Nodes that promise nothing."""
