@@ -33,5 +33,6 @@ pub mod JoinedLaws
 pub mod SegmentWords
 pub mod RunnableLaws
 pub mod SegmentCalls
+pub mod ResumedLaws
 pub mod CheckpointExamples
 pub mod ClaimLaws

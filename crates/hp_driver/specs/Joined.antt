@@ -1,14 +1,20 @@
 -- That a run which is stopped and resumed says what one run says.
-use Rattle.std.specs.Prelude.{◌≡◌, ◌≤◌, ◌+◌, ℕ, List, ◌++◌, length, None, Option}
+use Rattle.std.specs.Prelude.{◌≡◌, ◌≤◌, ◌+◌, ℕ, true, false, List, [], ◌++◌, length, None, Some, Option}
+use Rattle.std.specs.FinMap as map
 use Rattle.hp_base.specs.Kinds.{KindData}
 use Rattle.hp_io.specs.Files.{Files}
+use Rattle.hp_io.specs.declared.console.Event.{Event}
 use Rattle.hp_obc.specs.Machines.{Obc}
 use Rattle.hp_obc.specs.Steps.{Memory, machine_behaviour}
 use Rattle.hp_obctext.specs.declared.memory.error.MemErr.{MemErr}
+use Rattle.hp_tree.specs.declared.program.Item.{Item}
 use Rattle.hp_driver.specs.Answers.{IsAnswer}
 use Rattle.hp_driver.specs.Checkpoints.{IsCheckpointOf, IsTaken, RefusesCheckpoint, memory_behind}
-use Rattle.hp_driver.specs.Outcome.{IsMachine}
-use Rattle.hp_driver.specs.Segments.{AreRun, IsRunnable}
+use Rattle.hp_driver.specs.Controls.{has_controls}
+use Rattle.hp_driver.specs.Lines.{lines_of}
+use Rattle.hp_driver.specs.Log.{heard, said}
+use Rattle.hp_driver.specs.Outcome.{IsHeld, IsMachine}
+use Rattle.hp_driver.specs.Segments.{AreRun, IsRunnable, SegmentRun}
 use Rattle.hp_driver.specs.Systems.{System, of_machine, from_memory, inputs_of}
 use Rattle.hp_driver.specs.Values.{first_bad, inputs_until}
 
@@ -48,3 +54,29 @@ TakenLaw = (files : Option Files) (file node : List ℕ) (o : Obc) (text : List 
 abbrev pub OneMemoryLaw : Type 0
 OneMemoryLaw =
     (files : Option Files) (file node : List ℕ) (o : Obc) (text : List ℕ) (memory other : Memory) → IsRunnable files file node o → IsCheckpointOf o node memory text → IsCheckpointOf o node other text → memory ≡ other
+
+-- ---- two calls
+
+-- A run of a node was stopped and resumed: `save` and `resume` both ended with status 0. Both found the same source text, and `resume` found, under the name that it was asked for, what `save` had left there.
+pub record IsResumed (file node mem out : List ℕ) (first second : List Event) : Type 0 where
+  pub before : Files
+  pub left : Option Files
+  pub saved : SegmentRun (Some before) left file node None mem first [] 0
+  pub found : Files
+  pub after : Option Files
+  pub resumed : SegmentRun (Some found) after file node (Some mem) out second [] 0
+  pub source : map.get found file ≡ map.get before file
+  pub checkpoint : (held : Files) → left ≡ Some held → map.get found mem ≡ map.get held mem
+
+-- What was said in two parts to some lines is what `run` says to all of them, one after the other: it is the answer of what `run` runs for the node.
+pub record IsOneRun (before : Files) (file node : List ℕ) (lines : List (List ℕ)) (bytes : List ℕ) : Type 0 where
+  pub o : Obc
+  pub system : System
+  pub are : AreRun (Some before) file node o system
+  pub said : IsAnswer system lines bytes
+
+-- So it is where all lines together are few enough for one trace, of a program without controllable variables: its machines are the same in both calls.
+abbrev pub ResumedLaw : Type 0
+ResumedLaw =
+    (file node mem out : List ℕ) (first second : List Event) (r : IsResumed file node mem out first second) → ((program : List Item) → IsHeld (Some r.before) file program → has_controls program ≡ false) →
+    length (lines_of true (heard first)) + length (lines_of true (heard second)) ≤ 1000000000 → IsOneRun r.before file node (lines_of true (heard first) ++ lines_of true (heard second)) (said first ++ said second)

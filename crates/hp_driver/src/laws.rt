@@ -1,9 +1,11 @@
 //! Laws on calls. The functions here do nothing: each is a law, which its contract states.
 ghost use Rattle.hp_driver.specs.GoodCalls.{PlainLaw, ProvedLaw};
-ghost use Rattle.hp_driver.specs.Joined.{JoinedLaw, JoinedRunLaw, OneMemoryLaw, TakenLaw};
+ghost use Rattle.hp_driver.specs.Joined.{JoinedLaw, JoinedRunLaw, OneMemoryLaw, ResumedLaw, TakenLaw};
 ghost use Rattle.hp_driver.specs.Written.{WrittenLaw};
 
 use hp_controlled::{machines_do_the_same_among_others, own_machines_do_the_same};
+use hp_machines::programs_have_one_list_of_machines;
+use hp_meaning::clocking::one_shortest_assignment;
 use law_decided::machines_keep_contracts;
 use law_history::streams::{machines_of_texts_are_built, machines_run_the_nodes_of_texts};
 use law_wellmade::lettered::names_are_spelled;
@@ -31,13 +33,16 @@ pub fn written_certificates_are_good()
     names_are_spelled();
 }
 
-/// A run that is stopped and resumed is one run. What is said to some lines, and from the memory behind them to more lines, is what is said to all of them, where none has a fault and they are few enough for one trace; and the memory behind them is the same.
+/// A run that is stopped and resumed is one run. What is said to some lines, and from the memory behind them to more lines, is what is said to all of them, where none has a fault and they are few enough for one trace; and the memory behind them is the same. So it is of a call of `save` and one of `resume` over one text without controllable variables.
 pub fn stopped_runs_are_joined()
     ensures lines { JoinedLaw }
     ensures runs { JoinedRunLaw }
+    ensures resumed { ResumedLaw }
 {
     machines_run_the_nodes_of_texts();
     machines_keep_contracts();
+    one_shortest_assignment();
+    programs_have_one_list_of_machines();
 }
 
 /// A machine that is run takes the checkpoint of each of its memories, and no text is the checkpoint of two.

@@ -119,9 +119,11 @@ pub fn run_in_memory(
     let mut console = MemConsole::new(input, Vec::new(alloc), Vec::new(alloc));
     let mut diag = MemSink::new(Vec::new(alloc));
     let status = run_tool(alloc, words, files, &mut console, &mut diag);
+    // A read or a take failed.
     if status == 4 {
         return Answer::nothing(alloc, why_unread(alloc, words, files));
     }
+    // A put failed: nothing fails here but for want of memory.
     if status == 5 {
         return Answer::nothing(alloc, Status::NoMemory);
     }

@@ -2,3 +2,5 @@ mod MakingLaws
 mod Rules
 mod HeadingLaws
 mod NotBuiltLaws
+mod OneLaws
+mod ApartLaws

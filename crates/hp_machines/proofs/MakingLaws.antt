@@ -1,12 +1,17 @@
 -- Machines that are made one by one.
 use Rattle.std.proofs.Common.{◌≡◌, List, [], ◌∷◌, ◌++◌, length, map, refl, sym, ap, subst, ◌∙◌}
 use Rattle.std.proofs.lemmas.List.{append_assoc, append-nil}
+use Rattle.std.specs.List.{AllByRecursion}
 use Rattle.std.specs.List.Sorted.{IsPermutation}
+use Rattle.hp_flat.specs.Equations.{FlatEqn}
 use Rattle.hp_flat.specs.Nodes.{FlatNode}
 use Rattle.hp_normal.specs.Normal.{normal}
 use Rattle.hp_normal.specs.Retargeting.{with_eqns}
 use Rattle.hp_obc.specs.Machines.{ObcType, Machine}
 use Rattle.hp_schedule.specs.Order.{IsInOrder}
+use Rattle.hp_order.specs.ByClock.{IsByClock}
+use Rattle.law_equations.specs.Made.Laws.{unplaced}
+use Rattle.law_equations.specs.Meaning.Scheduling.{reads, AreBelow, IsRanked}
 use Rattle.hp_toobc.specs.Making.{machine_of}
 use Rattle.hp_fuse.specs.Fusing.{fused_machine}
 use Rattle.hp_machines.specs.Flattened.{heading_of_flat}
@@ -38,13 +43,16 @@ pub with-others : (n k : FlatNode) → k.name ≡ n.name → k.variables ≡ n.v
 with-others n k name variables inputs outputs = λ i. record { name = name i; variables = variables i; inputs = inputs i; outputs = outputs i; eqns = k.eqns }
 
 pub made-one : (types : List ObcType) (n scheduled plain : FlatNode) (raw m : Machine) → scheduled.name ≡ n.name → scheduled.variables ≡ n.variables → scheduled.inputs ≡ n.inputs → scheduled.outputs ≡ n.outputs →
-    IsPermutation n.eqns scheduled.eqns → IsInOrder scheduled.eqns → plain ≡ normal scheduled → raw ≡ machine_of types plain → m ≡ fused_machine raw → IsArrangedAs types n m
-made-one types n scheduled plain raw m name variables inputs outputs same order p r f =
+    IsPermutation (map unplaced n.eqns) (map unplaced scheduled.eqns) → IsInOrder scheduled.eqns →
+    (IsRanked n.eqns → AllByRecursion (λ (e : FlatEqn). AreBelow (length n.variables) (reads e)) n.eqns → IsByClock (length n.variables) n.eqns scheduled.eqns) →
+    plain ≡ normal scheduled → raw ≡ machine_of types plain → m ≡ fused_machine raw → IsArrangedAs types n m
+made-one types n scheduled plain raw m name variables inputs outputs same order by_clock p r f =
     let arranged = with-others n scheduled name variables inputs outputs in
     record {
       scheduled = scheduled.eqns;
       same = same;
       order = order;
+      by_clock = by_clock;
       made = f ∙ ap fused_machine (r ∙ ap (machine_of types) (p ∙ ap normal arranged));
     }
 

@@ -2,3 +2,5 @@ pub mod Making
 pub mod Machined
 pub mod Flattened
 pub mod NotBuilt
+pub mod One
+pub mod Apart

@@ -1,22 +1,26 @@
 -- How the machine of clocked equations is made.
-use Rattle.std.specs.Prelude.{◌≡◌, ⊤, Bool, true, false, List, [], ◌∷◌}
-use Rattle.std.specs.List.{filter}
+use Rattle.std.specs.Prelude.{◌≡◌, ⊤, Bool, true, false, List, [], ◌∷◌, length, map}
+use Rattle.std.specs.List.{AllByRecursion, filter}
 use Rattle.std.specs.List.Sorted.{IsPermutation}
 use Rattle.hp_flat.specs.Equations.{FlatEqn}
 use Rattle.hp_flat.specs.Nodes.{FlatNode}
 use Rattle.hp_obc.specs.Machines.{ObcType, Machine}
 use Rattle.hp_schedule.specs.Order.{IsInOrder}
+use Rattle.law_equations.specs.Made.Laws.{unplaced}
+use Rattle.law_equations.specs.Meaning.Scheduling.{reads, AreBelow, IsRanked}
+use Rattle.hp_order.specs.ByClock.{IsByClock}
 use Rattle.hp_normal.specs.Retargeting.{with_eqns}
 use Rattle.hp_normal.specs.Normal.{normal}
 use Rattle.hp_toobc.specs.Making.{machine_of}
 use Rattle.hp_fuse.specs.Fusing.{fused_machine}
 use Rattle.hp_form.specs.Regular.Regular.{IsRegular}
 
--- The equations of a node stand in the order of their places, needless copies are taken away, each equation becomes commands, and neighbouring cases are joined.
+-- The equations of a node stand in the order by clock, needless copies are taken away, each equation becomes commands, and neighbouring cases are joined.
 pub record IsArrangedAs (types : List ObcType) (n : FlatNode) (m : Machine) : Type 0 where
   pub scheduled : List FlatEqn
-  pub same : IsPermutation n.eqns scheduled
+  pub same : IsPermutation (map unplaced n.eqns) (map unplaced scheduled)
   pub order : IsInOrder scheduled
+  pub by_clock : IsRanked n.eqns → AllByRecursion (λ (e : FlatEqn). AreBelow (length n.variables) (reads e)) n.eqns → IsByClock (length n.variables) n.eqns scheduled
   pub made : m ≡ fused_machine (machine_of types (normal (with_eqns n scheduled)))
 
 -- an equation defines a variable; one that does not, as `() = f(x)`, gives no value

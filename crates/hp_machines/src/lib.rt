@@ -6,6 +6,7 @@ ghost use Rattle.hp_machines.specs.Machined.{AreMachinesOf};
 ghost use Rattle.hp_machines.specs.NotBuilt.{HasNoMachines, SaysNotBuilt};
 
 mod error;
+mod laws;
 mod node;
 mod types;
 
@@ -15,6 +16,7 @@ use hp_complete::flatten;
 use hp_form::formed;
 use hp_obc::Obc;
 use hp_tree::Program;
+pub use laws::{no_neighbours_are_left_to_be_joined, programs_have_one_list_of_machines};
 use node::machines_of;
 pub use node::regular_machine_of;
 use std::alloc::Global;

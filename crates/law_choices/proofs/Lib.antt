@@ -18,5 +18,7 @@ mod PartLemmas
 mod AddingLemmas
 mod CodedLemmas
 mod InTurnLemmas
+mod InstancesLemmas
 mod ObservedLemmas
 pub mod PlayingLemmas
+mod SeeingLemmas

@@ -18,5 +18,7 @@ pub mod Part
 pub mod Adding
 pub mod Coded
 pub mod InTurn
+pub mod Instances
 pub mod Observed
 pub mod Playing
+pub mod Seeing

@@ -1,5 +1,7 @@
 pub mod AddedLaws
 pub mod AllowedLaws
+pub mod DepthLaws
+pub mod DutyLaws
 pub mod GreatestLaws
 pub mod KeepingLaws
 pub mod MachineLaws

@@ -16,7 +16,7 @@ use Rattle.law_equations.specs.Followed.Programs.{Answered, CallsAmong, CallsOnl
 use Rattle.hp_form.specs.Regular.Regular.{IsRegular, RegularLaw}
 use Rattle.hp_machines.specs.Making.{AreMade, defines_some, giving}
 use Rattle.law_history.proofs.StreamsLemmas.Giving.{kept_all, kept_nodes}
-use Rattle.law_history.proofs.StreamsLemmas.MadeMachines.{are_compiled, are_regular}
+use Rattle.law_history.proofs.StreamsLemmas.MadeMachines.{are_regular, made_run}
 use Rattle.law_equations.specs.Meaning.Kinding.{Callees}
 use Rattle.law_choices.specs.OnClocks.Meaning.{AreInTurn}
 use Rattle.law_choices.specs.Part.Laws as laws
@@ -163,7 +163,7 @@ module _ (l : PartLaws) (regular : RegularLaw) (types : List ObcType) (form : Ty
 pub made_machines : PartLaws → RegularLaw → CompiledLaw → MadeMachinesLaw
 made_machines l regular compiled types ws ns machines answers takes form shaped_ws from made answered =
     let flat = kept_nodes types [] ns (flat_nodes l regular types form [] ws ns from (are_regular types ns machines made) shaped_ws) in
-    let all = compiled types (map giving ns) machines answers takes flat (are_compiled types ns machines made) (answered_kept answers takes ns (all_answered l regular types form answers takes [] ws ns from shaped_ws answered)) in
+    let all = made_run types answers takes compiled ns machines flat made (answered_kept answers takes ns (all_answered l regular types form answers takes [] ws ns from shaped_ws answered)) in
     of_names l regular types form
     (λ x. (inputs : List (List Value)) → AllByRecursion (AreOfKinds (takes x)) inputs → run (machine_behaviour (file_of types machines) x) (reverse inputs) ≡ reverse (all_answers (answers x) inputs)) ws ns from all
 

@@ -31,7 +31,8 @@ use Rattle.law_controlled.specs.Allowed.{AllowedLaw, RunsAllowed}
 use Rattle.law_controlled.specs.Greatest.{IsSteeredRun, SaysGreatest}
 use Rattle.law_controlled.specs.Saying.{SaysAllowed}
 use Rattle.law_controlled.specs.Said.{GreatestSaidLaw, SaidLaw}
-use Rattle.law_controlled.proofs.GreatestLaws.{SteeringLaws, steered}
+use Rattle.law_controlled.proofs.DutyLaws.{SteeringLaws}
+use Rattle.law_controlled.proofs.GreatestLaws.{steered}
 
 -- ---- the node of a name, from either end
 

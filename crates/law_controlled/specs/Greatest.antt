@@ -18,6 +18,7 @@ use Rattle.hp_meaning.specs.Contract.Guarantee.{AllAssumed, AllSupposed, HasCont
 use Rattle.law_wellmade.specs.Timely.Kinds.{kinds_of_decls}
 use Rattle.law_choices.specs.InTurn.AllowedRuns.{IsAllowedRun}
 use Rattle.law_choices.specs.Playing.Greatest.{ChoosesGreatest, KnowsAll}
+use Rattle.law_controlled.specs.AtDepth.{AreGreatestAtDepth}
 
 -- At each instant of a past, the duty of the node holds where its hypothesis holds and held at all instants before: it supposes its assumption, and that each callee keeps its contract; it owes its guarantee, and the assumption of each callee.
 abbrev pub KeepsDuty : Node → Past → Type 0
@@ -33,11 +34,12 @@ pub record IsGreatest (program : List Item) (n : Node) (past : Past) : Type 0 wh
   pub duty : HasContract n → KeepsDuty n past
   pub contract : HasContract n → calls_of n ≡ [] → KeepsContract past
 
--- What is said over inputs, newest first, is a run that the program allows. If nothing is free in the node but its inputs, the values in this run are the greatest permitted ones; so, if it calls nothing, it is the run of chosen values.
+-- What is said over inputs, newest first, is a run that the program allows. If nothing is free in the node but its inputs, the values in this run are the greatest permitted ones; so, if it calls nothing, it is the run of chosen values. Whatever the node is, each instance in the run, at every depth, has the greatest permitted values if it knows all.
 pub record IsSteeredRun (program : List Item) (f : List ℕ) (n : Node) (inputs said : List (List Value)) : Type 0 where
   pub allowed : IsAllowedRun program f inputs said
   pub greatest : KnowsAll program n → IsGreatest program n allowed.past
   pub is_chosen : KnowsAll program n → calls_of n ≡ [] → IsChosenRun program f (reverse inputs) (reverse said)
+  pub at_depth : AreGreatestAtDepth program f allowed.past
 
 -- So it is of what the machine of a node says over inputs of its kinds, newest first.
 abbrev pub SaysGreatest : List Item → Obc → List ℕ → Node → Type 0

@@ -1,4 +1,5 @@
 pub mod Allowed
+pub mod AtDepth
 pub mod Greatest
 pub mod Machines
 pub mod Mirrored

@@ -1,6 +1,6 @@
--- A node with a controllable variable of which nothing is free but the inputs: a heater with three modes, one of which is chosen. It is off where it is hot, and never goes from full to off at once, if a warning comes before it gets hot.
+-- A node with a controllable variable of which nothing is free but the inputs: a heater with three modes, one of which is chosen. It is off where it is hot, and never goes from full to off at once, if a warning comes before it gets hot. A house calls it.
 -- Source: own.
-use Rattle.std.specs.Prelude.{◌≡◌, codes, false, ℕ, List, [], ◌∷◌, None, Some}
+use Rattle.std.specs.Prelude.{◌≡◌, codes, false, ℕ, IsTrue, List, [], ◌∷◌, ◌++◌, None, Some, reverse}
 use Rattle.hp_base.specs.declared.span.Span.{Span}
 use Rattle.hp_base.specs.declared.ty.Const.TheVariants as const
 use Rattle.hp_base.specs.declared.ty.Ty.{Ty}
@@ -10,11 +10,17 @@ use Rattle.hp_tree.specs.declared.expr.Op2.TheVariants.{And, Eq, Imp}
 use Rattle.hp_tree.specs.declared.program.Item.{Item}
 use Rattle.hp_tree.specs.declared.program.Item.TheVariants.{NodeItem, TypeItem}
 use Rattle.hp_tree.specs.Blocks.{Block, Decl, Eqn, block, define, eqns_of}
-use Rattle.hp_tree.specs.Expressions.{Expr, constant, fby, one, two, variable}
+use Rattle.hp_tree.specs.Expressions.{Expr, call, constant, fby, more_exprs, no_expr, one, two, variable}
+use Rattle.hp_tree.specs.Instant.{Body, Equations, Fresh, Head, Instance, Instant, Past, Right}
+use Rattle.hp_tree.specs.Operators.{is_there}
 use Rattle.hp_tree.specs.Programs.{Contract, Node, TypeDecl}
-use Rattle.hp_meaning.specs.Contract.FreePlaces.{calls_of}
+use Rattle.hp_meaning.specs.declared.causal.point.PointKind.TheVariants as kind
+use Rattle.hp_meaning.specs.Causal.Points.{Placed, point_at}
+use Rattle.hp_meaning.specs.Contract.ChosenRuns.{own_past}
+use Rattle.hp_meaning.specs.Contract.FreePlaces.{calls_of, instance_at}
 use Rattle.hp_meaning.specs.Contract.Guarantee.{HasContract}
 use Rattle.law_choices.specs.Playing.Inputs.{HasInputsAlone}
+use Rattle.law_controlled.specs.AtDepth.{InEach, IsGreatestAt, IsGreatestIfKnown, KnowsAllCalled}
 
 abbrev somewhere : Span
 somewhere = record { line = 1; col = 1; end = 2 }
@@ -69,3 +75,29 @@ heating = TypeItem mode ∷ NodeItem heater ∷ []
 -- It has a contract and knows all, and it calls nothing.
 abbrev pub HeaterLaw : Type 0
 HeaterLaw = HasContract heater × HasInputsAlone heating heater × (calls_of heater ≡ [])
+
+-- ---- a house that calls it
+
+abbrev pub house : Node
+house = record {
+  name = codes "house";
+  inputs = heater.inputs;
+  outputs = heater.outputs;
+  contract = None;
+  body = block [] (eqns_of (equals (codes "level") (call somewhere (codes "heater") false (more_exprs (read (codes "warning")) (more_exprs (read (codes "hot")) no_expr))) ∷ []));
+  span = somewhere;
+}
+
+abbrev pub housing : List Item
+housing = TypeItem mode ∷ NodeItem heater ∷ NodeItem house ∷ []
+
+-- its one call
+abbrev pub its_call : Placed
+its_call = point_at kind.Call (codes "heater") somewhere (Body ∷ Equations ∷ Head ∷ Right ∷ [])
+
+-- The heater knows all where it is called. So where each instance that knows all has the greatest permitted values, at every depth of a run of the house, the heater has them and keeps its contract.
+abbrev pub HouseLaw : Type 0
+HouseLaw =
+    KnowsAllCalled housing heater
+    × ((past : Past) (now : Instant) → InEach (IsGreatestIfKnown housing) (reverse housing) house.name past now → IsTrue (is_there (instance_at its_call now (Fresh ∷ [])))
+    → IsGreatestAt housing heater (own_past (its_call.place ++ (Instance ∷ [])) past now) (instance_at its_call now))

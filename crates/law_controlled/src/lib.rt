@@ -11,7 +11,7 @@ ghost use Rattle.law_controlled.specs.Observers.{ObserversSuitLaw};
 ghost use Rattle.law_controlled.specs.Parts.{MadePartLaw};
 ghost use Rattle.law_controlled.specs.Said.{GreatestSaidLaw, SaidLaw};
 ghost use Rattle.law_controlled.specs.Program.{ChoosingNamesLaw, MadeNamesLaw, MadeNodesLaw};
-ghost use Rattle.law_controlled.specs.Worked.{HeaterLaw};
+ghost use Rattle.law_controlled.specs.Worked.{HeaterLaw, HouseLaw};
 
 use hp_form::regular::regular_equations_have_form;
 use hp_meaning::contract::{
@@ -22,6 +22,7 @@ use law_choices::in_turn::{
     nodes_that_choose_stand_in_turn, observers_of_contracts_suit, programs_of_texts_may_choose,
     well_built_observers_suit,
 };
+use law_choices::instances::instances_react_as_callees;
 use law_choices::observed::{
     contracts_of_texts_can_be_observed, observers_can_be_compiled, tests_of_observers_are_typed,
 };
@@ -120,12 +121,13 @@ pub fn machines_of_texts_say_what_is_allowed()
     contracts_of_texts_can_be_observed();
 }
 
-/// And if nothing is free in such a node but its inputs, the controllable variables have the greatest permitted values in that reaction; so it keeps its contract.
+/// And if nothing is free in such a node but its inputs, the controllable variables have the greatest permitted values in that reaction; so it keeps its contract. So it is of each instance in the reaction, at every depth, if none of its inputs is an integer either.
 pub fn machines_of_texts_choose_the_greatest()
     ensures { GreatestSaidLaw }
 {
     machines_say_what_is_allowed();
     nodes_that_know_all_choose_the_greatest();
+    instances_react_as_callees();
     chosen_values_make_one_reaction();
     choice_is_permitted();
     choices_are_values();
@@ -141,4 +143,9 @@ pub fn machines_of_texts_choose_the_greatest()
 /// Of a heater with three modes, one of which is chosen, nothing is free but the inputs.
 pub fn a_worked_heater()
     ensures { HeaterLaw }
+{}
+
+/// The heater has the greatest permitted values in a house that calls it, and keeps its contract there.
+pub fn a_worked_house()
+    ensures { HouseLaw }
 {}

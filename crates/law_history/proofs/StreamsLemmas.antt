@@ -4,6 +4,7 @@ pub mod Asked
 pub mod NamesApart
 pub mod ProgramTypes
 pub mod MadeMachines
+pub mod PlacedShapes
 pub mod Giving
 pub mod NodeRuns
 pub mod Readiness

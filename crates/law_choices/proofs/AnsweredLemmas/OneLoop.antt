@@ -12,7 +12,7 @@ use Rattle.law_choices.specs.Choosing.Meaning.{GivesAnswer}
 use Rattle.law_choices.specs.Answered.Loops.{Loop, IsFollowed, IsItsChoice, LoopLaw}
 
 -- what the plant takes are the inputs with what is chosen behind them
-rows_chosen : (answers : Answers) (takes : List KindData) (controls : ℕ) (l : Loop) (choice : Choice) → IsItsChoice answers takes controls l.closed choice → (rows : List (List Value)) (instants : List Instant) → AllByRecursion (AreOfKinds takes) rows
+pub rows_chosen : (answers : Answers) (takes : List KindData) (controls : ℕ) (l : Loop) (choice : Choice) → IsItsChoice answers takes controls l.closed choice → (rows : List (List Value)) (instants : List Instant) → AllByRecursion (AreOfKinds takes) rows
     → Reaction answers l.closed rows instants → rows_with l.closed.inputs controls rows instants ≡ with_chosen choice rows
 rows_chosen answers takes controls l choice its [] [] h r = refl
 rows_chosen answers takes controls l choice its [] (now ∷ past) h r = absurd r

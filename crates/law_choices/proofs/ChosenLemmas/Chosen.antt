@@ -41,7 +41,7 @@ use Rattle.law_choices.proofs.ChosenLemmas.ServedNodes.{node_served}
 
 -- ---- values that count as the same
 
-bool_same : (v : Value) (b : Bool) → marked v ≡ B b → v ≡ B b
+pub bool_same : (v : Value) (b : Bool) → marked v ≡ B b → v ≡ B b
 bool_same (I n) b e = absurd (cc)
 bool_same Absent b e = e
 bool_same Nil b e = e
@@ -49,7 +49,7 @@ bool_same (B c) b e = e
 bool_same (E t k) b e = e
 bool_same Star b e = e
 
-other_same : (v w : Value) → marked v ≡ w → (w ≡ Star → ⊥) → v ≡ w
+pub other_same : (v w : Value) → marked v ≡ w → (w ≡ Star → ⊥) → v ≡ w
 other_same (I n) w e f = absurd (f (sym e))
 other_same Absent w e f = e
 other_same Nil w e f = e

@@ -88,7 +88,7 @@ not_base k s p None e (inr q) = none_base (subst (λ z. by_step ((Body, k) ∷ [
 not_base k s p (Some c) e (inl q) = none_base (subst (λ z. by_step ((Body, k) ∷ free_in_contract (Some c)) (z ∷ p) ≡ Some []) q e)
 not_base k s p (Some c) e (inr q) = none_base (subst (λ z. by_step ((Body, k) ∷ free_in_contract (Some c)) (z ∷ p) ≡ Some []) q e)
 
-early_given : (program : List Item) (n : Node) (inputs : List Value) (early : Instant) (c : Choice) (p : Place) → IsEarly program n p → given_with inputs early c p ≡ early p
+pub early_given : (program : List Item) (n : Node) (inputs : List Value) (early : Instant) (c : Choice) (p : Place) → IsEarly program n p → given_with inputs early c p ≡ early p
 early_given program n inputs early c (Inputs ∷ p) e = not_base (free_in_block n.body) Inputs p n.contract e.on_base (inl refl)
 early_given program n inputs early c (Controls ∷ p) e = not_base (free_in_block n.body) Controls p n.contract e.on_base (inr refl)
 early_given program n inputs early c p e = refl
@@ -103,7 +103,7 @@ module _ (types : List TypeDecl) (P : Place → Type 0) (root early : Instant) (
   one_fits : (p : Place) (t : Ty) → IsOf types t (root p) → P p → IsAbstractOf types t (early p)
   one_fits p t h e = subst (IsAbstractOf types t) (same p e) (of_is types t (root p) h)
 
-  early_fits : (ss : List Slot) → SlotsFit types ss root → All (λ q. P q.0 → IsAbstractOf types q.1 (early q.0)) (free_among ss)
+  pub early_fits : (ss : List Slot) → SlotsFit types ss root → All (λ q. P q.0 → IsAbstractOf types q.1 (early q.0)) (free_among ss)
   early_fits [] h = All-nil (λ q. P q.0 → IsAbstractOf types q.1 (early q.0))
   early_fits (register p s ∷ ss) h = early_fits ss h
   early_fits (control p t ∷ ss) h = early_fits ss h

@@ -52,7 +52,7 @@ use Rattle.law_wellmade.specs.Regular.Kinds.{kinds_of_decls}
 use Rattle.law_history.specs.Streams.Laws.{HistoryLaw}
 use Rattle.law_history.proofs.StreamsLemmas.Asked.{ready_named, split_first, are_asked}
 use Rattle.law_history.proofs.StreamsLemmas.Giving.{kept_all, kept_nodes}
-use Rattle.law_history.proofs.StreamsLemmas.MadeMachines.{are_compiled, are_regular, have_few}
+use Rattle.law_history.proofs.StreamsLemmas.MadeMachines.{are_regular, have_few, made_run}
 use Rattle.law_history.proofs.StreamsLemmas.NamesApart.{name_found, each_found}
 use Rattle.law_choices.specs.OnClocks.Programs.{StreamLaw}
 use Rattle.law_choices.specs.OnClocks.WellMade.{given_to, callees_of}
@@ -196,7 +196,7 @@ stream_law scoped low_law suited compiled history program after ranks o r ok fal
     let flat = kept_nodes types [] fs (suited (types_of low) types outputs k begins.0 low fs knows its_form asked machines.equations machines.flat (have_few types fs o.machines made) regular) in
     let Runs : List ℕ → Type 0 =
     λ x. (given : List (List Value)) → AllByRecursion (AreOfKinds (takes x)) given → run (machine_behaviour (file_of types o.machines) x) (reverse given) ≡ reverse (all_answers (one.answers x) given) in
-    let all_run = compiled types (map giving fs) o.machines one.answers takes flat (are_compiled types fs o.machines made) (answered_kept one.answers takes fs one.answered) in
+    let all_run = made_run types one.answers takes compiled fs o.machines flat made (answered_kept one.answers takes fs one.answered) in
     let there = lowered_there after f n e in
     let own : Runs f =
     subst Runs (name_found (reverse low) f (lowered_node enums n) there)

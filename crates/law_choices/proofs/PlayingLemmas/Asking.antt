@@ -250,6 +250,9 @@ module _ (laws : NodeLaws) (types : List ObcType) (all : Callees) (observers : O
     pub early_below : AllByRecursion (λ x. x < length asking.variables) made.early
     early_below = below_all made.early bits.early
 
+    pub late_below : AllByRecursion (λ x. x < length asking.variables) made.late
+    late_below = below_all made.late bits.late
+
     cut_bits : (now : Instant) (xs : List ℕ) (bs : Bits) → AllByRecursion (λ x. x < length asking.variables) xs → HaveBits now xs bs → AreBits (cut (length asking.variables) now) xs
     cut_bits now xs bs below h = are-bits (cut (length asking.variables) now) xs bs (cut-all (length asking.variables) now xs below ∙ h)
 

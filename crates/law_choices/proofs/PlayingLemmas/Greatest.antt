@@ -81,7 +81,7 @@ abstract-of types ty.Bool v h = absurd h
 abstract-of types ty.Int v h = absurd h
 abstract-of types (ty.Enum t) v h = absurd h
 
-inputs-fit : (types : List TypeDecl) (ds : List Decl) (vs : List Value) → AreOf types ds vs → InputsFit types ds vs
+pub inputs-fit : (types : List TypeDecl) (ds : List Decl) (vs : List Value) → AreOf types ds vs → InputsFit types ds vs
 inputs-fit types [] [] h = tt
 inputs-fit types [] (v ∷ vs) h = absurd h
 inputs-fit types (d ∷ ds) [] h = absurd h
@@ -101,7 +101,7 @@ one-choice types (ty.Enum t) (E u k) w h some = among (constructors_of types t) 
     among (x ∷ cs) c (suc j, l, e) g = inr (among cs c (j, omega arith, e) g)
 one-choice types (ty.Enum t) v w h k = absurd h
 
-all-choices : (types : List TypeDecl) (ds : List Decl) (vs some : Choice) → AreOf types ds vs → AreChoices types ds some → AreChoices types ds vs
+pub all-choices : (types : List TypeDecl) (ds : List Decl) (vs some : Choice) → AreOf types ds vs → AreChoices types ds some → AreChoices types ds vs
 all-choices types [] [] some h k = tt
 all-choices types [] (v ∷ vs) some h k = absurd h
 all-choices types (d ∷ ds) [] some h k = absurd h

@@ -16,7 +16,8 @@ use Rattle.hp_tree.specs.Reaction.{controls_at, row_of}
 use Rattle.hp_tree.specs.Values.{AreOf}
 use Rattle.hp_meaning.specs.Contract.Forgetting.{erase}
 use Rattle.hp_meaning.specs.Contract.Game.{AreChoices, AtMost, Choice, Permitted, choices_of, first_of}
-use Rattle.hp_meaning.specs.Contract.Guarantee.{Through}
+use Rattle.hp_meaning.specs.Contract.ChosenRuns.{NamesApart}
+use Rattle.hp_meaning.specs.Contract.Guarantee.{Through, Typed}
 use Rattle.law_judged.specs.Named.Scoped.{EachNode}
 use Rattle.law_values.specs.Filled.Firsts.{NodeHasFirsts}
 use Rattle.law_values.proofs.FilledLemmas.Ready.{ready_firsts}
@@ -60,7 +61,10 @@ use Rattle.law_choices.proofs.InTurnLemmas.Programs.{Grounded, TurnLaws, all_old
 use Rattle.law_wellmade.proofs.BegunLemmas.Items.{types_low}
 use Rattle.law_choices.proofs.OnClocksLemmas.Programs.{some_of}
 use Rattle.law_choices.proofs.PlayingLemmas.Greatest.{ChoiceLaws, Known as KnownNode, node-greatest, range-long}
-use Rattle.law_choices.proofs.PlayingLemmas.Holding.{runs-of}
+use Rattle.law_choices.specs.Seeing.Greatest.{SeenGreatestLaw}
+use Rattle.law_choices.specs.Seeing.Held.{IsMadeOf, SeesOwn}
+use Rattle.law_choices.proofs.PlayingLemmas.Holding.{Runs, runs-of}
+use Rattle.law_choices.proofs.SeeingLemmas.Watching.{node-seen}
 use Rattle.law_choices.proofs.RunsLemmas.Chosen.{of_program}
 use Rattle.law_choices.proofs.RunsLemmas.Wholes.{typed-through}
 
@@ -157,6 +161,7 @@ module _ (laws : GreatestLaws) (program after : List Item) (ranks : List (List �
     count : length (controls_in after made.plant.name) ≡ length (controls_of n.contract)
     controller : Answered answers all.takes made.controller
     its : IsItsChoice answers ((callees_of after).takes made.plant.name) (length (controls_in after made.plant.name)) made.own (choices made.plant.name)
+    among : IsMadeOf after ms n made
 
   abbrev Found : Node → Type 0
   Found n = (n.contract ≡ None) ⊎ FoundMade n
@@ -164,21 +169,21 @@ module _ (laws : GreatestLaws) (program after : List Item) (ranks : List (List �
   abbrev GroundedHere : Made → Type 0
   GroundedHere m = Grounded laws.turn types k enums observers all (have_bytes laws.turn program after observers ms h) h.suit h.alone (all_old laws.turn program after observers ms h) HasOwn m
 
-  find : (items earlier : List Item) (made : List Made) → reverse after ≡ reverse items ++ earlier → AreAllMade types observers items made → AreMadeOf k (map (lowered_item enums) items) (loop.plants (loops made)) → AreMirrored types observers after earlier items made
+  find : (items earlier : List Item) (made : List Made) → ((k : Node) (x : Contracted) → IsMadeOf items made k x → IsMadeOf after ms k x) → reverse after ≡ reverse items ++ earlier → AreAllMade types observers items made → AreMadeOf k (map (lowered_item enums) items) (loop.plants (loops made)) → AreMirrored types observers after earlier items made
       → EachNode HasOwn items → AllByRecursion GroundedHere made → AllByRecursion (Answered answers all.takes) (all_nodes made) → AreTheirChoices answers (callees_of after).takes (controls_in after) choices (loops made) → EachNode Found items
-  find [] earlier made e is of mirrored own grounded given their = tt
-  find (TypeItem t ∷ items) earlier made e is of mirrored own grounded given their =
-      find items (TypeItem t ∷ earlier) made (e ∙ ap (λ xs. xs ++ earlier) (reverse-append (TypeItem t ∷ []) items) ∙ append_assoc (reverse items) (TypeItem t ∷ []) earlier) is of mirrored own grounded given their
-  find (NodeItem n ∷ items) earlier [] e is of mirrored own grounded given their = absurd is
-  find (NodeItem n ∷ items) earlier (plain f ∷ made) e is of mirrored own grounded given their = (
+  find [] earlier made one e is of mirrored own grounded given their = tt
+  find (TypeItem t ∷ items) earlier made one e is of mirrored own grounded given their =
+      find items (TypeItem t ∷ earlier) made one (e ∙ ap (λ xs. xs ++ earlier) (reverse-append (TypeItem t ∷ []) items) ∙ append_assoc (reverse items) (TypeItem t ∷ []) earlier) is of mirrored own grounded given their
+  find (NodeItem n ∷ items) earlier [] one e is of mirrored own grounded given their = absurd is
+  find (NodeItem n ∷ items) earlier (plain f ∷ made) one e is of mirrored own grounded given their = (
     inl (none n.contract refl is.0),
-    find items (NodeItem n ∷ earlier) made (e ∙ ap (λ xs. xs ++ earlier) (reverse-append (NodeItem n ∷ []) items) ∙ append_assoc (reverse items) (NodeItem n ∷ []) earlier) is.1 of.1 mirrored own.1 grounded.1 given.1 their.1,
+    find items (NodeItem n ∷ earlier) made (λ k x i. one k x (inr i)) (e ∙ ap (λ xs. xs ++ earlier) (reverse-append (NodeItem n ∷ []) items) ∙ append_assoc (reverse items) (NodeItem n ∷ []) earlier) is.1 of.1 mirrored own.1 grounded.1 given.1 their.1,
   )
     where
       none : (o : Option Contract) → n.contract ≡ o → IsMade types observers n o (plain f) → n.contract ≡ None
       none None q i = q
       none (Some c) q i = absurd i
-  find (NodeItem n ∷ items) earlier (contracted c ∷ made) e is of mirrored own grounded given their =
+  find (NodeItem n ∷ items) earlier (contracted c ∷ made) one e is of mirrored own grounded given their =
       let behind = e ∙ ap (λ xs. xs ++ earlier) (reverse-append (NodeItem n ∷ []) items) ∙ append_assoc (reverse items) (NodeItem n ∷ []) earlier in
       let it = grounded.0 in
       let named : (it.0).name ≡ n.name = sym (it.1).named ∙ (of.0).name in
@@ -193,8 +198,9 @@ module _ (laws : GreatestLaws) (program after : List Item) (ranks : List (List �
           count = subst (λ (z : Node). length (controls_in after c.plant.name) ≡ length (controls_of z.contract)) same it.4;
           controller = given.0;
           its = their.0;
+          among = one n c (inl (refl, refl));
         }),
-        find items (NodeItem n ∷ earlier) made behind is.1 of.1 mirrored.1 own.1 grounded.1 given.1.1.1 their.1,
+        find items (NodeItem n ∷ earlier) made (λ k x i. one k x (inr i)) behind is.1 of.1 mirrored.1 own.1 grounded.1 given.1.1.1 their.1,
       )
 
   -- ---- a node
@@ -274,13 +280,15 @@ module _ (laws : GreatestLaws) (program after : List Item) (ranks : List (List �
     gives : GivesAnswers answers all.takes c.controller
     gives args earlier a b = let y = found.controller args earlier a b in record { now = y.now; past = y.past; reaction = y.reaction; answer = y.answer }
 
-    greatest-of : HasInputsAlone after n → (rows : List (List Value)) (past : Past) → AllByRecursion (AreOfKinds (timely.kinds_of_decls decls n.inputs)) rows → ChosenReaction choices after n.name rows past → Through (ChoosesGreatest after n) past
-    greatest-of alone rows past kinds reaction =
-        let apart = ready_apart program after h.ready in
+    apart-here : NamesApart (reverse after)
+    apart-here = ready_apart program after h.ready
+
+    known-here : KnownNode types all observers after found.earlier n c g
+    known-here =
         let settled = ready_settled program after ranks order found.earlier n found.stands in
         let s = settled.1 in
         let liked = laws.preferred program after ranks order found.earlier n found.stands (mirror.is).machine mirror.mirrors in
-        let known : KnownNode types all observers after found.earlier n c g = record {
+        record {
           mirrors = mirror.mirrors;
           flags = mirror.flags;
           widths = mirror.widths;
@@ -290,13 +298,28 @@ module _ (laws : GreatestLaws) (program after : List Item) (ranks : List (List �
           many = liked.1;
           some = s.some_choice;
           differ = differ;
-          apart = apart;
+          apart = apart-here;
           quiet = ready_contracts program after h.ready order.conditions;
-        } in
+        }
+
+    typed-here : (rows : List (List Value)) (past : Past) → AllByRecursion (AreOf decls n.inputs) rows → Runs choices decls found.earlier n rows past → Through (λ older now. Typed after n now) past
+    typed-here =
+        let settled = ready_settled program after ranks order found.earlier n found.stands in
+        let s = settled.1 in
         let others = drop-front (ChoosesValues decls choices) (found.stands).0 (NodeItem n ∷ found.earlier) (subst (EachNode (ChoosesValues decls choices)) (found.stands).1 values) in
-        node-greatest laws.choice program after ranks order found.earlier n found.stands alone types all observers c g known choices own-values answers gives its-choice
-        (typed-through choices after found.earlier n found.stands apart settled.0 s.accepted s.ranked s.ranked_earlier own-values others.1)
-        (allowed.one).typed rows past kinds (runs-of choices after found.earlier n found.stands apart rows _ past reaction)
+        typed-through choices after found.earlier n found.stands apart-here settled.0 s.accepted s.ranked s.ranked_earlier own-values others.1
+
+    greatest-of : HasInputsAlone after n → (rows : List (List Value)) (past : Past) → AllByRecursion (AreOfKinds (timely.kinds_of_decls decls n.inputs)) rows → ChosenReaction choices after n.name rows past → Through (ChoosesGreatest after n) past
+    greatest-of alone rows past kinds reaction =
+        node-greatest laws.choice program after ranks order found.earlier n found.stands alone types all observers c g known-here choices own-values answers gives its-choice typed-here
+        (allowed.one).typed rows past kinds (runs-of choices after found.earlier n found.stands apart-here rows _ past reaction)
+
+    -- so it is where the equations hold values of the reaction
+    seen-of : (rows : List (List Value)) (past : Past) → AllByRecursion (AreOfKinds (timely.kinds_of_decls decls n.inputs)) rows → ChosenReaction choices after n.name rows past → SeesOwn types observers after ms n answers rows past
+        → Through (ChoosesGreatest after n) past
+    seen-of rows past kinds reaction sees =
+        node-seen laws.choice program after ranks order found.earlier n found.stands types all observers c g known-here choices own-values answers gives its-choice typed-here
+        (allowed.one).typed rows past kinds (runs-of choices after found.earlier n found.stands apart-here rows _ past reaction) (sees found.earlier c mirror found.among)
 
 pub greatest_law : GreatestLaws → GreatestLaw
 greatest_law laws program after ranks observers ms order h mirrored allowed f n inputs past e knows kinds reaction =
@@ -306,7 +329,7 @@ greatest_law laws program after ranks observers ms order h mirrored allowed f n 
     let P = Found laws program after ranks observers ms order h allowed in
     let stand = all_stand laws.turn program after observers ms h in
     let found =
-    find laws program after ranks observers ms order h allowed after [] ms (sym (append-nil (reverse after))) h.made h.equations mirrored (all_own after (ready_apart program after h.ready)) stand.2 (allowed.one).answered (allowed.allowed).theirs in
+    find laws program after ranks observers ms order h allowed after [] ms (λ k x i. i) (sym (append-nil (reverse after))) h.made h.equations mirrored (all_own after (ready_apart program after h.ready)) stand.2 (allowed.one).answered (allowed.allowed).theirs in
     by knows own (each_found P (reverse after) f n (each_reverse P after found) e) (subst (λ x. ChosenReaction choices after x inputs past) (sym named) reaction)
   where
     by : KnowsAll after n → node_among (reverse after) n.name ≡ Some n → Found laws program after ranks observers ms order h allowed n → ChosenReaction (allowed.allowed).choices after n.name inputs past → Through (ChoosesGreatest after n) past
@@ -325,3 +348,17 @@ greatest_run_law laws program after ranks observers ms order h mirrored allowed 
       greatest = greatest_law laws program after ranks observers ms order h mirrored allowed f n inputs before.past e knows kinds before.is_one;
       outputs = it.outputs;
     }
+
+pub seen_greatest_law : GreatestLaws → SeenGreatestLaw
+seen_greatest_law laws program after ranks observers ms order h mirrored allowed f n inputs past e kinds reaction sees =
+    let named = name_found (reverse after) f n e in
+    let choices = (allowed.allowed).choices in
+    let P = Found laws program after ranks observers ms order h allowed in
+    let stand = all_stand laws.turn program after observers ms h in
+    let found =
+    find laws program after ranks observers ms order h allowed after [] ms (λ k x i. i) (sym (append-nil (reverse after))) h.made h.equations mirrored (all_own after (ready_apart program after h.ready)) stand.2 (allowed.one).answered (allowed.allowed).theirs in
+    by (ap (node_among (reverse after)) named ∙ e) (each_found P (reverse after) f n (each_reverse P after found) e) (subst (λ x. ChosenReaction choices after x inputs past) (sym named) reaction)
+  where
+    by : node_among (reverse after) n.name ≡ Some n → Found laws program after ranks observers ms order h allowed n → ChosenReaction (allowed.allowed).choices after n.name inputs past → Through (ChoosesGreatest after n) past
+    by own (inl none) r = nothing-through after n past (ap (λ (o : Option Contract). controls_of o) none)
+    by own (inr found) r = seen-of laws program after ranks observers ms order h allowed n own found inputs past kinds r sees

@@ -115,7 +115,7 @@ module _ (choices : Choices) (after earlier : List Item) (n : Node) (stands : St
   abbrev Is : Instant → Type 0
   Is i = Here choices types class n earlier i
 
-  all-fit : (rows : List (List Value)) (past : Past) → AllByRecursion (AreOf types n.inputs) rows → Runs choices types earlier n rows past → Each Is past
+  pub all-fit : (rows : List (List Value)) (past : Past) → AllByRecursion (AreOf types n.inputs) rows → Runs choices types earlier n rows past → Each Is past
   all-fit [] [] v h = tt
   all-fit [] (now ∷ past) v h = absurd h
   all-fit (row ∷ rows) [] v h = absurd h

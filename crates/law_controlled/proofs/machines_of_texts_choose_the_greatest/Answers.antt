@@ -15,5 +15,6 @@ returns c =
       contracts = c.contracts_call_nothing.ensures.ready;
       settled = c.ready_nodes_are_settled.ensures.settled;
       stands = order.stands;
+      instances = c.instances_react_as_callees.ensures;
     })
     c.machines_say_what_is_allowed.ensures c.programs_of_texts_may_choose.ensures.sign order.order c.contracts_of_texts_can_be_observed.ensures

@@ -99,9 +99,11 @@ module _ (join : ℕ → ℕ → ℕ) (of : Size → ℕ) (measures : Measures j
       let made : m.insts ≡ insts 0 (normal before).eqns = ap (λ (x : Machine). x.insts) a.made in
       let flat : in_instances join known m.insts ≡ in_flat join known (normal before).eqns = ap (in_instances join known) made ∙ instances_flat join measures.joins known 0 (normal before).eqns in
       let fewer : in_flat join known (normal before).eqns ≤ in_flat join known a.scheduled = normal_counts join measures.joins known before in
-      let order : in_flat join known a.scheduled ≤ in_flat join known (giving n).eqns = moves known (giving n).eqns a.scheduled a.same in
+      let order : in_flat join known (map unplaced a.scheduled) ≤ in_flat join known (map unplaced (giving n).eqns) = moves known (map unplaced (giving n).eqns) (map unplaced a.scheduled) a.same in
+      let plain : in_flat join known (map unplaced a.scheduled) ≡ in_flat join known a.scheduled = mapped join measures.joins known unplaced (λ e. refl) a.scheduled in
+      let plainly : in_flat join known (map unplaced (giving n).eqns) ≡ in_flat join known (giving n).eqns = mapped join measures.joins known unplaced (λ e. refl) (giving n).eqns in
       let given : in_flat join known (giving n).eqns ≤ in_flat join known n.eqns = filtered join measures.joins known defines_some n.eqns in
-      omega (arith, flat, fewer, order, given)
+      omega (arith, flat, fewer, order, plain, plainly, given)
 
   machine_name : (types : List ObcType) (n : FlatNode) (m : Machine) → IsMachineOf types n m → m.name ≡ n.name
   machine_name types n m h = let a = h.arranged in ap (λ (x : Machine). x.name) a.made

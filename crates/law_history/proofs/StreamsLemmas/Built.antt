@@ -28,7 +28,7 @@ use Rattle.law_automata.specs.Readied.Laws.{IsWhole}
 use Rattle.law_equations.specs.Made.Types.{obc_types, obc_types_of}
 use Rattle.hp_complete.specs.Declaring.{known_of}
 use Rattle.hp_complete.specs.KnownLaw.{KnownLaw}
-use Rattle.hp_complete.specs.Made.{HasCircle}
+use Rattle.hp_complete.specs.Made.{AreMadeOf, HasCircle}
 use Rattle.hp_form.specs.Regular.Regular.{EqnsRegular}
 use Rattle.law_wellmade.specs.Suited.Suited.{SuitedLaw}
 use Rattle.law_wellmade.specs.Timely.Tested.{AreTested}
@@ -41,15 +41,15 @@ use Rattle.law_wellmade.specs.Lettered.Laws.{MachineNamesLaw, MachineTypesLaw}
 use Rattle.law_wellmade.specs.Nested.Laws as nested
 use Rattle.law_history.specs.Counted.Laws.{FewLaw}
 use Rattle.law_wellmade.specs.Parted.Laws as parted
-use Rattle.law_equations.specs.Fewer.Compiling.{AreCompiled}
 use Rattle.law_equations.specs.Shaped.Shaped.{DefineApart}
 use Rattle.law_equations.specs.Shaped.Laws.{KeptLaw, ProgramFormLaw}
 use Rattle.hp_machines.specs.Making.{AreMade, giving}
 use Rattle.hp_machines.specs.NotBuilt.{AreEquations, HasNoMachines}
 use Rattle.law_history.specs.Streams.Texts.{IsAccepted, BuiltLaw, WithinLaw}
-use Rattle.law_history.proofs.StreamsLemmas.MadeMachines.{are_compiled, are_regular, have_few}
+use Rattle.law_history.proofs.StreamsLemmas.MadeMachines.{are_compiled, are_regular, have_few, placed_nodes}
 use Rattle.law_history.proofs.StreamsLemmas.NoCircles.{prepared_no_circle}
 use Rattle.law_history.proofs.StreamsLemmas.NodeRuns.{Prepared}
+use Rattle.law_history.proofs.StreamsLemmas.PlacedShapes.{placed_shaped, whole_made, whole_nodes}
 use Rattle.law_history.proofs.StreamsLemmas.ProgramTypes.{program_known}
 use Rattle.law_history.proofs.StreamsLemmas.Readiness.{ReadyLaws, types_lowered, prepared}
 use Rattle.law_history.proofs.StreamsLemmas.Shapes.{AreKnown, have_shape}
@@ -139,10 +139,13 @@ module _ (laws : WayLaws) (text : List ℕ) (tokens : List Token) (program after
     all_regular : AllByRecursion (EqnsRegular types) fs
     all_regular = laws.regular program after is_ready removable full few_types tested short fs equations.made
 
-    all_apart : AllByRecursion (λ (f : FlatNode). DefineApart f.eqns) fs
-    all_apart =
+    apart_of : (gs : List FlatNode) → AreMadeOf (known_of low) low gs → AllByRecursion (λ (f : FlatNode). DefineApart f.eqns) gs
+    apart_of gs made =
         let p = is_prepared in
-        laws.apart (types_of low) (nodes (types_of low) filled (reverse low)).outputs (known_of low) low fs (program_known low form_low laws.known p.named) p.distinct (all_plain low p.whole) p.tested equations.made
+        laws.apart (types_of low) (nodes (types_of low) filled (reverse low)).outputs (known_of low) low gs (program_known low form_low laws.known p.named) p.distinct (all_plain low p.whole) p.tested made
+
+    all_apart : AllByRecursion (λ (f : FlatNode). DefineApart f.eqns) fs
+    all_apart = apart_of fs equations.made
 
     -- ---- machines with form
 
@@ -160,10 +163,14 @@ module _ (laws : WayLaws) (text : List ℕ) (tokens : List Token) (program after
       has_form : HasObcForm types ms
       has_form =
           let same : obc_types_of low ≡ types = ap obc_types same_types in
+          let obc = obc_types_of low in
+          let callees = program_callees obc (known_of low) in
+          let made_low : AreMade obc fs ms = subst (λ ts. AreMade ts fs ms) (sym same) made in
           let shape = have_shape laws.suited laws.kept laws.known low is_prepared form_low (laws.names text tokens program after a.spelled a.read a.clocks) fs equations.made equations.flat (subst (λ ts. AreKnown ts (known_of low) fs) (sym same) shown) in
+          let whole = whole_made obc callees (known_of low) low [] fs ms made_low shape equations.made in
+          let apart = apart_of (whole_nodes obc callees fs ms made_low) whole in
           subst (λ ts. HasObcForm ts ms) same
-          (laws.form (obc_types_of low) (program_callees (obc_types_of low) (known_of low)) (map giving fs) ms form_low shape
-          (subst (λ ts. AreCompiled ts (map giving fs) ms) (sym same) (are_compiled types fs ms made)))
+          (laws.form obc callees (placed_nodes obc fs ms made_low) ms form_low (placed_shaped obc callees [] fs ms made_low apart shape) (are_compiled obc fs ms made_low))
 
   built : HasNoMachines after → ⊥
   built (HasNoMachines.circular circle) = not_circular circle

@@ -58,7 +58,7 @@ use Rattle.law_history.proofs.StreamsLemmas.Asked.{names_behind, calls_before, c
 use Rattle.law_history.proofs.StreamsLemmas.Giving.{kept_all, kept_ranked, kept_define, kept_equations, kept_calls, kept_nodes}
 use Rattle.law_history.proofs.StreamsLemmas.NamesApart.{own_found, each_found, name_found}
 use Rattle.law_history.proofs.StreamsLemmas.ProgramTypes.{program_known}
-use Rattle.law_history.proofs.StreamsLemmas.MadeMachines.{are_compiled, are_regular, have_few}
+use Rattle.law_history.proofs.StreamsLemmas.MadeMachines.{are_regular, have_few, made_run}
 
 -- What is known of a program without automata, with what is given to its nodes.
 pub record Prepared (program : List Item) : Type 0 where
@@ -218,7 +218,7 @@ module _ (program : List Item) (p : Prepared program) where
 
       flat_runs : AllByRecursion (λ (n : FlatNode). Runs n.name) (map giving fs)
       flat_runs =
-          laws.compiled (obc_types_of program) (map giving fs) ms answers takes are_flat (are_compiled (obc_types_of program) fs ms made) (all_answered [] program fs (split_first program) p.whole p.named equations (are_regular (obc_types_of program) fs ms made) (λ f h. absurd cc))
+          made_run (obc_types_of program) answers takes laws.compiled fs ms are_flat made (all_answered [] program fs (split_first program) p.whole p.named equations (are_regular (obc_types_of program) fs ms made) (λ f h. absurd cc))
 
       named_runs : (rest : List Item) (gs : List FlatNode) → AreMadeOf k rest gs → AllByRecursion (λ (n : FlatNode). Runs n.name) (map giving gs) → EachNode (λ (n : Node). Runs n.name) rest
       named_runs [] gs m a = tt

@@ -1,0 +1,176 @@
+-- A run that `save` stops and `resume` resumes is one run.
+use Rattle.std.proofs.Common.{◌≡◌, ℕ, ◌+◌, ◌≤◌, Bool, true, false, cond, List, [], ◌∷◌, ◌++◌, length, None, Some, refl, sym, ap, ap₂, subst, ◌∙◌, inl, inr, arith}
+use Rattle.std.specs.Prelude.{Option}
+use Rattle.std.specs.FinMap as map
+use Rattle.std.proofs.lemmas.Cmp.{nat_list_cmp_total}
+use Rattle.std.proofs.lemmas.Slice.Eq.{bytes_eq-Decides}
+use Rattle.hp_clocks.specs.Answers.{IsClocked}
+use Rattle.hp_clocks.specs.Writing.{AreWritten}
+use Rattle.hp_compile.specs.Arranged.{HasClocks}
+use Rattle.hp_compile.specs.Judged.{IsJudged}
+use Rattle.hp_expand.specs.Numbering.{replaced}
+use Rattle.hp_io.specs.Files.{Files}
+use Rattle.hp_io.specs.declared.console.Event.{Event}
+use Rattle.hp_io.proofs.Placed.{tied}
+use Rattle.hp_machines.specs.Machined.{AreMachinesOf}
+use Rattle.hp_machines.specs.One.{OneMachinesLaw}
+use Rattle.hp_meaning.specs.Clocking.Clocking.{node_with_clocks}
+use Rattle.hp_meaning.specs.Clocking.Laws.{OneShortestLaw}
+use Rattle.hp_obc.specs.Machines.{Obc}
+use Rattle.hp_obc.specs.Steps.{Memory, machine_behaviour}
+use Rattle.hp_tree.specs.declared.program.Item.{Item}
+use Rattle.hp_tree.specs.declared.program.Item.TheVariants.{TypeItem, NodeItem}
+use Rattle.law_decided.specs.Promised.{RunLaw}
+use Rattle.law_history.specs.Streams.Texts.{TextLaw}
+use Rattle.hp_driver.specs.Answers.{IsAnswer}
+use Rattle.hp_driver.specs.Checkpoints.{IsCheckpointOf}
+use Rattle.hp_driver.specs.Controls.{has_controls}
+use Rattle.hp_driver.specs.Given.{Gives}
+use Rattle.hp_driver.specs.Joined.{AreGoodLines, IsOneRun, IsResumed, ResumedLaw, memory_past}
+use Rattle.hp_driver.specs.Lines.{lines_of}
+use Rattle.hp_driver.specs.Log.{heard, said}
+use Rattle.hp_driver.specs.Outcome.{IsHeld}
+use Rattle.hp_driver.specs.Segments.{AreRun, Begins, IsRunnable, SegmentRun, Traced}
+use Rattle.hp_driver.specs.Systems.{System, of_machine, from_memory, inputs_of}
+use Rattle.hp_driver.specs.Values.{first_bad}
+use Rattle.hp_driver.specs.WrittenText.{WritesText}
+use Rattle.hp_driver.proofs.JoinedLaws.{joined_run}
+use Rattle.hp_driver.proofs.SegmentCalls.{one_memory}
+
+-- ---- one program with its clocks
+
+same_clocked : OneShortestLaw → (xs ys zs : List Item) → AreWritten IsClocked xs ys → AreWritten IsClocked xs zs → ys ≡ zs
+same_clocked one [] [] [] h k = refl
+same_clocked one [] [] (z ∷ zs) h k = absurd k
+same_clocked one [] (y ∷ ys) zs h k = absurd h
+same_clocked one (x ∷ xs) [] zs h k = absurd h
+same_clocked one (x ∷ xs) (y ∷ ys) [] h k = absurd k
+same_clocked one (TypeItem t ∷ xs) (y ∷ ys) (z ∷ zs) h k = ap₂ (λ (w : Item) ws. w ∷ ws) (h.0 ∙ sym k.0) (same_clocked one xs ys zs h.1 k.1)
+same_clocked one (NodeItem n ∷ xs) (y ∷ ys) (z ∷ zs) h k =
+    let clocks = one n h.0.0 k.0.0 h.0.1.0 k.0.1.0 in
+    ap₂ (λ (w : Item) ws. w ∷ ws) (h.0.2 ∙ ap (λ at. NodeItem (node_with_clocks at n)) clocks ∙ sym k.0.2) (same_clocked one xs ys zs h.1 k.1)
+
+some_same : {A : Type 0} (x y : A) → Some x ≡ Some y → x ≡ y
+some_same x y e = cc
+
+no_some : {A X : Type 0} (x : A) → None ≡ Some x → X
+no_some x e = absurd (cc)
+
+-- what is inserted is held
+get_inserted : (files : Files) (name text : List ℕ) → map.get (map.insert files name text) name ≡ Some text
+get_inserted files name text =
+    map.get-insert nat_list_cmp_total files name text name ∙ ap (λ (b : Bool). cond b (Some text) (map.get files name)) (tied name name true ((bytes_eq-Decides name name).1 refl))
+
+-- ---- two calls
+
+module _ (file node mem out : List ℕ) (before found : Files) (source : map.get found file ≡ map.get before file) where
+  same_program : (p q : List Item) → IsHeld (Some before) file p → IsHeld (Some found) file q → p ≡ q
+  same_program p q h k =
+      let same : k.text ≡ h.text = some_same k.text h.text (sym k.held ∙ source ∙ h.held) in
+      sym (h.only q (subst (λ t. IsJudged t q) same k.judged))
+
+  same_arranged : OneShortestLaw → (p q : List Item) (h : IsHeld (Some before) file p) (k : IsHeld (Some found) file q) → h.clocked ≡ k.clocked
+  same_arranged one p q h k =
+      let same = same_program p q h k in
+      let clocks : HasClocks (replaced q) k.clocked = k.arranged.clocks in
+      same_clocked one (replaced p) h.clocked k.clocked h.arranged.clocks (subst (λ z. HasClocks (replaced z) k.clocked) (sym same) clocks)
+
+  module _ (shortest : OneShortestLaw) (one : OneMachinesLaw) (none : (program : List Item) → IsHeld (Some before) file program → has_controls program ≡ false) where
+    choosing : {X : Type 0} (p q : List Item) → IsHeld (Some before) file p → IsHeld (Some found) file q → has_controls q ≡ true → X
+    choosing p q h k some = let both : true ≡ false = sym some ∙ ap has_controls (sym (same_program p q h k)) ∙ none p h in absurd (cc)
+
+    same_machines : (o p : Obc) (s z : System) → AreRun (Some before) file node o s → AreRun (Some found) file node p z → o ≡ p
+    same_machines o p s z (AreRun.of_program a) (AreRun.of_program b) =
+        one a.held.clocked o p a.machines (subst (λ items. AreMachinesOf items p) (sym (same_arranged shortest a.program b.program a.held b.held)) b.machines)
+    same_machines o p s z (AreRun.of_program a) (AreRun.that_choose n chosen some named is) = choosing a.program chosen.program a.held chosen.held some
+    same_machines o p s z (AreRun.that_choose n chosen some named is) b = let both : true ≡ false = sym some ∙ none chosen.program chosen.held in absurd (cc)
+
+-- ---- what each call did
+
+begun : (files : Option Files) (file node : List ℕ) (from : Option (List ℕ)) (o : Obc) (kept : Memory) (s : System) → Begins files file node o from kept s → from ≡ None
+    → (there : IsRunnable files file node o) × (kept ≡ (machine_behaviour o node).reset) × (s ≡ there.system)
+begun files file node from o kept s (Begins.from_reset there) e = (there, refl, refl)
+begun files file node from o kept s (Begins.from_checkpoint {mem = m} there gives is) e = no_some m (sym e)
+
+-- from which memory it was resumed
+record Restored (files : Option Files) (file node mem : List ℕ) (o : Obc) (kept : Memory) (s : System) : Type 0 where
+  there : IsRunnable files file node o
+  text : List ℕ
+  gives : Gives files mem text
+  is : IsCheckpointOf o node kept text
+  system : s ≡ from_memory o node kept
+
+restored : (files : Option Files) (file node mem : List ℕ) (from : Option (List ℕ)) (o : Obc) (kept : Memory) (s : System) → Begins files file node o from kept s → from ≡ Some mem → Restored files file node mem o kept s
+restored files file node mem from o kept s (Begins.from_reset there) e = no_some mem e
+restored files file node mem from o kept s (Begins.from_checkpoint {mem = m} {text = t} there gives is) e =
+    record { there = there; text = t; gives = subst (λ x. Gives files x t) (some_same m mem e) gives; is = is; system = refl }
+
+abbrev Answered : System → List Event → Type 0
+Answered s log = IsAnswer s (lines_of true (heard log)) (said log) × (first_bad (inputs_of s) 1 (lines_of true (heard log)) ≡ None)
+
+answered : (s : System) (log : List Event) (line : List ℕ) (status : ℕ) → Traced s log line status → status ≡ 0 → Answered s log
+answered s log line status (Traced.done step ended answer good) e = (answer, good)
+answered s log line status (Traced.bad_line bad step answer at) e = absurd (omega (arith, e))
+answered s log line status (Traced.take_failed step answer good) e = absurd (omega (arith, e))
+answered s log line status (Traced.put_failed rest step answer) e = absurd (omega (arith, e))
+
+written : (text out : List ℕ) (before : Files) (left : Option Files) (status : ℕ) → WritesText text out (Some before) left status → status ≡ 0 → left ≡ Some (map.insert before out text)
+written text out before left status (WritesText.whole all) e = all
+written text out before left status (WritesText.part (inl five) others this) e = absurd (omega (arith, e, five))
+written text out before left status (WritesText.part (inr six) others this) e = absurd (omega (arith, e, six))
+
+-- ---- both parts
+
+-- what the second call did with machines
+record Resumes (node : List ℕ) (text : List ℕ) (second : List Event) (o : Obc) : Type 0 where
+  kept : Memory
+  is : IsCheckpointOf o node kept text
+  answer : IsAnswer (from_memory o node kept) (lines_of true (heard second)) (said second)
+  good : first_bad (inputs_of (of_machine o node)) 1 (lines_of true (heard second)) ≡ None
+
+module _ (text_law : TextLaw) (run_law : RunLaw) (before : Files) (file node : List ℕ) (first second : List Event) (few : length (lines_of true (heard first)) + length (lines_of true (heard second)) ≤ 1000000000) where
+  both : (o : Obc) (there : IsRunnable (Some before) file node o) (text : List ℕ) → Answered there.system first → IsCheckpointOf o node (memory_past o node (machine_behaviour o node).reset (lines_of true (heard first))) text
+      → Resumes node text second o → IsOneRun before file node (lines_of true (heard first) ++ lines_of true (heard second)) (said first ++ said second)
+  both o there text a is r =
+      let l1 = lines_of true (heard first) in
+      let l2 = lines_of true (heard second) in
+      let behind = memory_past o node (machine_behaviour o node).reset l1 in
+      let memory : r.kept ≡ behind = one_memory (Some before) file node o text r.kept behind there r.is is in
+      let good : AreGoodLines (inputs_of (of_machine o node)) l1 l2 = record { few = few; first_good = ap (λ ks. first_bad ks 1 l1) there.inputs ∙ a.1; second_good = r.good } in
+      let answer : IsAnswer (from_memory o node behind) l2 (said second) = subst (λ kept. IsAnswer (from_memory o node kept) l2 (said second)) memory r.answer in
+      record {
+        o = o;
+        system = there.system;
+        are = there.are;
+        said = joined_run text_law run_law (Some before) file node o there.system l1 l2 (said first) (said second) there.are there.machine good a.0 answer;
+      }
+
+  module _ (shortest : OneShortestLaw) (one : OneMachinesLaw) (mem out : List ℕ) (none : (program : List Item) → IsHeld (Some before) file program → has_controls program ≡ false) (left : Option Files) (found : Files) (after : Option Files)
+      (source : map.get found file ≡ map.get before file) (checkpoint : (held : Files) → left ≡ Some held → map.get found mem ≡ map.get held mem) where
+    -- the second call, over the machines of the first
+    second_part : (o : Obc) (there : IsRunnable (Some before) file node o) (text : List ℕ) → Gives (Some found) mem text → (from : Option (List ℕ)) (line : List ℕ) (status : ℕ)
+        → SegmentRun (Some found) after file node from out second line status → from ≡ Some mem → status ≡ 0 → Resumes node text second o
+    second_part o there text gives from line status (SegmentRun.stopped stops fails same) e zero = absurd (fails zero)
+    second_part o there text gives from line status (SegmentRun.written {o = p} {memory = kept} {s = s} begins traced is writes) e zero =
+        let r = restored (Some found) file node mem from p kept s begins e in
+        let texts : r.text ≡ text = some_same r.text text (sym r.gives ∙ gives) in
+        let a = answered s second [] 0 traced refl in
+        let at : Answered (from_memory p node kept) second = subst (λ z. Answered z second) r.system a in
+        let same : o ≡ p = same_machines file node mem out before found source shortest one none o p there.system r.there.system there.are r.there.are in
+        subst (Resumes node text second) (sym same) (record { kept = kept; is = subst (IsCheckpointOf p node kept) texts r.is; answer = at.0; good = at.1 })
+
+    first_part : (from : Option (List ℕ)) (line : List ℕ) (status : ℕ) → SegmentRun (Some before) left file node from mem first line status → from ≡ None → status ≡ 0
+        → SegmentRun (Some found) after file node (Some mem) out second [] 0 → IsOneRun before file node (lines_of true (heard first) ++ lines_of true (heard second)) (said first ++ said second)
+    first_part from line status (SegmentRun.stopped stops fails same) e zero r = absurd (fails zero)
+    first_part from line status (SegmentRun.written {o = o} {memory = kept} {s = s} {text = text} begins traced is writes) e zero r =
+        let b = begun (Some before) file node from o kept s begins e in
+        let a = answered s first [] 0 traced refl in
+        let at : Answered b.0.system first = subst (λ z. Answered z first) b.2 a in
+        let holds : map.get found mem ≡ Some text = checkpoint (map.insert before mem text) (written text mem before left status writes zero) ∙ get_inserted before mem text in
+        let here : IsCheckpointOf o node (memory_past o node (machine_behaviour o node).reset (lines_of true (heard first))) text =
+        subst (λ memory. IsCheckpointOf o node (memory_past o node memory (lines_of true (heard first))) text) b.1 is in
+        both o b.0 text at here (second_part o b.0 text holds (Some mem) [] 0 r refl refl)
+
+pub resumed : TextLaw → RunLaw → OneShortestLaw → OneMachinesLaw → ResumedLaw
+resumed text_law run_law shortest one file node mem out first second r none few =
+    first_part text_law run_law r.before file node first second few shortest one mem out none r.left r.found r.after r.source r.checkpoint None [] 0 r.saved refl refl r.resumed

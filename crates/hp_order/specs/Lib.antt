@@ -1,0 +1,4 @@
+pub mod ByClock
+pub mod Reaching
+pub mod Laws
+pub mod Turning

@@ -1,0 +1,6 @@
+pub mod Values
+pub mod Laws
+pub mod Found
+pub mod Held
+pub mod Greatest
+pub mod Plants
