@@ -126,7 +126,7 @@ def lines_of(text):
     """The lines of a text in which those that were broken are whole, each with its word and what it tells."""
     found = []
     for line in text.split('\n'):
-        if line.startswith(' ' * 11) and not re.match(r' +(?:\* |- |\()', line):
+        if line.startswith(' ' * 11) and found[-1][1].endswith((',', ';')):
             found[-1] = found[-1][0], f'{found[-1][1]} {line.strip()}'
         elif line.startswith('  '):
             found.append((line[2:11].strip() or found[-1][0], line[11:]))
