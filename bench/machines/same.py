@@ -155,6 +155,7 @@ def differences(before, after):
 
 
 def run(program, words, given=''):
+    """The status of a call and what it says."""
     done = subprocess.run([program, *words], input=given, capture_output=True, text=True, timeout=120, check=False)
     return done.returncode, done.stdout
 
@@ -183,11 +184,18 @@ class Counts:
         self.cases = [0, 0]
 
 
+def text_of(pieces):
+    """A text of a row: a string, or a list of strings and of such that stand there some times."""
+    if isinstance(pieces, str):
+        return pieces
+    return ''.join(it if isinstance(it, str) else it['text'] * it['times'] for it in pieces)
+
+
 def compare(programs, row, counts, folder):
     for name, text in row.get('files', {}).items():
         source = os.path.join(folder, 'source')
-        with open(source, 'w', encoding='utf-8') as file:
-            file.write(text)
+        with open(source, 'wb') as file:
+            file.write(text_of(text).encode('latin-1'))
         (old_status, old), (new_status, new) = (compiled(it, source, folder) for it in programs)
         if old is None or new is None:
             if (old_status, old is None) != (new_status, new is None):
@@ -203,7 +211,7 @@ def compare(programs, row, counts, folder):
         for step in row.get('steps', []):
             if step['words'][:1] == ['run'] and step['words'][1] == name:
                 counts.runs += 1
-                if told(programs[0], old, step['words'][2], step['input'], folder) != told(programs[1], new, step['words'][2], step['input'], folder):
+                if told(programs[0], old, step['words'][2], text_of(step.get('input', '')), folder) != told(programs[1], new, step['words'][2], text_of(step.get('input', '')), folder):
                     wrong(counts, row, name, 'what is said')
 
 

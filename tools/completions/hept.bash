@@ -63,7 +63,7 @@ _hept_tool() {
         hept-explain) options="--all --help" ;;
         hept-wave) options="--contract --svg --vcd --lines --width --ascii --help" ;;
         hept-try) options="--false --all --instants --runs --seed --help" ;;
-        hept-why) options="--help" ;;
+        hept-why) options="--all --trace --help" ;;
     esac
     if [[ ${1##*/} == hept-explain ]]; then
         if [[ $COMP_CWORD == 1 ]]; then

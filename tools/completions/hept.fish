@@ -70,6 +70,8 @@ complete -c hept-try -l seed
 complete -c hept-try -l help
 complete -c hept-try -n 'test (count (commandline -opc)) -gt 1' -f -a '(__hept_nodes)'
 # hept-why says why the contract of a node is lost, or what the variables of its certificate stand for
+complete -c hept-why -l all
+complete -c hept-why -l trace
 complete -c hept-why -l help
 complete -c hept-why -n 'test (count (commandline -opc)) -gt 1' -f -a '(__hept_nodes)'
 complete -c hept-explain -n 'test (count (commandline -opc)) = 1' -a 'check run compile exec prove verify sweep past save resume E1 E2 E3 E4 E5 E6 E7 E8 E9 E10 E11 E12 L1 L2 L3 L4 K1 K2 K3 O1 O2 M1 M2 usage'

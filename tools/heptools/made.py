@@ -18,7 +18,7 @@ TOOL_OPTIONS = {
     'hept-explain': ['--all', '--help'],
     'hept-wave': ['--contract', '--svg', '--vcd', '--lines', '--width', '--ascii', '--help'],
     'hept-try': ['--false', '--all', '--instants', '--runs', '--seed', '--help'],
-    'hept-why': ['--help'],
+    'hept-why': ['--all', '--trace', '--help'],
 }
 
 

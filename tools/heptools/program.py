@@ -56,9 +56,9 @@ def told(status, diagnostics):
     return f'hept ended with status {status}: {first.removeprefix("hept: ")}'
 
 
-def call(words, text=b''):
-    """A call of hept over a short input."""
-    done = subprocess.run([find(), *words], input=text, stdout=subprocess.PIPE, stderr=subprocess.PIPE)
+def call(words, text=b'', timeout=None):
+    """A call of hept over a short input, for so many seconds at most."""
+    done = subprocess.run([find(), *words], input=text, stdout=subprocess.PIPE, stderr=subprocess.PIPE, timeout=timeout)
     if done.returncode < 0:
         raise Wrong(f'hept was ended by signal {-done.returncode}', 70)
     return done

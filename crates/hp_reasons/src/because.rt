@@ -1,8 +1,9 @@
 //! Why a part of a guarantee is false: the truth values that it reads, each with its equation, and those that these read.
 
 use crate::error::WhyErr;
-use crate::names::{Names, QUOTED};
-use crate::page::{Page, add_place};
+use crate::labels::add_text;
+use crate::names::Names;
+use crate::page::Page;
 use crate::parts::Probe;
 use hp_base::{Ty, is_word_part};
 use hp_tables::declarations::Table;
@@ -24,11 +25,19 @@ struct Sights<'a> {
     hidden: Table<'a, &'a Decl>,
 }
 
-/// The names that a text has.
+/// Whether names behind this word are not read at the instant itself.
+fn is_past(word: &[u8]) -> bool {
+    matches!(word, b"pre" | b"fby" | b"last" | b"inlined")
+}
+
+/// The names that a text has before the first word behind which they are not read at the instant itself.
 fn add_words<'s>(text: &'s [u8], into: &mut Vec<&'s [u8]>) -> Result<(), AllocError> {
     let mut from = 0;
     for i in 0..text.len() {
         if !is_word_part(text[i]) {
+            if from < i && is_past(&text[from..i]) {
+                return Ok(());
+            }
             if from < i {
                 into.push(&text[from..i])?;
             }
@@ -133,19 +142,13 @@ impl<'c, 'a> Cause<'c, 'a> {
         value: bool,
         page: &mut Page,
     ) -> Result<(), AllocError> {
-        let mut piece = Vec::new(self.probe.alloc);
-        self.names.add_name(&decl.name, &mut piece)?;
-        piece.extend_from_slice(if value { b" = true" } else { b" = false" })?;
+        page.begin(b"because")?;
+        page.tab()?;
+        self.names.add_name(&decl.name, &mut page.text)?;
+        page.word(if value { b"true" } else { b"false" })?;
         if let Some(right) = right {
-            piece.extend_from_slice(b"   ")?;
-            self.names.add_name(&decl.name, &mut piece)?;
-            piece.extend_from_slice(b" = ")?;
-            self.names.source.add(right.span, QUOTED, &mut piece)?;
-            piece.extend_from_slice(b" (")?;
-            add_place(right.span, &mut piece)?;
-            piece.push(b')')?;
+            add_text(self.names, right, page)?;
         }
-        page.put(&piece)?;
         page.end()
     }
 
@@ -161,7 +164,6 @@ impl<'c, 'a> Cause<'c, 'a> {
         let Some(value) = self.probe.value(self.guarantee, &decl.name)? else {
             return Ok(());
         };
-        page.begin(if queue.count == 0 { "because" } else { "" })?;
         queue.count = queue.count.saturating_add(1);
         let right = sights.rights.find(decl.name.bytes());
         self.add_value(decl, right, value, page)?;

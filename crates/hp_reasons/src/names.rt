@@ -124,12 +124,22 @@ impl<'a> Names<'a> {
         Ok(())
     }
 
-    fn add_previous(&self, operand: &Expr, into: &mut Vec<u8>) -> Result<(), AllocError> {
-        into.extend_from_slice(b"previous ")?;
-        match name_of(operand) {
-            Some(name) => self.add_name(name, into),
-            None => self.add_quoted(operand.span, into),
+    /// Adds what an operand was at the instant before: by its name, by that whose whole equation this is, or by its text.
+    fn add_previous(
+        &self,
+        operand: &Expr,
+        name: Option<&Name>,
+        into: &mut Vec<u8>,
+    ) -> Result<(), AllocError> {
+        if let Some(operand) = name_of(operand) {
+            into.extend_from_slice(b"previous ")?;
+            return self.add_name(operand, into);
         }
+        if let Some(name) = name {
+            return self.add_name(name, into);
+        }
+        into.extend_from_slice(b"previous ")?;
+        self.add_quoted(operand.span, into)
     }
 
     /// Adds an automaton: its place, and the first name that it defines.
@@ -172,7 +182,7 @@ impl<'a> Names<'a> {
                 output: _,
                 name: Some(name),
             } => self.add_name(name, into),
-            Subject::Previous { operand, name: _ } => self.add_previous(operand, into),
+            Subject::Previous { operand, name } => self.add_previous(operand, name, into),
             Subject::Past => into.extend_from_slice(b"behind the first instant"),
             Subject::State => self.add_automaton(label, into),
             Subject::Afresh => {

@@ -1,17 +1,11 @@
-//! A text that grows by lines of at most 100 columns.
+//! A text of lines, each of words between tabs.
 
 use hp_base::Span;
 use itoa::Buffer;
 use std::alloc::{AllocError, Global};
 
-/// The most columns of a line that can be broken.
-const COLUMNS: usize = 100;
-
-/// Where a line goes on that is broken.
-const INDENT: usize = 11;
-
 /// Adds a number in decimals.
-pub fn add_number(number: u64, into: &mut Vec<u8>) -> Result<(), AllocError> {
+fn add_number(number: u64, into: &mut Vec<u8>) -> Result<(), AllocError> {
     let mut digits = Buffer::new();
     into.extend_from_slice(digits.format(number).as_bytes())
 }
@@ -23,80 +17,66 @@ pub fn add_place(span: Span, into: &mut Vec<u8>) -> Result<(), AllocError> {
     add_number(u64::from(span.col), into)
 }
 
-/// The lines so far, and the columns of the last one.
+/// The lines so far.
 #[derive(Drop)]
 pub struct Page {
-    text: Vec<u8>,
-    column: usize,
-    /// Whether the last line has an item.
-    has_item: bool,
+    pub text: Vec<u8>,
 }
 
 impl Page {
     pub fn new(alloc: Global) -> Page {
         Page {
             text: Vec::new(alloc),
-            column: 0,
-            has_item: false,
         }
     }
 
     pub fn into_text(self) -> Vec<u8> {
-        let Page {
-            text,
-            column: _,
-            has_item: _,
-        } = self;
+        let Page { text } = self;
         text
     }
 
-    /// Adds bytes to the last line.
-    pub fn put(&mut self, bytes: &[u8]) -> Result<(), AllocError> {
-        self.text.extend_from_slice(bytes)?;
-        self.column = self.column.saturating_add(bytes.len());
+    /// Begins a line.
+    pub fn begin(&mut self, word: &[u8]) -> Result<(), AllocError> {
+        self.text.extend_from_slice(word)
+    }
+
+    /// Ends the last word, so that another one can be written into the text.
+    pub fn tab(&mut self) -> Result<(), AllocError> {
+        self.text.push(b'\t')?;
         Ok(())
     }
 
-    pub fn put_number(&mut self, number: usize) -> Result<(), AllocError> {
-        let mut digits = Buffer::new();
-        self.put(digits.format(number).as_bytes())
+    /// Adds a word to the last line.
+    pub fn word(&mut self, word: &[u8]) -> Result<(), AllocError> {
+        self.tab()?;
+        self.text.extend_from_slice(word)
+    }
+
+    /// Adds a number to the last line.
+    pub fn number(&mut self, number: usize) -> Result<(), AllocError> {
+        self.tab()?;
+        add_number(number as u64, &mut self.text)
+    }
+
+    /// Adds a place to the last line: its line, its column, and the offset behind it.
+    pub fn span(&mut self, span: Span) -> Result<(), AllocError> {
+        self.number(span.line as usize)?;
+        self.number(span.col as usize)?;
+        self.number(span.end as usize)
+    }
+
+    /// Adds truth values to the last line, as a word of zeros and ones.
+    pub fn bits(&mut self, bits: &[bool]) -> Result<(), AllocError> {
+        self.tab()?;
+        for bit in bits {
+            self.text.push(if *bit { b'1' } else { b'0' })?;
+        }
+        Ok(())
     }
 
     /// Ends the last line.
     pub fn end(&mut self) -> Result<(), AllocError> {
         self.text.push(b'\n')?;
-        self.column = 0;
-        self.has_item = false;
         Ok(())
-    }
-
-    fn pad(&mut self, to: usize) -> Result<(), AllocError> {
-        for _ in self.column..to {
-            self.text.push(b' ')?;
-        }
-        self.column = self.column.max(to);
-        Ok(())
-    }
-
-    /// Begins a line of an instant with this word.
-    pub fn begin(&mut self, word: &str) -> Result<(), AllocError> {
-        self.put(b"  ")?;
-        self.put(word.as_bytes())?;
-        self.pad(INDENT)
-    }
-
-    /// Adds an item to a list of items, on the next line where this one has no room.
-    pub fn item(&mut self, bytes: &[u8], between: &str) -> Result<(), AllocError> {
-        if self.has_item {
-            self.put(between.trim_end().as_bytes())?;
-            if self.column.saturating_add(bytes.len()) >= COLUMNS {
-                self.end()?;
-                self.pad(INDENT)?;
-            } else {
-                self.put(b" ")?;
-            }
-        }
-        self.has_item = true;
-        self.put(bytes)
     }
 }

@@ -1,7 +1,11 @@
-//! The parts of a guarantee, and what is so of them at an instant: the machine of the same program in which each other part `P` is `P or true`. It has the same slots, so the values of a play are values of its variables too.
+//! The parts of a guarantee, and what is so of them at the last instant: the machine of the same program in which each other part `P` is `P or true`. It has the same slots, so the values of a play are values of its variables too.
 
 use crate::error::WhyErr;
-use hp_abstract::abstraction;
+use crate::labels::add_text;
+use crate::machine::add_gates;
+use crate::names::Names;
+use crate::page::Page;
+use hp_abstract::{Abstraction, abstraction};
 use hp_base::Name;
 use hp_boolx::{BoolMachine, eval};
 use hp_tree::{Const, Contract, Expr, ExprKind, Node, Op2, Program, copy_decls};
@@ -96,7 +100,7 @@ fn copy_node(alloc: Global, node: &Node, enforce: Option<Expr>) -> Result<Node, 
     })
 }
 
-/// An instant of a play of the machine of a node, of which is asked what else holds there.
+/// The last instant of a play of the machine of a node, of which is asked what else holds there.
 #[derive(Clone, Copy)]
 pub struct Probe<'p> {
     pub alloc: Global,
@@ -138,24 +142,63 @@ impl<'p> Probe<'p> {
         }
     }
 
-    /// Whether a guarantee holds that is put in the place of the node's own; none where it has other slots.
-    fn holds(&self, enforce: Option<Expr>) -> Result<Option<bool>, WhyErr> {
+    /// The machine of the node with another guarantee in the place of its own; none where it has other slots.
+    fn made(&self, enforce: Option<Expr>) -> Result<Option<Abstraction>, WhyErr> {
         let copy = copy_node(self.alloc, self.node, enforce)?;
         let made = abstraction(self.alloc, self.program, &copy)?;
-        let machine = self.machine;
-        if made.machine.counts != machine.counts {
-            return Ok(None);
+        if made.machine.counts == self.machine.counts {
+            Ok(Some(made))
+        } else {
+            Ok(None)
         }
-        Ok(gate_at(self.alloc, &made.machine, made.enforce, self.values)?)
     }
 
-    /// The parts of the guarantee that are false.
-    pub fn false_parts(&self) -> Result<Vec<&'p Expr>, WhyErr> {
+    /// Whether the guarantee of such a machine holds.
+    fn holds(&self, made: &Abstraction) -> Result<Option<bool>, AllocError> {
+        gate_at(self.alloc, &made.machine, made.enforce, self.values)
+    }
+
+    /// Adds a part of the guarantee, with the gates of which the last one that is named says whether it holds. It says whether it does at the instant.
+    fn add_part(
+        &self,
+        names: &Names,
+        part: &Expr,
+        made: &Abstraction,
+        page: &mut Page,
+    ) -> Result<Option<bool>, AllocError> {
+        let holds = self.holds(made)?;
+        page.begin(b"part")?;
+        add_text(names, part, page)?;
+        page.word(if holds == Some(false) { b"0" } else { b"1" })?;
+        page.end()?;
+        add_gates(&made.machine.gates, page)?;
+        page.begin(b"holds")?;
+        page.number(made.enforce)?;
+        page.end()?;
+        Ok(holds)
+    }
+
+    /// Adds a part of the guarantee, where this is the guarantee in which no other part may be false. It says whether the part is false at the instant.
+    fn is_false(
+        &self,
+        names: &Names,
+        part: &Expr,
+        enforce: Option<Expr>,
+        page: &mut Page,
+    ) -> Result<bool, WhyErr> {
+        match self.made(enforce)? {
+            None => Ok(false),
+            Some(made) => Ok(self.add_part(names, part, &made, page)? == Some(false)),
+        }
+    }
+
+    /// Adds the parts of the guarantee, and gives those that are false.
+    pub fn add_parts(&self, names: &Names, page: &mut Page) -> Result<Vec<&'p Expr>, WhyErr> {
         let parts = parts_of(self.alloc, self.node)?;
         let mut found = Vec::new(self.alloc);
         for i in 0..parts.len() {
             let enforce = only(self.alloc, &parts, i)?;
-            if self.holds(enforce)? == Some(false) {
+            if self.is_false(names, parts[i], enforce, page)? {
                 add_part(parts[i], &mut found)?;
             }
         }
@@ -168,6 +211,9 @@ impl<'p> Probe<'p> {
         let name = name.copy(self.alloc)?;
         let read = Expr::new(self.alloc, guarantee.span, ExprKind::Name(name))?;
         let enforce = joined(self.alloc, Op2::And, whole, read)?;
-        self.holds(Some(enforce))
+        match self.made(Some(enforce))? {
+            None => Ok(None),
+            Some(made) => Ok(self.holds(&made)?),
+        }
     }
 }

@@ -6,16 +6,16 @@ ghost use Rattle.hp_play.specs.Plays.{IsOutcome};
 
 use crate::because::Cause;
 use crate::error::WhyErr;
-use crate::legend::add_legend;
+use crate::labels::{add_slots, add_text};
+use crate::machine::add_machine;
 use crate::names::Names;
-use crate::page::{Page, add_place};
+use crate::page::Page;
 use crate::parts::Probe;
-use crate::plays::Play;
 use crate::slots::{Slots, slots_of};
 use hp_abstract::{Abstraction, abstraction};
 use hp_boolx::BoolMachine;
 use hp_labels::labels_of;
-use hp_play::{Outcome, losing_play, replay};
+use hp_play::{Instant, Outcome, losing_play, replay};
 use hp_tree::{Expr, Node, Program};
 use std::alloc::{AllocError, Global};
 
@@ -69,22 +69,6 @@ pub fn reason_of<'a>(
     })
 }
 
-fn add_headline(count: usize, has_choice: bool, page: &mut Page) -> Result<(), AllocError> {
-    page.put(b": a violation of the contract is forced in ")?;
-    page.put_number(count)?;
-    page.put(if count == 1 {
-        b" instant"
-    } else {
-        b" instants"
-    })?;
-    page.put(if has_choice {
-        b", whatever is chosen."
-    } else {
-        b", there being nothing to choose."
-    })?;
-    page.end()
-}
-
 /// The guarantee of a node.
 fn guarantee(node: &Node) -> Option<&Expr> {
     match &node.contract {
@@ -93,98 +77,86 @@ fn guarantee(node: &Node) -> Option<&Expr> {
     }
 }
 
-/// Adds a part of the guarantee that is false.
-fn add_false_part(
-    alloc: Global,
-    names: &Names,
-    part: &Expr,
-    page: &mut Page,
-) -> Result<(), AllocError> {
-    let mut piece = Vec::new(alloc);
-    names.add_quoted(part.span, &mut piece)?;
-    piece.extend_from_slice(b" (")?;
-    add_place(part.span, &mut piece)?;
-    piece.extend_from_slice(b") is false")?;
-    page.begin("violated")?;
-    page.put(&piece)?;
-    page.end()
-}
-
 /// The node of which is told, and how its names are shown.
 #[derive(Clone, Copy)]
 struct Told<'t, 'a> {
+    alloc: Global,
     program: &'a Program,
     node: &'a Node,
     names: &'t Names<'a>,
 }
 
-impl<'a> Reason<'a> {
-    /// Adds what is violated at the last instant: parts of the guarantee, and why, or else the assumption of a node that is called.
-    fn add_violated(
-        &self,
-        told: &Told<'_, 'a>,
-        play: &Play,
-        page: &mut Page,
-    ) -> Result<(), WhyErr> {
-        let (Some(last), Some(guarantee)) = (play.instants.last(), guarantee(told.node)) else {
-            return Ok(play.add_assumptions(page)?);
+/// Adds the instants of a play: the values of all variables, and of registers and early ones whether they may differ.
+fn add_instants(play: &[Instant], page: &mut Page) -> Result<(), AllocError> {
+    for instant in play {
+        page.begin(b"instant")?;
+        page.bits(&instant.values)?;
+        page.bits(&instant.free)?;
+        page.end()?;
+    }
+    Ok(())
+}
+
+impl<'t, 'a> Told<'t, 'a> {
+    /// Adds what the contract assumes and enforces.
+    fn add_contract(&self, page: &mut Page) -> Result<(), AllocError> {
+        let Some(contract) = &self.node.contract else {
+            return Ok(());
         };
-        let probe = Probe::new(
-            play.alloc,
-            told.program,
-            told.node,
-            &self.made.machine,
-            &last.values,
-        );
-        let parts = probe.false_parts()?;
-        if parts.is_empty() {
-            return Ok(play.add_assumptions(page)?);
+        if let Some(assume) = &contract.assume {
+            page.begin(b"assume")?;
+            add_text(self.names, assume, page)?;
+            page.end()?;
         }
-        for part in &parts {
-            add_false_part(play.alloc, told.names, part, page)?;
+        if let Some(enforce) = &contract.enforce {
+            page.begin(b"enforce")?;
+            add_text(self.names, enforce, page)?;
+            page.end()?;
         }
-        Cause::new(told.names, probe, guarantee).add(told.node, &parts, page)
+        Ok(())
     }
 
-    fn add_play(&self, told: &Told<'_, 'a>, play: &Play, page: &mut Page) -> Result<(), WhyErr> {
-        let has_choice = !self.slots.controls.slots.is_empty();
-        add_headline(play.instants.len(), has_choice, page)?;
-        play.add_free_places(page)?;
-        play.add_instants(page)?;
-        self.add_violated(told, play, page)
+    /// Adds the parts of the guarantee, which of them are false at the last instant of a play, and why.
+    fn add_violated(
+        &self,
+        m: &BoolMachine,
+        play: &[Instant],
+        page: &mut Page,
+    ) -> Result<(), WhyErr> {
+        let (Some(last), Some(guarantee)) = (play.last(), guarantee(self.node)) else {
+            return Ok(());
+        };
+        let probe = Probe::new(self.alloc, self.program, self.node, m, &last.values);
+        let parts = probe.add_parts(self.names, page)?;
+        Cause::new(self.names, probe, guarantee).add(self.node, &parts, page)
     }
 }
 
-/// What is found of a node of a program with this text, in words.
-pub fn explain<'a>(
+/// What is found of a node of a program with this text, as lines of words (`tools/heptools/facts.py` reads them).
+pub fn facts<'a>(
     alloc: Global,
     text: &'a [u8],
     program: &'a Program,
     node: &'a Node,
     reason: &Reason<'a>,
-) -> Result<Vec<u8>, WhyErr> {
+) -> Result<Vec<u8>, WhyErr>
+    requires { IsOutcome (game reason.now.made.machine) reason.now.outcome }
+{
     let names = Names::new(alloc, text, program, node)?;
+    let told = Told {
+        alloc,
+        program,
+        node,
+        names: &names,
+    };
     let mut page = Page::new(alloc);
-    page.put(node.name.bytes())?;
-    match &reason.outcome {
-        Outcome::Kept => {
-            let counts = reason.made.machine.counts;
-            add_legend(alloc, &names, &reason.slots, counts, &mut page)?;
-        }
-        Outcome::Lost { play } => {
-            let shown = Play {
-                alloc,
-                names: &names,
-                slots: &reason.slots,
-                instants: play,
-            };
-            let told = Told {
-                program,
-                node,
-                names: &names,
-            };
-            reason.add_play(&told, &shown, &mut page)?;
-        }
+    let m = &reason.made.machine;
+    add_machine(m, &mut page)?;
+    add_slots(&names, &reason.slots, &mut page)?;
+    told.add_contract(&mut page)?;
+    if let Outcome::Lost { play } = &reason.outcome {
+        add_instants(play, &mut page)?;
+        told.add_violated(m, play, &mut page)?;
     }
     Ok(page.into_text())
 }

@@ -1,7 +1,6 @@
 //! The slots of a node with their variables.
 
-use crate::values::count_of;
-use hp_abstract::{Abstraction, Given, Shape};
+use hp_abstract::{Abstraction, Given, Shape, shape_width};
 use hp_boolx::BoolMachine;
 use hp_labels::{Label, Subject, Values};
 use std::alloc::{AllocError, Global};
@@ -30,16 +29,15 @@ pub struct Slots<'a> {
     pub late: Row<'a>,
 }
 
-/// The least number of bits that give so many values a code.
-fn bits_of(count: usize) -> usize {
-    let mut codes: usize = 1;
-    for bits in 0..64 {
-        if count <= codes {
-            return bits;
-        }
-        codes = codes.saturating_mul(2);
+/// The shape of values.
+fn shape_of(values: Values) -> Shape {
+    match values {
+        Values::Truth => Shape::Truth,
+        Values::Constructors(cons) => Shape::Cons { count: cons.len() },
+        Values::States(states) => Shape::Cons {
+            count: states.len(),
+        },
     }
-    64
 }
 
 /// Whether these are the values of a shape.
@@ -60,7 +58,7 @@ impl<'a> Row<'a> {
     }
 
     fn add(&mut self, label: Label<'a>) -> Result<(), AllocError> {
-        let width = bits_of(count_of(label.values));
+        let width = shape_width(shape_of(label.values));
         self.slots.push(Slot {
             label,
             first: self.next,

@@ -1,23 +1,9 @@
 //! The values of slots.
 
-use crate::slots::Slot;
 use hp_base::Name;
 use hp_labels::Values;
 use hp_tree::State;
 use std::alloc::AllocError;
-
-/// The number that the bits of a slot are, where variables have these values.
-pub fn number_at(slot: &Slot, values: &[bool]) -> usize {
-    let mut number: usize = 0;
-    for i in 0..slot.width {
-        let bit = values.get(slot.first.saturating_add(i));
-        number = number.saturating_mul(2);
-        if bit == Some(&true) {
-            number = number.saturating_add(1);
-        }
-    }
-    number
-}
 
 fn add_constructor(cons: &[Name], number: usize, into: &mut Vec<u8>) -> Result<(), AllocError> {
     match cons.get(number) {

@@ -1,10 +1,10 @@
-//! The program `hept-why`: it says why the contract of a node is lost, by a play of its game, or what the variables of its certificate stand for. Invariant: a play was replayed before it is printed. Used by `tools/hept-why`, which has the words of `hept` for a text that is refused.
+//! The program that finds why the contract of a node is kept or lost, and writes it as lines of words. Invariant: nothing is written but what `hp_reasons` found. Used by `tools/hept-why`, which tells it, and has the words of `hept` for a text that is refused.
 #![tactic(auto)]
 
 use hp_base::What;
 use hp_compile::{Refusal, front};
 use hp_io::{Folder, ReadErr, RealFolder, write_whole};
-use hp_reasons::{WhyErr, explain, reason_of};
+use hp_reasons::{WhyErr, facts, reason_of};
 use hp_tree::{Item, Node, Program};
 use std::alloc::{AllocError, Global};
 use std::process::ExitCode;
@@ -65,11 +65,11 @@ fn unexplained(e: &WhyErr) -> Fault {
     }
 }
 
-/// What is found of the contract of a node, in words.
+/// What is found of the contract of a node.
 fn explained(alloc: Global, text: &[u8], program: &Program, node: &Node) -> Result<Vec<u8>, Fault> {
     match reason_of(alloc, program, node) {
         Err(e) => Err(unexplained(&e)),
-        Ok(reason) => match explain(alloc, text, program, node, &reason) {
+        Ok(reason) => match facts(alloc, text, program, node, &reason) {
             Ok(text) => Ok(text),
             Err(e) => Err(unexplained(&e)),
         },
