@@ -17,7 +17,7 @@ use Rattle.hp_exec.specs.Bounds.{longest_chain, instance_count}
 use Rattle.hp_exec.specs.Executors.{Executor}
 use Rattle.hp_exec.specs.declared.error.ExecErr.{ExecErr}
 use Rattle.hp_exec.specs.declared.error.ExecErr.TheVariants.{NoNode, Limit as Passed}
-use Rattle.hp_obc.specs.Form.{TypesForm}
+use Rattle.hp_obc.specs.Form.{TypesForm, machine_named}
 use Rattle.hp_obc.specs.Machines.{Obc}
 use Rattle.hp_obctext.specs.Answers.{IsTextOf}
 use Rattle.hp_obctext.proofs.FormMachines.{file_form}
