@@ -20,6 +20,7 @@ use Rattle.hp_tree.specs.Programs.{Node}
 use Rattle.hp_machines.specs.Machined.{heading_of_machine, heading_of_node, headings_of}
 use Rattle.hp_obc.specs.Form.{machine_named}
 use Rattle.hp_obc.specs.Machines.{Machine, Obc}
+use Rattle.hp_obc.specs.Steps.{Memory}
 use Rattle.hp_cert.specs.declared.checking.Proved.TheVariants.{Lose}
 use Rattle.hp_cert.specs.declared.certtext.error.CertErr.{CertErr}
 use Rattle.hp_cert.specs.declared.certtext.error.CertErr.TheVariants as certificate
@@ -29,7 +30,10 @@ use Rattle.hp_verdicts.specs.declared.error.ContractErr.TheVariants as contract
 use Rattle.law_decided.specs.Outcomes.{RefusesInGame, RefusesInGames}
 use Rattle.hp_driver.specs.Answers.{IsAnswer}
 use Rattle.hp_driver.specs.BadLines.{bad_line_line}
-use Rattle.hp_driver.specs.Claim.{AllKept, Certifies, DoesTheSame, Ends, IsReadAs, LacksFile, IsTrace, Program}
+use Rattle.hp_driver.specs.Asking.{AsksToChoose, AsksToRun}
+use Rattle.hp_driver.specs.Claim.{Does, Ends}
+use Rattle.hp_driver.specs.ClaimTerms.{AllKept, Certifies, Choose, DoesTheSame, IsOwnOf, IsReadAs, IsTellerOf, IsTrace, LacksFile, Program, Runs, Starts}
+use Rattle.hp_driver.specs.Checkpoints.{IsCheckpointOf, memory_past}
 use Rattle.hp_driver.specs.Command.{IsRunOf, IsTellOf, IsCheckOf, IsExecOf, IsPastOf, IsVerifyOf, IsSweepOf, IsNoSegment, IsSegmentOf, IsOver, IsOverSource, IsOverContract, Writes, no_node_line, verdict_text, accepted_text}
 use Rattle.hp_driver.specs.Commanded.{Spells, SpellsSegment, file_of}
 use Rattle.hp_driver.specs.Diagnostics.{behind_forced, certificate_status, contract_line, forced_line, refusal_line, too_long_line}
@@ -37,13 +41,14 @@ use Rattle.hp_driver.specs.Happened.{Happened}
 use Rattle.hp_driver.specs.Leaves.{IsPrinted, Leaves}
 use Rattle.hp_driver.specs.Lines.{lines_of}
 use Rattle.hp_driver.specs.Log.{heard, said, has_ended}
-use Rattle.hp_driver.specs.Outcome.{Outcome, IsHeld, AreWritten, AreAskedFor, AsksToChoose, AsksToRun, HasContract, IsAskedFor}
+use Rattle.hp_driver.specs.Outcome.{Outcome, IsHeld, AreChosen, AreWritten, AreAskedFor, HasContract, IsAskedFor, LacksNode}
 use Rattle.hp_driver.specs.PastOutcome.{PastOutcome, unfolded_text}
-use Rattle.hp_driver.specs.Segments.{CallOutcome}
+use Rattle.hp_driver.specs.Segments.{AreRun, Begins, CallOutcome, IsRunnable, SegmentRun, Stops, Traced, memory_after, run_words}
 use Rattle.hp_driver.specs.Status.{code_of}
-use Rattle.hp_driver.specs.Systems.{System, inputs_of, Gives}
+use Rattle.hp_driver.specs.Systems.{System, inputs_of, of_machine, Gives}
 use Rattle.hp_driver.specs.Values.{first_bad, inputs_until}
-use Rattle.hp_driver.specs.Written.{WrittenLaw}
+use Rattle.hp_driver.specs.WrittenText.{WritesText}
+use Rattle.hp_driver.specs.Written.{CompiledLaw, WrittenLaw}
 use Rattle.hp_driver.specs.declared.status.Status.{Status}
 use Rattle.hp_driver.specs.declared.status.Status.TheVariants.{NoMemory, ReadFailed}
 use Rattle.hp_driver.specs.declared.trace_limits.BadLine.{BadLine}
@@ -51,7 +56,7 @@ use Rattle.hp_driver.specs.declared.words.Command.{Command}
 use Rattle.hp_driver.specs.declared.words.Segment.{Segment}
 use Rattle.hp_driver.proofs.GoodLines.{same_up_to}
 use Rattle.hp_driver.proofs.OutcomeLaws.{over_of}
-use Rattle.hp_driver.proofs.SourceCalls.{first_heading, other_headings}
+use Rattle.hp_driver.proofs.NamedLaws.{machine_of_node}
 
 some_same : {A : Type 0} (a b : A) → Some a ≡ Some b → a ≡ b
 some_same a b e = ap (λ o. unwrap_or o a) e
@@ -116,30 +121,6 @@ module _ (words : List (List ℕ)) (files left : Files) where
   untouched status (Leaves.saved {out = o} w there is same) f g h = absurd (elim h [ inl n ↦ n refl | inr n ↦ n o (Writes.a_checkpoint w) ])
   untouched status (Leaves.saved_in_part why w there is b c) f g h = absurd (elim why [ inl e ↦ f e | inr e ↦ g e ])
 
--- ---- the machine of a node
-
-machine_of_node : (items : List Item) (ms : List Machine) (f : List ℕ) (n : Node) → map heading_of_machine ms ≡ headings_of items → node_among items f ≡ Some n → (m : Machine) × (machine_named ms f ≡ Some m)
-machine_of_node [] ms f n e h = absurd cc
-machine_of_node (TypeItem t ∷ items) ms f n e h = machine_of_node items ms f n e h
-machine_of_node (NodeItem k ∷ items) [] f n e h = absurd cc
-machine_of_node (NodeItem k ∷ items) (m ∷ ms) f n e h =
-    by (bytes_eq m.name f) refl (λ named. machine_of_node items ms f n (other_headings (heading_of_machine m) (heading_of_node k) (map heading_of_machine ms) (headings_of items) e) named)
-  where
-    same : bytes_eq k.name f ≡ bytes_eq m.name f
-    same = ap (λ z. bytes_eq z.name f) (sym (first_heading (heading_of_machine m) (heading_of_node k) (map heading_of_machine ms) (headings_of items) e))
-
-    by : (b : Bool) → bytes_eq m.name f ≡ b → (node_among items f ≡ Some n → (x : Machine) × (machine_named ms f ≡ Some x)) → (x : Machine) × (machine_named (m ∷ ms) f ≡ Some x)
-    by true q rest = (m, ap (λ d. if d then Some m else machine_named ms f) q)
-    by false q rest =
-        let found = rest (sym (ap (λ d. if d then Some k else node_among items f) (same ∙ q)) ∙ h) in (found.0, ap (λ d. if d then Some m else machine_named ms f) q ∙ found.1)
-
-no_node_named : (items : List Item) (ms : List Machine) (f : List ℕ) → map heading_of_machine ms ≡ headings_of items → machine_named ms f ≡ None → node_among items f ≡ None
-no_node_named items ms f e none = by (node_among items f) refl
-  where
-    by : (o : Option Node) → node_among items f ≡ o → node_among items f ≡ None
-    by None h = h
-    by (Some n) h = let found = machine_of_node items ms f n e h in absurd (cc (found.1, none))
-
 -- ---- traces
 
 same_inputs_answer : (s : System) (xs ys : List (List ℕ)) (bytes : List ℕ) → inputs_until (inputs_of s) 1 ys ≡ inputs_until (inputs_of s) 1 xs → IsAnswer s xs bytes → IsAnswer s ys bytes
@@ -151,16 +132,16 @@ pub record IsHeard (input : List ℕ) (log : List Event) : Type 0 where
   pub are : input ≡ heard log ++ rest
   pub end : has_ended log ≡ true → rest ≡ []
 
-module _ (input : List ℕ) (log : List Event) (h : IsHeard input log) (s : System) where
-  all_heard : has_ended log ≡ true → heard log ≡ input
-  all_heard e = sym (append-nil (heard log)) ∙ sym (ap (λ z. heard log ++ z) (h.end e)) ∙ sym h.are
+all_heard : (input : List ℕ) (log : List Event) → IsHeard input log → has_ended log ≡ true → heard log ≡ input
+all_heard input log h e = sym (append-nil (heard log)) ∙ sym (ap (λ z. heard log ++ z) (h.end e)) ∙ sym h.are
 
+module _ (input : List ℕ) (log : List Event) (h : IsHeard input log) (s : System) where
   whole_trace : has_ended log ≡ true → IsAnswer s (lines_of true (heard log)) (said log) → first_bad (inputs_of s) 1 (lines_of true (heard log)) ≡ None → IsTrace s (lines_of true input) (said log) [] 0
-  whole_trace e answer good = subst (λ z. IsTrace s (lines_of true z) (said log) [] 0) (all_heard e) (IsTrace.whole answer good)
+  whole_trace e answer good = subst (λ z. IsTrace s (lines_of true z) (said log) [] 0) (all_heard input log h e) (IsTrace.whole answer good)
 
   broken_by : (b : Bool) → has_ended log ≡ b → (bad : BadLine) → IsAnswer s (lines_of b (heard log)) (said log) → first_bad (inputs_of s) 1 (lines_of b (heard log)) ≡ Some bad →
       IsTrace s (lines_of true input) (said log) (bad_line_line bad) 3
-  broken_by true e bad answer fault = subst (λ z. IsTrace s (lines_of true z) (said log) (bad_line_line bad) 3) (all_heard e) (IsTrace.broken bad answer fault)
+  broken_by true e bad answer fault = subst (λ z. IsTrace s (lines_of true z) (said log) (bad_line_line bad) 3) (all_heard input log h e) (IsTrace.broken bad answer fault)
   broken_by false e bad answer fault =
       let all = lines_of true (heard log ++ h.rest) in
       let same = same_up_to (inputs_of s) (heard log) h.rest bad fault in
@@ -185,6 +166,10 @@ program_of files file program held = record {
   arranged = held.arranged;
 }
 
+-- machines that choose
+choosing : (files : Files) (file : List ℕ) (o : Obc) (chosen : AreChosen (Some files) file o) → Choose (program_of files file chosen.program chosen.held) o
+choosing files file o chosen = record { kept = chosen.kept.safe; says = chosen.says }
+
 -- what stands behind the line of a contract that is lost
 loss_text : (m : BoolMachine) (wide : Bool) (instants : ℕ) (text : Option (List ℕ)) → ShowsLoss m wide instants text → Certifies (behind_forced text) (Lose instants) ⊎ (behind_forced text ≡ too_long_line Text)
 loss_text m wide instants None h = inr refl
@@ -201,8 +186,8 @@ refused_status certificate.OutOfMemory e = omega (arith, e)
 
 module _ (words : List (List ℕ)) (files left : Files) (input : List ℕ) where
   -- a row over the files that are left
-  at_left : (z : Files) (bytes line : List ℕ) (status : ℕ) → left ≡ z → Ends words files input bytes line z status → Ends words files input bytes line left status
-  at_left z bytes line status e row = subst (λ y. Ends words files input bytes line y status) (sym e) row
+  at_left : (z : Files) (bytes line : List ℕ) (status : ℕ) → left ≡ z → Does words files input bytes line z status → Does words files input bytes line left status
+  at_left z bytes line status e row = subst (λ y. Does words files input bytes line y status) (sym e) row
 
   module _ (law : WrittenLaw) (none : IsNoSegment words) where
     does_the_same : (file text : List ℕ) (o : Obc) (written : AreWritten (Some files) file o) → IsPrinted o text → DoesTheSame text written.compiled.held.clocked
@@ -218,24 +203,27 @@ module _ (words : List (List ℕ)) (files left : Files) (input : List ℕ) where
         )
 
     -- a command that writes a file did what it is for
-    wrote : (status : ℕ) → Leaves words (Some files) (Some left) status → status ≡ 0 → (out : List ℕ) → Writes words out → Ends words files input [] [] left status
+    wrote : (status : ℕ) → Leaves words (Some files) (Some left) status → status ≡ 0 → (out : List ℕ) → Writes words out → Does words files input [] [] left status
     wrote status (Leaves.as_they_were same not) e out w = absurd (not out w e)
     wrote status (Leaves.written {file = f} {out = o} {text = t} {o = ms} w written printed same) e out x =
         let compiled = written.compiled in
         let z = finmap.insert files o t in
         at_left z [] [] 0 (some_same left z same)
-        (Ends.compiled t (program_of files f compiled.program compiled.held) w compiled.kept.safe compiled.uncontrolled (does_the_same f t ms written printed))
+        (Does.compiled t (program_of files f compiled.program compiled.held) w compiled.kept.safe compiled.uncontrolled (does_the_same f t ms written printed))
     wrote status (Leaves.in_part why w written printed b c) e out x = absurd (elim why [ inl k ↦ omega (arith, e, k) | inr k ↦ omega (arith, e, k) ])
-    wrote status (Leaves.chosen_written {file = f} {out = o} w chosen some printed same) e out x = Ends.chosen (program_of files f chosen.program chosen.held) (inr w) chosen.kept.safe some
+    wrote status (Leaves.chosen_written {file = f} {out = o} {text = t} {o = ms} w chosen some printed same) e out x =
+        let z = finmap.insert files o t in
+        at_left z [] [] 0 (some_same left z same)
+        (Does.chosen_compiled t (program_of files f chosen.program chosen.held) w some (choosing files f ms chosen) printed.stands)
     wrote status (Leaves.chosen_in_part why w chosen some printed b c) e out x = absurd (elim why [ inl k ↦ omega (arith, e, k) | inr k ↦ omega (arith, e, k) ])
     wrote status (Leaves.unfolded {file = f} {out = o} {program = p} w holds short same) e out x =
-        let z = finmap.insert files o (unfolded_text p) in at_left z [] [] 0 (some_same left z same) (Ends.unfolded w holds.gives holds.program_of)
+        let z = finmap.insert files o (unfolded_text p) in at_left z [] [] 0 (some_same left z same) (Does.unfolded w holds.gives holds.program_of)
     wrote status (Leaves.unfolded_in_part why w holds b c) e out x = absurd (elim why [ inl k ↦ omega (arith, e, k) | inr k ↦ omega (arith, e, k) ])
     wrote status (Leaves.proved {file = f} {name = name} {cert = o} {text = t} w there proof same) e out x =
         let z = finmap.insert files o t in
         let certified = proof.proof.certified in
         at_left z [] [] 0 (some_same left z same)
-        (Ends.proved there.node (verdict_of certified.certificate.claim) (program_of files f there.program there.held) w there.named proof.verdict
+        (Does.proved there.node (verdict_of certified.certificate.claim) (program_of files f there.program there.held) w there.named proof.verdict
         (certified.certificate, certified.text_is, refl))
     wrote status (Leaves.proof_in_part why w there proof b c) e out x = absurd (elim why [ inl k ↦ omega (arith, e, k) | inr k ↦ omega (arith, e, k) ])
     wrote status (Leaves.saved {file = f} {node = n} {out = o} {from = m} w there is same) e out x = absurd (none f n m o w)
@@ -244,22 +232,22 @@ module _ (words : List (List ℕ)) (files left : Files) (input : List ℕ) where
   module _ (same : left ≡ files) where
     -- the first contract that is refused
     first_refused : (file : List ℕ) (program : List Item) (cause : ContractErr) → IsOverSource words file → (held : IsHeld (Some files) file program) → cause ≢ contract.OutOfMemory → RefusesInGames held.clocked cause →
-        Ends words files input [] (contract_line cause) left 1
+        Does words files input [] (contract_line cause) left 1
     first_refused file program (contract.Forced name instants cert) over held differs r =
         let n = r.refused.node in
         let behind = option_map (λ text. text.items) cert in
         let shown = r.refused.refused.2 in
         at_left files [] (forced_line name instants (behind_forced behind)) 1 same
-        (subst (λ z. Ends words files input [] (forced_line z instants (behind_forced behind)) files 1) (sym r.refused.refused.0)
-        (Ends.lost n instants (program_of files file program held) over (r.refused.before, r.refused.behind, r.refused.stands, r.before) r.says
+        (subst (λ z. Does words files input [] (forced_line z instants (behind_forced behind)) files 1) (sym r.refused.refused.0)
+        (Does.lost n instants (program_of files file program held) over (r.refused.before, r.refused.behind, r.refused.stands, r.before) r.says
         (loss_text shown.forced.machine (is_wide_contract n.contract) instants behind shown.shown)))
     first_refused file program (contract.Assume name at) over held differs r =
         at_left files [] (contract_line (contract.Assume name at)) 1 same
-        (Ends.undecided r.refused.node (contract.Assume name at) (program_of files file program held) over
+        (Does.undecided r.refused.node (contract.Assume name at) (program_of files file program held) over
         (r.refused.before, r.refused.behind, r.refused.stands, r.before) (r.refused.refused.0, r.says))
     first_refused file program (contract.Limit name limit) over held differs r =
         at_left files [] (contract_line (contract.Limit name limit)) 1 same
-        (Ends.undecided r.refused.node (contract.Limit name limit) (program_of files file program held) over
+        (Does.undecided r.refused.node (contract.Limit name limit) (program_of files file program held) over
         (r.refused.before, r.refused.behind, r.refused.stands, r.before) (r.refused.refused.0, r.says))
     first_refused file program contract.TooLong over held differs r = absurd r.says
     first_refused file program contract.NotBuilt over held differs r = absurd r.says
@@ -267,65 +255,54 @@ module _ (words : List (List ℕ)) (files left : Files) (input : List ℕ) where
 
     -- the contract of a node that has no machine
     no_verdict : (file name : List ℕ) (cause : ContractErr) → IsOverContract words file name → (c : HasContract (Some files) file name) → cause ≢ contract.OutOfMemory → RefusesInGame c.held.clocked c.node cause →
-        Ends words files input [] (contract_line cause) left 1
+        Does words files input [] (contract_line cause) left 1
     no_verdict file name (contract.Forced node instants cert) k c differs r = absurd r.refused
     no_verdict file name (contract.Assume node at) k c differs r =
         at_left files [] (contract_line (contract.Assume node at)) 1 same
-        (Ends.no_verdict c.node (contract.Assume node at) (program_of files file c.program c.held) k c.named (r.refused.0, r.says))
+        (Does.no_verdict c.node (contract.Assume node at) (program_of files file c.program c.held) k c.named (r.refused.0, r.says))
     no_verdict file name (contract.Limit node limit) k c differs r =
         at_left files [] (contract_line (contract.Limit node limit)) 1 same
-        (Ends.no_verdict c.node (contract.Limit node limit) (program_of files file c.program c.held) k c.named (r.refused.0, r.says))
+        (Does.no_verdict c.node (contract.Limit node limit) (program_of files file c.program c.held) k c.named (r.refused.0, r.says))
     no_verdict file name contract.TooLong k c differs r = absurd r.says
     no_verdict file name contract.NotBuilt k c differs r = absurd r.says
     no_verdict file name contract.OutOfMemory k c differs r = absurd (differs refl)
 
-    -- nothing runs that is asked for
-    choosing : (file : List ℕ) (program : List Item) (bytes line : List ℕ) (status : ℕ) → AsksToChoose words file program → (held : IsHeld (Some files) file program) → AllKept (program_of files file program held) →
-        Ends words files input bytes line left status
-    choosing file program bytes line status (AsksToChoose.to_run w some) held kept = Ends.chosen (program_of files file program held) (inl w) kept some
-    choosing file program bytes line status (AsksToChoose.to_tell w) held kept = at_left files bytes line status same (Ends.told (program_of files file program held) w kept)
-    choosing file program bytes line status (AsksToChoose.to_compile w some) held kept = Ends.chosen (program_of files file program held) (inr w) kept some
-
-    running : (file name : List ℕ) (program : List Item) → AsksToRun words file name program → AsksToChoose words file program
-    running file name program (AsksToRun.to_run w some) = AsksToChoose.to_run w some
-    running file name program (AsksToRun.to_tell w) = AsksToChoose.to_tell w
-
     no_node_to_run : (file name : List ℕ) (program : List Item) → AsksToRun words file name program → (held : IsHeld (Some files) file program) → AllKept (program_of files file program held) →
-        node_among held.clocked name ≡ None → Ends words files input [] (no_node_line name) left 1
+        node_among held.clocked name ≡ None → Does words files input [] (no_node_line name) left 1
     no_node_to_run file name program (AsksToRun.to_run w some) held kept unnamed =
-        at_left files [] (no_node_line name) 1 same (Ends.no_node_to_run (program_of files file program held) kept (inl w) unnamed)
+        at_left files [] (no_node_line name) 1 same (Does.no_node_to_run (program_of files file program held) kept (inl w) unnamed)
     no_node_to_run file name program (AsksToRun.to_tell w) held kept unnamed =
-        at_left files [] (no_node_line name) 1 same (Ends.no_node_to_run (program_of files file program held) kept (inr w) unnamed)
+        at_left files [] (no_node_line name) 1 same (Does.no_node_to_run (program_of files file program held) kept (inr w) unnamed)
 
-    no_machine : (name : List ℕ) (o : Obc) → AreAskedFor words (Some files) name o → machine_named o.machines name ≡ None → Ends words files input [] (no_node_line name) left 1
-    no_machine name o (AreAskedFor.in_text w ms) unnamed = at_left files [] (no_node_line name) 1 same (Ends.no_machine w ms.held ms.read unnamed)
+    no_machine : (name : List ℕ) (o : Obc) (asked : AreAskedFor words (Some files) name o) → LacksNode words (Some files) name o asked → Does words files input [] (no_node_line name) left 1
+    no_machine name o (AreAskedFor.in_text w ms) unnamed = at_left files [] (no_node_line name) 1 same (Does.no_machine w ms.held ms.read unnamed)
     no_machine name o (AreAskedFor.of_program {file = f} w compiled) unnamed =
         at_left files [] (no_node_line name) 1 same
-        (Ends.no_node_to_run (program_of files f compiled.program compiled.held) compiled.kept.safe (inl w)
-        (no_node_named compiled.held.clocked o.machines name compiled.machines.machines unnamed))
+        (Does.no_node_to_run (program_of files f compiled.program compiled.held) compiled.kept.safe (inl w) unnamed)
 
     -- what is run on a trace
-    ran : (s : System) (bytes line : List ℕ) (status : ℕ) → IsAskedFor words (Some files) s → IsTrace s (lines_of true input) bytes line status → Ends words files input bytes line left status
+    ran : (s : System) (bytes line : List ℕ) (status : ℕ) → IsAskedFor words (Some files) s → IsTrace s (lines_of true input) bytes line status → Does words files input bytes line left status
     ran s bytes line status (IsAskedFor.a_node {file = f} w compiled there) t =
-        at_left files bytes line status same (Ends.ran (program_of files f compiled.program compiled.held) w compiled.kept.safe compiled.uncontrolled t)
-    ran s bytes line status (IsAskedFor.a_machine w ms there) t = at_left files bytes line status same (Ends.executed there.machine w ms.held ms.read there.named t)
-    ran s bytes line status (IsAskedFor.a_chosen_node {file = f} n w chosen some named there is) t = Ends.chosen (program_of files f chosen.program chosen.held) (inl w) chosen.kept.safe some
-    ran s bytes line status (IsAskedFor.a_contract {file = f} n w chosen named some there is) t =
-        at_left files bytes line status same (Ends.told (program_of files f chosen.program chosen.held) w chosen.kept.safe)
-    ran s bytes line status (IsAskedFor.no_contract {file = f} n w chosen named without there is) t =
-        at_left files bytes line status same (Ends.told (program_of files f chosen.program chosen.held) w chosen.kept.safe)
+        at_left files bytes line status same (Does.ran (program_of files f compiled.program compiled.held) w compiled.kept.safe compiled.uncontrolled t)
+    ran s bytes line status (IsAskedFor.a_machine w ms there) t = at_left files bytes line status same (Does.executed there.machine w ms.held ms.read there.named t)
+    ran s bytes line status (IsAskedFor.a_chosen_node {file = f} {o = o} n w chosen some named there is) t =
+        at_left files bytes line status same (Does.chose (program_of files f chosen.program chosen.held) w some (choosing files f o chosen) (IsOwnOf.own n named is) t)
+    ran s bytes line status (IsAskedFor.a_contract {file = f} {o = o} n w chosen named some there is) t =
+        at_left files bytes line status same (Does.told (program_of files f chosen.program chosen.held) w (choosing files f o chosen) (IsTellerOf.with_contract n named some is) t)
+    ran s bytes line status (IsAskedFor.no_contract {file = f} {o = o} n w chosen named without there is) t =
+        at_left files bytes line status same (Does.told (program_of files f chosen.program chosen.held) w (choosing files f o chosen) (IsTellerOf.without n named without is) t)
 
     -- the program without the formulas of its contracts was not written
-    past_refused : (file out line : List ℕ) (status : ℕ) → IsPastOf words file out → PastOutcome (Some files) file line status → status ≢ 0 → status ≢ 5 → Ends words files input [] line left status
-    past_refused file out line status w (PastOutcome.too_long long) f g = at_left files [] (too_long_line Size) 1 same (Ends.too_long (IsReadAs.a_tree w) long)
-    past_refused file out line status w (PastOutcome.refused text cause gives causes unread) f g = at_left files [] (refusal_line cause) 1 same (Ends.no_program cause w gives unread causes)
-    past_refused file out line status w (PastOutcome.too_long_unfolded holds long) f g = at_left files [] (too_long_line Size) 1 same (Ends.long_unfolded w holds.gives holds.program_of long)
+    past_refused : (file out line : List ℕ) (status : ℕ) → IsPastOf words file out → PastOutcome (Some files) file line status → status ≢ 0 → status ≢ 5 → Does words files input [] line left status
+    past_refused file out line status w (PastOutcome.too_long long) f g = at_left files [] (too_long_line Size) 1 same (Does.too_long (IsReadAs.a_tree w) long)
+    past_refused file out line status w (PastOutcome.refused text cause gives causes unread) f g = at_left files [] (refusal_line cause) 1 same (Does.no_program cause w gives unread causes)
+    past_refused file out line status w (PastOutcome.too_long_unfolded holds long) f g = at_left files [] (too_long_line Size) 1 same (Does.long_unfolded w holds.gives holds.program_of long)
     past_refused file out line status w (PastOutcome.written holds short back tells) f g = absurd (f refl)
     past_refused file out line status w (PastOutcome.not_written holds short) f g = absurd (g refl)
 
   -- a program is written without them, or is not
   past_ended : (law : WrittenLaw) (none : IsNoSegment words) (file out line : List ℕ) (status : ℕ) → IsPastOf words file out → PastOutcome (Some files) file line status →
-      Leaves words (Some files) (Some left) status → status ≢ 5 → status ≢ 6 → Ends words files input [] line left status
+      Leaves words (Some files) (Some left) status → status ≢ 5 → status ≢ 6 → Does words files input [] line left status
   past_ended law none file out line status w (PastOutcome.written holds short back tells) leaves g h = wrote law none 0 leaves refl out (Writes.a_source w)
   past_ended law none file out line status w (PastOutcome.not_written holds short) leaves g h = absurd (g refl)
   past_ended law none file out line status w (PastOutcome.too_long long) leaves g h =
@@ -351,52 +328,53 @@ module _ (words : List (List ℕ)) (files left : Files) (input : List ℕ) where
     ]
 
     ended : (log : List Event) (line : List ℕ) (status : ℕ) → Outcome words (Some files) log line status → IsHeard input log → Leaves words (Some files) (Some left) status → status ≢ 4 → status ≢ 5 → status ≢ 6 →
-        Ends words files input (said log) line left status
-    ended log line status (Outcome.usage w) h leaves e f g = let same = untouched words files left 2 leaves f g (inl (λ k. omega (arith, k))) in at_left files [] line 2 same (Ends.usage w)
+        Does words files input (said log) line left status
+    ended log line status (Outcome.usage w) h leaves e f g = let same = untouched words files left 2 leaves f g (inl (λ k. omega (arith, k))) in at_left files [] line 2 same (Does.usage w)
     ended log line status (Outcome.unread w) h leaves e f g = absurd (e refl)
     ended log line status Outcome.no_memory h leaves e f g = absurd (g refl)
-    ended log line status (Outcome.too_long w long) h leaves e f g = let same = untouched words files left 1 leaves f g (inl (λ k. omega (arith, k))) in at_left files [] line 1 same (Ends.too_long (IsReadAs.a_source w) long)
+    ended log line status (Outcome.too_long w long) h leaves e f g = let same = untouched words files left 1 leaves f g (inl (λ k. omega (arith, k))) in at_left files [] line 1 same (Does.too_long (IsReadAs.a_source w) long)
     ended log line status (Outcome.refused text cause w gives causes unheld) h leaves e f g =
-        let same = untouched words files left 1 leaves f g (inl (λ k. omega (arith, k))) in at_left files [] line 1 same (Ends.refused cause w gives unheld causes)
+        let same = untouched words files left 1 leaves f g (inl (λ k. omega (arith, k))) in at_left files [] line 1 same (Does.refused cause w gives unheld causes)
     ended log line status (Outcome.contract_refused {file = x} {program = p} cause over held some differs refuses) h leaves e f g =
         first_refused (untouched words files left 1 leaves f g (inl (λ k. omega (arith, k)))) x p cause over held differs refuses
     ended log line status (Outcome.not_built {file = x} {program = p} asks held kept) h leaves e f g =
-        choosing (untouched words files left 1 leaves f g (inl (λ k. omega (arith, k)))) x p [] line 1 asks held kept.safe
+        let same = untouched words files left 1 leaves f g (inl (λ k. omega (arith, k))) in at_left files [] line 1 same (Does.not_built (program_of files x p held) asks kept.safe)
     ended log line status (Outcome.no_node_to_run {file = x} {name = y} {program = p} asks held kept unnamed) h leaves e f g =
         no_node_to_run (untouched words files left 1 leaves f g (inl (λ k. omega (arith, k)))) x y p asks held kept.safe unnamed
-    ended log line status (Outcome.chosen_too_large {file = x} {node = y} limit chosen asks for passed) h leaves e f g =
-        let same = untouched words files left 1 leaves f g (inl (λ k. omega (arith, k))) in choosing same x chosen.program [] line 1 (running same x y chosen.program asks) chosen.held chosen.kept.safe
+    ended log line status (Outcome.chosen_too_large {file = x} {o = o} limit chosen asks for passed) h leaves e f g =
+        let same = untouched words files left 1 leaves f g (inl (λ k. omega (arith, k))) in
+        at_left files [] line 1 same (Does.chosen_too_large limit (program_of files x chosen.program chosen.held) asks (choosing files x o chosen) for passed)
     ended log line status (Outcome.accepted {file = x} {program = p} print w held kept) h leaves e f g =
         let same = untouched words files left 0 leaves f g (inr (writes_nothing 5099 (λ k. omega (arith, k)) (λ k. omega (arith, k)) (λ k. omega (arith, k)) words none (check_mark words x print w))) in
-        subst (λ z. Ends words files input z [] left 0) (sym (said_put (accepted_text print p))) (at_left files (accepted_text print p) [] 0 same (Ends.accepted print (program_of files x p held) w kept.safe))
+        subst (λ z. Does words files input z [] left 0) (sym (said_put (accepted_text print p))) (at_left files (accepted_text print p) [] 0 same (Does.accepted print (program_of files x p held) w kept.safe))
     ended log line status (Outcome.accepted_in_part print out rest w held kept k) h leaves e f g = absurd (f refl)
     ended log line status (Outcome.no_node {file = x} {program = p} w held unnamed) h leaves e f g =
-        let same = untouched words files left 1 leaves f g (inl (λ k. omega (arith, k))) in at_left files [] line 1 same (Ends.no_node (program_of files x p held) w unnamed)
+        let same = untouched words files left 1 leaves f g (inl (λ k. omega (arith, k))) in at_left files [] line 1 same (Does.no_node (program_of files x p held) w unnamed)
     ended log line status (Outcome.no_contract {file = x} {program = p} n w held named without) h leaves e f g =
-        let same = untouched words files left 1 leaves f g (inl (λ k. omega (arith, k))) in at_left files [] line 1 same (Ends.no_contract n (program_of files x p held) w named without)
+        let same = untouched words files left 1 leaves f g (inl (λ k. omega (arith, k))) in at_left files [] line 1 same (Does.no_contract n (program_of files x p held) w named without)
     ended log line status (Outcome.no_verdict {file = x} {name = y} cause w c differs refuses) h leaves e f g =
         no_verdict (untouched words files left 1 leaves f g (inl (λ k. omega (arith, k)))) x y cause w c differs refuses
     ended log line status (Outcome.long_proof {file = x} w c has long) h leaves e f g =
-        let same = untouched words files left 1 leaves f g (inl (λ k. omega (arith, k))) in at_left files [] line 1 same (Ends.not_proved (program_of files x c.program c.held) w)
+        let same = untouched words files left 1 leaves f g (inl (λ k. omega (arith, k))) in at_left files [] line 1 same (Does.not_proved (program_of files x c.program c.held) w)
     ended log line status (Outcome.proved {cert = o} w c proof) h leaves e f g = wrote law none 0 leaves refl o (Writes.a_certificate w)
     ended log line status (Outcome.proof_not_written w c proof) h leaves e f g = absurd (f refl)
     ended log line status (Outcome.unread_certificate w c has) h leaves e f g = absurd (e refl)
     ended log line status (Outcome.long_certificate w c has long) h leaves e f g =
-        let same = untouched words files left 1 leaves f g (inl (λ k. omega (arith, k))) in at_left files [] line 1 same (Ends.too_long (IsReadAs.a_certificate w) long)
+        let same = untouched words files left 1 leaves f g (inl (λ k. omega (arith, k))) in at_left files [] line 1 same (Does.too_long (IsReadAs.a_certificate w) long)
     ended log line status (Outcome.verified {file = x} {name = y} {cert = z} text p w c gives shows) h leaves e f g =
         let same = untouched words files left 0 leaves f g (inr (writes_nothing 6118 (λ k. omega (arith, k)) (λ k. omega (arith, k)) (λ k. omega (arith, k)) words none (verify_mark words x y z w))) in
-        subst (λ u. Ends words files input u [] left 0) (sym (said_put (verdict_text p)))
-        (at_left files (verdict_text p) [] 0 same (Ends.verified text c.node p (program_of files x c.program c.held) w c.named gives shows.holds))
+        subst (λ u. Does words files input u [] left 0) (sym (said_put (verdict_text p)))
+        (at_left files (verdict_text p) [] 0 same (Does.verified text c.node p (program_of files x c.program c.held) w c.named gives shows.holds))
     ended log line status (Outcome.verified_in_part text p out rest w c gives shows k) h leaves e f g = absurd (f refl)
     ended log line status (Outcome.certificate_refused {file = x} text cause w c gives differs refuses) h leaves e f g =
         let same = untouched words files left (certificate_status cause) leaves f g (inl (refused_status cause)) in
-        at_left files [] line (certificate_status cause) same (Ends.not_verified text cause (program_of files x c.program c.held) w gives differs)
-    ended log line status (Outcome.long_text w long) h leaves e f g = let same = untouched words files left 1 leaves f g (inl (λ k. omega (arith, k))) in at_left files [] line 1 same (Ends.too_long (IsReadAs.machines w) long)
-    ended log line status (Outcome.no_text text at w gives r) h leaves e f g = let same = untouched words files left 8 leaves f g (inl (λ k. omega (arith, k))) in at_left files [] line 8 same (Ends.no_text at w gives r)
-    ended log line status (Outcome.no_form text at w gives b) h leaves e f g = let same = untouched words files left 8 leaves f g (inl (λ k. omega (arith, k))) in at_left files [] line 8 same (Ends.no_form at w gives b)
+        at_left files [] line (certificate_status cause) same (Does.not_verified text cause (program_of files x c.program c.held) w gives differs)
+    ended log line status (Outcome.long_text w long) h leaves e f g = let same = untouched words files left 1 leaves f g (inl (λ k. omega (arith, k))) in at_left files [] line 1 same (Does.too_long (IsReadAs.machines w) long)
+    ended log line status (Outcome.no_text text at w gives r) h leaves e f g = let same = untouched words files left 8 leaves f g (inl (λ k. omega (arith, k))) in at_left files [] line 8 same (Does.no_text at w gives r)
+    ended log line status (Outcome.no_form text at w gives b) h leaves e f g = let same = untouched words files left 8 leaves f g (inl (λ k. omega (arith, k))) in at_left files [] line 8 same (Does.no_form at w gives b)
     ended log line status (Outcome.no_machine {node = y} {o = o} asked unnamed) h leaves e f g = no_machine (untouched words files left 1 leaves f g (inl (λ k. omega (arith, k)))) y o asked unnamed
     ended log line status (Outcome.too_large limit w ms passed) h leaves e f g =
-        let same = untouched words files left 1 leaves f g (inl (λ k. omega (arith, k))) in at_left files [] line 1 same (Ends.too_large limit w ms.held ms.read passed)
+        let same = untouched words files left 1 leaves f g (inl (λ k. omega (arith, k))) in at_left files [] line 1 same (Does.too_large limit w ms.held ms.read passed)
     ended log line status (Outcome.compiled {out = o} w written) h leaves e f g = wrote law none 0 leaves refl o (Writes.machines w)
     ended log line status (Outcome.not_written w written) h leaves e f g = absurd (f refl)
     ended log line status (Outcome.chosen_compiled {out = o} w chosen some) h leaves e f g = wrote law none 0 leaves refl o (Writes.machines w)
@@ -404,9 +382,9 @@ module _ (words : List (List ℕ)) (files left : Files) (input : List ℕ) where
     ended log line status (Outcome.past {file = x} {out = y} w past) h leaves e f g = past_ended law none x y line status w past leaves f g
     ended log line status (Outcome.swept {tasks = t} {instants = i} text w summary) h leaves e f g =
         let same = untouched words files left 0 leaves f g (inr (writes_nothing 5115 (λ k. omega (arith, k)) (λ k. omega (arith, k)) (λ k. omega (arith, k)) words none (sweep_mark words t i w))) in
-        subst (λ z. Ends words files input z [] left 0) (sym (said_put text)) (at_left files text [] 0 same (Ends.swept text w summary))
+        subst (λ z. Does words files input z [] left 0) (sym (said_put text)) (at_left files text [] 0 same (Does.swept text w summary))
     ended log line status (Outcome.swept_in_part text out rest w summary k) h leaves e f g = absurd (f refl)
-    ended log line status (Outcome.not_swept w) h leaves e f g = let same = untouched words files left 1 leaves f g (inl (λ k. omega (arith, k))) in at_left files [] line 1 same (Ends.not_swept w)
+    ended log line status (Outcome.not_swept w) h leaves e f g = let same = untouched words files left 1 leaves f g (inl (λ k. omega (arith, k))) in at_left files [] line 1 same (Does.not_swept w)
     ended log line status (Outcome.done {s = s} asked step end answer good) h leaves e f g =
         let same = untouched words files left 0 leaves f g (inr (runs_write_nothing s asked)) in ran same s (said log) [] 0 asked (whole_trace input log h s end answer good)
     ended log line status (Outcome.bad_line {s = s} bad asked step answer fault) h leaves e f g =
@@ -415,19 +393,97 @@ module _ (words : List (List ℕ)) (files left : Files) (input : List ℕ) where
     ended log line status (Outcome.put_failed rest asked step answer) h leaves e f g = absurd (f refl)
     ended log line status (Outcome.line_failed told b rest r) h leaves e f g = absurd (f refl)
 
-  -- the call ends so, where it is not for want of memory
-  call_ended : (law : WrittenLaw) (log : List Event) (line : List ℕ) (status : ℕ) → IsHeard input log → CallOutcome words (Some files) (Some left) log line status → Leaves words (Some files) (Some left) status →
+-- ---- `save` and `resume`
+
+-- the words of `run` ask for no checkpoint
+run_is_no_segment : (file node : List ℕ) → IsNoSegment (run_words file node)
+run_is_no_segment file node f n from out (IsSegmentOf.to_save w) = let e : 3114 ≡ 4115 = ap mark w.spelled in absurd (omega (arith, e))
+run_is_no_segment file node f n from out (IsSegmentOf.to_resume w) = let e : 3114 ≡ 6114 = ap mark w.spelled in absurd (omega (arith, e))
+
+-- a trace that ended with status 0 was answered to its end
+pub record IsAnswered (s : System) (log : List Event) : Type 0 where
+  pub end : has_ended log ≡ true
+  pub answer : IsAnswer s (lines_of true (heard log)) (said log)
+  pub good : first_bad (inputs_of s) 1 (lines_of true (heard log)) ≡ None
+
+answered : (s : System) (log : List Event) (line : List ℕ) (status : ℕ) → Traced s log line status → status ≡ 0 → IsAnswered s log
+answered s log line status (Traced.done step end answer good) e = record { end = end; answer = answer; good = good }
+answered s log line status (Traced.bad_line bad step answer fault) e = absurd (omega (arith, e))
+answered s log line status (Traced.take_failed step answer good) e = absurd (omega (arith, e))
+answered s log line status (Traced.put_failed rest step answer) e = absurd (omega (arith, e))
+
+module _ (law : CompiledLaw) (files : Files) (file node : List ℕ) (o : Obc) where
+  -- what is run, and the program
+  runs_by : (s : System) → AreRun (Some files) file node o s → (m : Machine) → machine_named o.machines node ≡ Some m → (p : Program files file) × Runs p o node s
+  runs_by s (AreRun.of_program compiled) m named =
+      (program_of files file compiled.program compiled.held, Runs.the_node compiled.uncontrolled compiled.kept.safe (law (Some files) file o compiled node m named))
+  runs_by s (AreRun.that_choose n chosen some found is) m named =
+      (program_of files file chosen.program chosen.held, Runs.the_machine some (choosing files file o chosen) (IsOwnOf.own n found is))
+
+  runs_of : (there : IsRunnable (Some files) file node o) → (p : Program files file) × Runs p o node there.system
+  runs_of there = runs_by there.system there.are there.machine.machine there.machine.named
+
+  starts_of : (from : Option (List ℕ)) (memory : Memory) (s : System) → Begins (Some files) file node o from memory s → (p : Program files file) × Starts p o node from memory s
+  starts_of from memory s (Begins.from_reset there) = let r = runs_of there in (r.0, Starts.anew r.1)
+  starts_of from memory s (Begins.from_checkpoint there gives is) = let r = runs_of there in (r.0, Starts.again r.1 gives is)
+
+module _ (words : List (List ℕ)) (files : Files) (input : List ℕ) (law : WrittenLaw) (compiled : CompiledLaw) (file node : List ℕ) (from : Option (List ℕ)) (out : List ℕ) (asked : IsSegmentOf words file node from out) where
+  asked_from : (mem : List ℕ) → from ≡ Some mem → IsSegmentOf words file node (Some mem) out
+  asked_from mem e = subst (λ z. IsSegmentOf words file node z out) e asked
+
+  -- a trace that ended otherwise
+  trace_stopped : (o : Obc) (memory : Memory) (s : System) (log : List Event) (line : List ℕ) (status : ℕ) → Begins (Some files) file node o from memory s → Traced s log line status → IsHeard input log →
+      status ≢ 0 → status ≢ 4 → status ≢ 5 → Ends words files input (said log) line files status
+  trace_stopped o memory s log line status begins (Traced.done step end answer good) h d e f = absurd (d refl)
+  trace_stopped o memory s log line status begins (Traced.bad_line bad step answer fault) h d e f =
+      let start = starts_of compiled files file node o from memory s begins in Ends.stopped start.0 asked start.1 (broken_trace input log h s bad answer fault)
+  trace_stopped o memory s log line status begins (Traced.take_failed step answer good) h d e f = absurd (e refl)
+  trace_stopped o memory s log line status begins (Traced.put_failed rest step answer) h d e f = absurd (f refl)
+
+  -- it stops before a checkpoint is left
+  stops : (log : List Event) (line : List ℕ) (status : ℕ) → Stops (Some files) file node from log line status → IsHeard input log → status ≢ 0 → status ≢ 4 → status ≢ 5 → status ≢ 6 → Ends words files input (said log) line files status
+  stops log line status (Stops.not_run o) h d e f g =
+      let run = run_words file node in
+      Ends.not_run asked
+      (ended run files files [] law (run_is_no_segment file node) [] line status o (record { rest = []; are = refl; end = λ k. refl }) (Leaves.as_they_were refl (λ y w. d)) e f g) d
+  stops log line status (Stops.unread_checkpoint k there) h d e f g = absurd (e refl)
+  stops log line status (Stops.long_checkpoint {mem = m} k there long) h d e f g = Ends.long_checkpoint (asked_from m k) long
+  stops log line status (Stops.checkpoint_refused {mem = m} {o = o} text cause k there gives refuses) h d e f g =
+      let r = runs_of compiled files file node o there in Ends.checkpoint_refused cause r.0 (asked_from m k) r.1 gives refuses
+  stops log line status (Stops.traced {o = o} {memory = memory} {s = s} begins traced) h d e f g = trace_stopped o memory s log line status begins traced h d e f
+  stops log line status (Stops.line_failed told b rest r) h d e f g = absurd (f refl)
+
+  -- all lines were answered
+  saves : (o : Obc) (memory : Memory) (s : System) (log : List Event) (text : List ℕ) → Begins (Some files) file node o from memory s → IsAnswered s log → IsHeard input log →
+      IsCheckpointOf o node (memory_after o node memory log) text → Ends words files input (said log) [] (finmap.insert files out text) 0
+  saves o memory s log text begins a h is =
+      let start = starts_of compiled files file node o from memory s begins in
+      Ends.saved start.0 asked start.1 (whole_trace input log h s a.end a.answer a.good)
+      (subst (λ z. IsCheckpointOf o node (memory_past o node memory (lines_of true z)) text) (all_heard input log h a.end) is)
+
+  segment_ended : (left : Files) (log : List Event) (line : List ℕ) (status : ℕ) → SegmentRun (Some files) (Some left) file node from out log line status → IsHeard input log →
       status ≢ 4 → status ≢ 5 → status ≢ 6 → Ends words files input (said log) line left status
-  call_ended law log line status h CallOutcome.no_memory leaves e f g = absurd (g refl)
-  call_ended law log line status h (CallOutcome.command none o) leaves e f g = ended law none log line status o h leaves e f g
-  call_ended law log line status h (CallOutcome.segment s) leaves e f g = Ends.segment s.asked
+  segment_ended left log line status (SegmentRun.stopped r fails same) h e f g =
+      subst (λ z. Ends words files input (said log) line z status) (sym (some_same left files same)) (stops log line status r h fails e f g)
+  segment_ended left log line status (SegmentRun.written {o = o} {memory = memory} {s = s} {text = text} begins traced is (WritesText.whole same)) h e f g =
+      let z = finmap.insert files out text in
+      subst (λ y. Ends words files input (said log) [] y 0) (sym (some_same left z same)) (saves o memory s log text begins (answered s log [] 0 traced refl) h is)
+  segment_ended left log line status (SegmentRun.written begins traced is (WritesText.part why b c)) h e f g = absurd (elim why [ inl k ↦ f k | inr k ↦ g k ])
+
+module _ (words : List (List ℕ)) (files left : Files) (input : List ℕ) (law : WrittenLaw) (compiled : CompiledLaw) where
+  -- the call ends so, where it is not for want of memory
+  call_ended : (log : List Event) (line : List ℕ) (status : ℕ) → IsHeard input log → CallOutcome words (Some files) (Some left) log line status → Leaves words (Some files) (Some left) status →
+      status ≢ 4 → status ≢ 5 → status ≢ 6 → Ends words files input (said log) line left status
+  call_ended log line status h CallOutcome.no_memory leaves e f g = absurd (g refl)
+  call_ended log line status h (CallOutcome.command none o) leaves e f g = Ends.does (ended words files left input law none log line status o h leaves e f g)
+  call_ended log line status h (CallOutcome.segment s) leaves e f g = segment_ended words files input law compiled s.file s.node s.from s.out s.asked left log line status s.ran h e f g
 
   -- the numbers of a status that is told
-  told_status : (law : WrittenLaw) (log : List Event) (line : List ℕ) (status : ℕ) → IsHeard input log → CallOutcome words (Some files) (Some left) log line status → Leaves words (Some files) (Some left) status →
+  told_status : (log : List Event) (line : List ℕ) (status : ℕ) → IsHeard input log → CallOutcome words (Some files) (Some left) log line status → Leaves words (Some files) (Some left) status →
       status ≢ 4 → status ≢ 5 → Ends words files input (said log) line left status
-  told_status law log line status h o leaves e f = elim (eqb_tells status 6) [
+  told_status log line status h o leaves e f = elim (eqb_tells status 6) [
     | inl k ↦ subst (λ n. Ends words files input (said log) line left n) (sym k.1) Ends.lacking
-    | inr k ↦ call_ended law log line status h o leaves e f k.1
+    | inr k ↦ call_ended log line status h o leaves e f k.1
   ]
 
 -- ---- what objects in memory tell
@@ -441,28 +497,28 @@ same_said (Said b ∷ log) = ap (λ z. b ∷ z) (same_said log)
 
 module _ (words : List (List ℕ)) (files left : Files) (input : List ℕ) where
   -- a call in which no call of the outside failed
-  in_memory : WrittenLaw → (events : List Event) (rest took : List ℕ) (status : ℕ) → Happened (Some []) (Some events) (Some input) (Some rest) (Some []) (Some took) (λ log line. CallOutcome words (Some files) (Some left) log line status) →
+  in_memory : WrittenLaw → CompiledLaw → (events : List Event) (rest took : List ℕ) (status : ℕ) → Happened (Some []) (Some events) (Some input) (Some rest) (Some []) (Some took) (λ log line. CallOutcome words (Some files) (Some left) log line status) →
       Leaves words (Some files) (Some left) status → status ≢ 4 → status ≢ 5 → Ends words files input (said_bytes events) took left status
-  in_memory law events rest took status o leaves e f =
+  in_memory law compiled events rest took status o leaves e f =
       let log = o.0 in
       let line = o.1 in
       let events_are : events ≡ log = some_same events log o.2 in
       let took_is : took ≡ line = some_same took line o.4 in
       let h : IsHeard input log = record { rest = rest; are = some_same input (heard log ++ rest) o.3.0; end = o.3.1 } in
       subst (λ z. Ends words files input z took left status) (sym (ap said_bytes events_are ∙ same_said log))
-      (subst (λ z. Ends words files input (said log) z left status) (sym took_is) (told_status words files left input law log line status h o.5 leaves e f))
+      (subst (λ z. Ends words files input (said log) z left status) (sym took_is) (told_status words files left input law compiled log line status h o.5 leaves e f))
 
   -- what is answered then: what the objects took that were new
-  pub told_answer : WrittenLaw → (none events : List Event) (given rest nothing took : List ℕ) (status : ℕ) → none ≡ [] → given ≡ input → nothing ≡ [] →
+  pub told_answer : WrittenLaw → CompiledLaw → (none events : List Event) (given rest nothing took : List ℕ) (status : ℕ) → none ≡ [] → given ≡ input → nothing ≡ [] →
       Happened (Some none) (Some events) (Some given) (Some rest) (Some nothing) (Some took) (λ log line. CallOutcome words (Some files) (Some left) log line status) →
       Leaves words (Some files) (Some left) status → status ≢ 4 → status ≢ 5 → (bytes line : List ℕ) (number : ℕ) → bytes ≡ said_bytes events → line ≡ took → number ≡ status →
       Ends words files input bytes line left number
-  told_answer law none events given rest nothing took status p q r o leaves e f bytes line number u v w =
+  told_answer law compiled none events given rest nothing took status p q r o leaves e f bytes line number u v w =
       let done = λ (a : List Event) (b c : List ℕ). Happened (Some a) (Some events) (Some b) (Some rest) (Some c) (Some took) (λ log told. CallOutcome words (Some files) (Some left) log told status) in
       let new : done [] input [] = subst (λ a. done a input []) p (subst (λ b. done none b []) q (subst (λ c. done none given c) r o)) in
       subst (λ z. Ends words files input z line left number) (sym u)
       (subst (λ z. Ends words files input (said_bytes events) z left number) (sym v)
-      (subst (λ z. Ends words files input (said_bytes events) took left z) (sym w) (in_memory law events rest took status new leaves e f)))
+      (subst (λ z. Ends words files input (said_bytes events) took left z) (sym w) (in_memory law compiled events rest took status new leaves e f)))
 
   -- what is answered where a read or a take failed
   pub unread_answer : (status : ℕ) → status ≡ 4 → Leaves words (Some files) (Some left) status → (why : Status) → (why ≡ NoMemory) ⊎ ((why ≡ ReadFailed) × LacksFile words left) →
@@ -474,7 +530,7 @@ module _ (words : List (List ℕ)) (files left : Files) (input : List ℕ) where
       subst (λ z. Ends words files input z line left number) (sym p)
       (subst (λ z. Ends words files input [] z left number) (sym q)
       (subst (λ z. Ends words files input [] [] left z) (sym (r ∙ ap code_of k.0))
-      (at_left words files left input files [] [] 4 same (Ends.absent (lacks.0, lacks.1, subst (λ z. finmap.get z lacks.0 ≡ None) same lacks.2)))))
+      (Ends.does (at_left words files left input files [] [] 4 same (Does.absent (lacks.0, lacks.1, subst (λ z. finmap.get z lacks.0 ≡ None) same lacks.2))))))
 
   -- what is answered for want of memory
   pub lacking_answer : (bytes line : List ℕ) (number : ℕ) → number ≡ 6 → Ends words files input bytes line left number

@@ -22,7 +22,7 @@ use Rattle.hp_driver.specs.Command.{IsExecOf, IsOverContract, ReadsSource, IsOve
 use Rattle.hp_driver.specs.Lines.{lines_of}
 use Rattle.hp_driver.specs.GoodCalls.{IsGood}
 use Rattle.hp_driver.specs.Log.{heard, has_ended, HeardFrom}
-use Rattle.hp_driver.specs.Outcome.{Outcome, AreMachines, AreAskedFor, IsMachine, IsAskedFor}
+use Rattle.hp_driver.specs.Outcome.{Outcome, AreMachines, AreAskedFor, IsMachine, IsAskedFor, LacksNode}
 use Rattle.hp_driver.specs.Systems.{System, of_machine, inputs_of}
 use Rattle.hp_driver.specs.Values.{first_bad}
 use Rattle.hp_driver.specs.declared.trace_limits.BadLine.{BadLine}
@@ -68,10 +68,11 @@ module _ (words : List (List ℕ)) (held : Files) (file node : List ℕ) (o : Ob
   same_asked y p (AreAskedFor.in_text {file = x} v others) = (same_obc x y p v others, (same_words (codes "exec") words file node x y w v).1)
   same_asked y p (AreAskedFor.of_program {file = x} r compiled) = absurd (run_exec words x y file node r w)
 
-  named_twice : (y : List ℕ) (p : Obc) → AreAskedFor words (Some held) y p → machine_named p.machines y ≡ None → ⊥
-  named_twice y p asked none =
-      let same = same_asked y p asked in
+  named_twice : (y : List ℕ) (p : Obc) (asked : AreAskedFor words (Some held) y p) → LacksNode words (Some held) y p asked → ⊥
+  named_twice y p (AreAskedFor.in_text v others) none =
+      let same = same_asked y p (AreAskedFor.in_text v others) in
       let found : machine_named p.machines y ≡ Some m.machine = (λ i. machine_named (same.0 i).machines (same.1 i)) ∙ m.named in cc
+  named_twice y p (AreAskedFor.of_program {file = x} r compiled) none = run_exec words x y file node r w
 
   not_passed : (x y : List ℕ) (p : Obc) (limit : Limit) → IsExecOf words x y → AreMachines (Some held) x p → IsPassed p y limit → ⊥
   not_passed x y p limit v others passed =

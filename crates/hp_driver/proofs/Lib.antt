@@ -14,6 +14,7 @@ pub mod ExecutionLaws
 pub mod HistoryLaws
 pub mod GameLaws
 pub mod WrittenLaws
+pub mod NamedLaws
 pub mod MachineLaws
 pub mod PastLaws
 pub mod ReadingLaws

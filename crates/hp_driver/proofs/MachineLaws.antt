@@ -17,7 +17,7 @@ use Rattle.hp_exec.specs.Bounds.{longest_chain, instance_count}
 use Rattle.hp_exec.specs.Executors.{Executor}
 use Rattle.hp_exec.specs.declared.error.ExecErr.{ExecErr}
 use Rattle.hp_exec.specs.declared.error.ExecErr.TheVariants.{NoNode, Limit as Passed}
-use Rattle.hp_obc.specs.Form.{TypesForm}
+use Rattle.hp_obc.specs.Form.{TypesForm, machine_named}
 use Rattle.hp_obc.specs.Machines.{Obc}
 use Rattle.hp_obctext.specs.Answers.{IsTextOf}
 use Rattle.hp_obctext.proofs.FormMachines.{file_form}
@@ -35,13 +35,14 @@ use Rattle.hp_driver.specs.Executing.{executing}
 use Rattle.hp_driver.specs.Follows.{ExecOf, MachinesOutcome, OrderedRun, OrderedCompile, RefusedText, RefusedMachine}
 use Rattle.hp_driver.specs.Leaves.{Leaves, IsPrinted, ReadRose, WriteRose}
 use Rattle.hp_driver.specs.Leaving.{WritesText, WritesMachines, OrderedLeaves, RoseInWrite}
-use Rattle.hp_driver.specs.Outcome.{Outcome, Gives, GivesMoreThan, IsHeld, AreCompiled, AreWritten, AreAskedFor, IsMachine, IsAskedFor}
+use Rattle.hp_driver.specs.Outcome.{Outcome, Gives, GivesMoreThan, IsHeld, AreCompiled, AreWritten, AreAskedFor, IsMachine, IsAskedFor, LacksNode}
 use Rattle.hp_driver.specs.Ran.{Ran, Reports, ReportsOrNot}
 use Rattle.hp_driver.specs.Systems.{of_node, of_machine}
 use Rattle.hp_driver.specs.declared.words.Task.{Task}
 use Rattle.hp_driver.specs.declared.words.Task.TheVariants.{Run, Tell, Check, Compile}
 use Rattle.hp_compile.specs.declared.refusal.Place.TheVariants.{Whole}
 use Rattle.hp_driver.proofs.ExecutionLaws.{machine_says, machine_refuses}
+use Rattle.hp_driver.proofs.NamedLaws.{no_node_named}
 use Rattle.hp_driver.proofs.OutcomeLaws.{told_or_not, Mirrors, outcome}
 use Rattle.hp_driver.proofs.WordLaws.{run_writes, exec_writes, check_writes, verify_writes, tell_writes, sweep_writes}
 use Rattle.hp_driver.proofs.HistoryLaws.{keeping, runs_node, stays_within, node_mirrors}
@@ -90,8 +91,13 @@ module _ (node : List ℕ) (error : ExecErr) (before after : Option (List ℕ)) 
       (told : List ℕ) × Grows before after told × RefusedMachine node error told result
   machine_told line status r h = told_or_not (RefusedMachine node error) (machine_line_failed node error) (machine_no_memory node error) before after line status result r h
 
+-- where no machine has the name, nothing that is asked for has it
+lacks_node : (words : List (List ℕ)) (files : Option Files) (node : List ℕ) (o : Obc) (asked : AreAskedFor words files node o) → machine_named o.machines node ≡ None → LacksNode words files node o asked
+lacks_node words files node o (AreAskedFor.in_text w machines) none = none
+lacks_node words files node o (AreAskedFor.of_program w compiled) none = no_node_named compiled.held.clocked o.machines node compiled.machines.machines none
+
 pub no_machine : (node : List ℕ) → RefusedMachine node NoNode (no_node_line node) 1
-no_machine node o h words files asked = Outcome.no_machine asked h
+no_machine node o h words files asked = Outcome.no_machine asked (lacks_node words files node o asked h)
 
 -- no machine of a program passes a limit
 is_within : (o : Obc) (node : List ℕ) (limit : Limit) → (longest_chain o.machines node ≤ 70) × (instance_count o.machines node ≤ 250000) → IsPassed o node limit → ⊥

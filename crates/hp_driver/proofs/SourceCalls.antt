@@ -13,8 +13,7 @@ use Rattle.hp_clocks.specs.Writing.{AreWritten}
 use Rattle.hp_expand.specs.Numbering.{with_node, no_node, replaced_node, replaced_items, replaced}
 use Rattle.hp_io.specs.Files.{Files, Holds}
 use Rattle.hp_io.specs.declared.console.Event.{Event}
-use Rattle.hp_obc.specs.Form.{machine_named}
-use Rattle.hp_obc.specs.Machines.{Machine, Obc}
+use Rattle.hp_obc.specs.Machines.{Obc}
 use Rattle.hp_tree.specs.Blocks.{Decl}
 use Rattle.hp_tree.specs.Programs.{TypeDecl, Node}
 use Rattle.hp_tree.specs.Meaning.{types_of, node_among}
@@ -23,7 +22,6 @@ use Rattle.hp_tree.specs.declared.program.Item.TheVariants.{TypeItem, NodeItem}
 use Rattle.law_wellmade.specs.Timely.Kinds.{kind_of, kinds_of_decls}
 use Rattle.hp_base.specs.declared.ty.Ty.{Ty}
 use Rattle.hp_meaning.specs.Clocking.Clocking.{base_written}
-use Rattle.hp_machines.specs.Machined.{Heading, heading_of_machine, heading_of_node, headings_of}
 use Rattle.law_decided.specs.Outcomes.{RefusesInGames}
 use Rattle.hp_verdicts.specs.declared.error.ContractErr.{ContractErr}
 use Rattle.hp_verdicts.specs.declared.error.ContractErr.TheVariants as contract
@@ -33,7 +31,7 @@ use Rattle.hp_driver.specs.Lines.{lines_of}
 use Rattle.hp_driver.specs.Log.{heard, has_ended, HeardFrom}
 use Rattle.hp_driver.specs.NodeKinds.{input_kinds}
 use Rattle.hp_driver.specs.Controls.{has_controls}
-use Rattle.hp_driver.specs.Outcome.{Outcome, Gives, GivesMoreThan, HasNoProgram, IsHeld, AreCompiled, AreAskedFor, IsAskedFor, AsksToChoose}
+use Rattle.hp_driver.specs.Outcome.{Outcome, Gives, GivesMoreThan, HasNoProgram, IsHeld, AreCompiled, AreAskedFor, IsAskedFor, LacksNode, AsksToChoose}
 use Rattle.hp_driver.specs.Systems.{System, inputs_of}
 use Rattle.hp_driver.specs.Values.{first_bad}
 use Rattle.hp_driver.specs.declared.trace_limits.BadLine.{BadLine}
@@ -75,7 +73,7 @@ module _ (words : List (List ℕ)) (held : Files) (file text : List ℕ) (progra
   no_contract_refused x p cause over h differs refuses =
       none_refused h.clocked (contracts h.clocked h.ranks (same_arranged held file text program holds judged x p (only_file x over) h)) cause refuses differs
 
-  module _ (over : IsOverSource words file) (not_exec : (x y : List ℕ) → IsExecOf words x y → ⊥) (there : (y : List ℕ) (o : Obc) → AreAskedFor words (Some held) y o → machine_named o.machines y ≡ None → ⊥) where
+  module _ (over : IsOverSource words file) (not_exec : (x y : List ℕ) → IsExecOf words x y → ⊥) (there : (y : List ℕ) (o : Obc) (asked : AreAskedFor words (Some held) y o) → LacksNode words (Some held) y o asked → ⊥) where
     -- the call succeeds but for want of memory
     pub succeeds : (log : List Event) (line : List ℕ) (status : ℕ) →
         ((s : System) (bad_line : BadLine) → IsAskedFor words (Some held) s → first_bad (inputs_of s) 1 (lines_of (has_ended log) (heard log)) ≡ Some bad_line → ⊥) →
@@ -287,28 +285,6 @@ none_reverse (x ∷ hs) f h = by (bytes_eq x.0 f) refl h (λ k. none_reverse hs 
         subst (λ zs. none_in zs f) (sym (reverse-append (x ∷ []) hs))
         (none_behind (reverse hs) (x ∷ []) f (rest k) (ap (λ d. if d then Some x.1 else None) e))
 
-pub first_heading : (h k : Heading) (hs ks : List Heading) → h ∷ hs ≡ k ∷ ks → h ≡ k
-first_heading h k hs ks e = cc
-
-pub other_headings : (h k : Heading) (hs ks : List Heading) → h ∷ hs ≡ k ∷ ks → hs ≡ ks
-other_headings h k hs ks e = cc
-
--- where no machine has a name, no node has it
-none_named : (items : List Item) (ms : List Machine) (f : List ℕ) → map heading_of_machine ms ≡ headings_of items → machine_named ms f ≡ None → none_in (headers items) f
-none_named [] ms f e h = refl
-none_named (TypeItem t ∷ items) ms f e h = none_named items ms f e h
-none_named (NodeItem n ∷ items) [] f e h = absurd cc
-none_named (NodeItem n ∷ items) (m ∷ ms) f e h =
-    by (bytes_eq m.name f) refl h (λ k. none_named items ms f (other_headings (heading_of_machine m) (heading_of_node n) (map heading_of_machine ms) (headings_of items) e) k)
-  where
-    same : bytes_eq n.name f ≡ bytes_eq m.name f
-    same = ap (λ (z : Heading). bytes_eq z.name f) (sym (first_heading (heading_of_machine m) (heading_of_node n) (map heading_of_machine ms) (headings_of items) e))
-
-    by : (b : Bool) → bytes_eq m.name f ≡ b → (if b then Some m else machine_named ms f) ≡ None → (machine_named ms f ≡ None → none_in (headers items) f)
-        → (if bytes_eq n.name f then Some (types_in n.inputs) else inputs_in (headers items) f) ≡ None
-    by true q k rest = absurd cc
-    by false q k rest = ap (λ d. if d then Some (types_in n.inputs) else inputs_in (headers items) f) (same ∙ q) ∙ rest k
-
 no_inputs : (o : Option Node) → option_map (λ (n : Node). types_in n.inputs) o ≡ None → IsSome o → ⊥
 no_inputs None e h = absurd cc
 no_inputs (Some n) e h = absurd cc
@@ -336,13 +312,12 @@ module _ (words : List (List ℕ)) (held : Files) (file node text : List ℕ) (p
       let arranged = same_arranged held file text program holds judged x compiled.program (only_file x over) compiled.held in
       arranged.clocks
 
-  machine_there : (y : List ℕ) (o : Obc) → AreAskedFor words (Some held) y o → machine_named o.machines y ≡ None → ⊥
-  machine_there y o (AreAskedFor.in_text {file = x} v others) none = not_exec x y v
-  machine_there y o (AreAskedFor.of_program {file = x} r compiled) none =
-      let machines = compiled.machines in
+  node_there : (y : List ℕ) (o : Obc) (asked : AreAskedFor words (Some held) y o) → LacksNode words (Some held) y o asked → ⊥
+  node_there y o (AreAskedFor.in_text {file = x} v others) none = not_exec x y v
+  node_there y o (AreAskedFor.of_program {file = x} r compiled) none =
       let clocks = clocks_of x o (IsOverSource.to_run r) compiled in
       let name = (same_words (codes "run") words file node x y w r).1 in
-      let away = none_named compiled.held.clocked o.machines y machines.machines none in
+      let away : none_in (headers compiled.held.clocked) y = sym (inputs_among compiled.held.clocked y) ∙ ap (λ found. option_map (λ (n : Node). types_in n.inputs) found) none in
       let back = none_reverse (headers program) y (subst (λ hs. none_in hs y) (same_headers program compiled.held.clocked clocks) away) in
       let found : option_map (λ (n : Node). types_in n.inputs) (node_among (reverse program) y) ≡ None = inputs_among (reverse program) y ∙ ap (λ hs. inputs_in hs y) (headers_reverse program) ∙ back in
       no_inputs (node_among (reverse program) y) found (subst (λ z. IsSome (node_among (reverse program) z)) (sym name) there)
@@ -358,7 +333,7 @@ module _ (words : List (List ℕ)) (held : Files) (file node text : List ℕ) (p
   run_succeeds : (log : List Event) (line : List ℕ) (status : ℕ) (more : List ℕ) → (has_ended log ≡ true → more ≡ []) → first_bad (input_kinds program node) 1 (lines_of true (heard log ++ more)) ≡ None →
       Outcome words (Some held) log line status → (status ≡ 4 → ⊥) → (status ≡ 5 → ⊥) → (status ≡ 0) ⊎ (status ≡ 6)
   run_succeeds log line status more ended good r f g =
-      succeeds words held file text program only_file holds judged arrangeable contracts chooses (IsOverSource.to_run w) not_exec machine_there log line status
+      succeeds words held file text program only_file holds judged arrangeable contracts chooses (IsOverSource.to_run w) not_exec node_there log line status
       (λ s bad_line asked e. no_bad_line (input_kinds program node) (has_ended log) (heard log) more bad_line ended good (ap (λ ks. first_bad ks 1 (lines_of (has_ended log) (heard log))) (sym (system_kinds s asked)) ∙ e)) r f g
 
   -- the input in two parts: what was heard, and what is left

@@ -22,7 +22,7 @@ use Rattle.hp_driver.specs.Answers.{IsAnswer}
 use Rattle.hp_driver.specs.Outcome.{AreCompiled, AreWritten}
 use Rattle.hp_driver.specs.Systems.{System, of_node, of_machine, inputs_of, outputs_of}
 use Rattle.hp_driver.specs.Values.{inputs_until, first_bad}
-use Rattle.hp_driver.specs.Written.{AgreesWith, WrittenLaw}
+use Rattle.hp_driver.specs.Written.{AgreesWith, CompiledLaw, WrittenLaw}
 use Rattle.hp_driver.proofs.HistoryLaws.{Keeping, accepted_program, keeping, runs_node, inputs_same, outputs_same, fitting, as_node}
 
 -- a node has one run
@@ -120,3 +120,7 @@ written_agrees law run_law built form_law same_law files file o read text node m
     let by_itself = agrees program own node m named (runs_node law files file own compiled node m named) (keeping run_law files file own compiled node) in
     let among = agrees_too o own node there.types (there.named ∙ sym named) there.does (of_node program node) by_itself in
     (ap (λ (z : Obc). machine_named z.machines node) same ∙ there.named, subst (λ z. AgreesWith (of_machine z node) (of_node program node)) (sym same) among)
+
+pub compiled_agrees : TextLaw → RunLaw → CompiledLaw
+compiled_agrees law run_law files file o compiled node m named =
+    agrees compiled.held.clocked o node m named (runs_node law files file o compiled node m named) (keeping run_law files file o compiled node)

@@ -10,11 +10,17 @@ use Rattle.hp_obctext.specs.MemoryRefusals.{IsNoCheckpoint}
 use Rattle.hp_obctext.specs.MemoryTexts.{Says}
 use Rattle.hp_obctext.specs.declared.memory.error.MemErr.{MemErr}
 use Rattle.hp_obctext.specs.declared.memory.error.MemErr.TheVariants.{Syntax}
+use Rattle.hp_driver.specs.Systems.{of_machine, inputs_of}
+use Rattle.hp_driver.specs.Values.{inputs_until}
 
 -- the memory behind the steps over some inputs, from a memory on
 abbrev pub memory_behind : Behaviour → Memory → List (List Value) → Memory
 memory_behind b kept [] = kept
 memory_behind b kept (inputs ∷ later) = memory_behind b (b.step kept inputs).kept later
+
+-- the memory of a machine behind some lines
+abbrev pub memory_past : Obc → List ℕ → Memory → List (List ℕ) → Memory
+memory_past o node kept lines = memory_behind (machine_behaviour o node) kept (inputs_until (inputs_of (of_machine o node)) 1 lines)
 
 -- A text is the checkpoint of a memory of the machine of this name, which has the shape and the kinds of what that keeps.
 pub record IsCheckpointOf (o : Obc) (node : List ℕ) (memory : Memory) (text : List ℕ) : Type 0 where

@@ -9,24 +9,21 @@ use Rattle.hp_obc.specs.Steps.{Memory, machine_behaviour}
 use Rattle.hp_obctext.specs.declared.memory.error.MemErr.{MemErr}
 use Rattle.hp_tree.specs.declared.program.Item.{Item}
 use Rattle.hp_driver.specs.Answers.{IsAnswer}
-use Rattle.hp_driver.specs.Checkpoints.{IsCheckpointOf, IsTaken, RefusesCheckpoint, memory_behind}
+pub use Rattle.hp_driver.specs.Checkpoints.{memory_past}
+use Rattle.hp_driver.specs.Checkpoints.{IsCheckpointOf, IsTaken, RefusesCheckpoint}
 use Rattle.hp_driver.specs.Controls.{has_controls}
 use Rattle.hp_driver.specs.Lines.{lines_of}
 use Rattle.hp_driver.specs.Log.{heard, said}
 use Rattle.hp_driver.specs.Outcome.{IsHeld, IsMachine}
 use Rattle.hp_driver.specs.Segments.{AreRun, IsRunnable, SegmentRun}
 use Rattle.hp_driver.specs.Systems.{System, of_machine, from_memory, inputs_of}
-use Rattle.hp_driver.specs.Values.{first_bad, inputs_until}
+use Rattle.hp_driver.specs.Values.{first_bad}
 
 -- No line of two traces has a fault, and together they are few enough for one.
 pub record AreGoodLines (kinds : List KindData) (first second : List (List ℕ)) : Type 0 where
   pub few : length first + length second ≤ 1000000000
   pub first_good : first_bad kinds 1 first ≡ None
   pub second_good : first_bad kinds 1 second ≡ None
-
--- the memory of a machine behind some lines
-abbrev pub memory_past : Obc → List ℕ → Memory → List (List ℕ) → Memory
-memory_past o node kept lines = memory_behind (machine_behaviour o node) kept (inputs_until (inputs_of (of_machine o node)) 1 lines)
 
 -- A machine answers lines from a memory on, and more lines from the memory behind these on. So it answers all of them from the first memory on, one after the other, and leaves the same memory.
 pub record AnswersBoth (o : Obc) (node : List ℕ) (memory : Memory) (first second : List (List ℕ)) (bytes more : List ℕ) : Type 0 where

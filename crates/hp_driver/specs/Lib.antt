@@ -18,6 +18,8 @@ pub mod Given
 pub mod PastOutcome
 pub mod Outcome
 pub mod Checkpoints
+pub mod Asking
+pub mod ClaimTerms
 pub mod Claim
 pub mod WrittenText
 pub mod Segments

@@ -43,6 +43,7 @@ use Rattle.hp_driver.specs.Diagnostics.{refusal_line, too_long_line, no_text_lin
 use Rattle.hp_driver.specs.BadLines.{bad_line_line}
 use Rattle.hp_driver.specs.Controls.{has_controls}
 use Rattle.hp_driver.specs.Command.{IsRunOf, IsTellOf, IsCheckOf, IsCompileOf, IsPastOf, IsExecOf, IsProveOf, IsVerifyOf, IsSweepOf, IsSummary, IsOverSource, IsOverContract, ReadsSource, ReadsFirst, IsNoCommand, usage_line, not_built_line, no_node_line, accepted_text, verdict_text}
+pub use Rattle.hp_driver.specs.Asking.{AsksToChoose, AsksToRun, IsRunFor}
 pub use Rattle.hp_driver.specs.Given.{Gives, GivesMoreThan}
 use Rattle.hp_driver.specs.PastOutcome.{PastOutcome}
 use Rattle.hp_driver.specs.declared.trace_limits.BadLine.{BadLine}
@@ -106,6 +107,11 @@ pub data AreAskedFor (words : List (List ℕ)) (files : Option Files) (node : Li
   in_text : {file : List ℕ} → IsExecOf words file node → AreMachines files file o → AreAskedFor words files node o
   of_program : {file : List ℕ} → IsRunOf words file node → AreCompiled files file o → AreAskedFor words files node o
 
+-- What is asked for has no such name: no machine of the text has it, or no node of the program.
+abbrev pub LacksNode : (words : List (List ℕ)) (files : Option Files) (node : List ℕ) (o : Obc) → AreAskedFor words files node o → Type 0
+LacksNode words files node o (AreAskedFor.in_text w machines) = machine_named o.machines node ≡ None
+LacksNode words files node o (AreAskedFor.of_program w compiled) = node_among compiled.held.clocked node ≡ None
+
 -- the machine of this name among some, which is within the limits of what is executed
 pub record IsMachine (node : List ℕ) (o : Obc) : Type 0 where
   pub machine : Machine
@@ -124,21 +130,6 @@ pub data IsAskedFor (words : List (List ℕ)) (files : Option Files) : System �
       IsTrue (is_some n.contract) → IsMachine (node ++ codes "$contract") o → IsToldBy (node ++ codes "$contract") o n → IsAskedFor words files (that_tells ending.Told o (node ++ codes "$contract"))
   no_contract : {file node : List ℕ} {o : Obc} (n : Node) → IsTellOf words file node → (chosen : AreChosen files file o) → node_among chosen.held.clocked node ≡ Some n →
       n.contract ≡ None → IsMachine node o → IsChosen node o n → IsAskedFor words files (that_tells ending.Kept o node)
-
--- The words ask for the machines of a program that choose the values of its controllable variables, or for what its contracts assume and enforce.
-pub data AsksToChoose (words : List (List ℕ)) (file : List ℕ) (program : List Item) : Type 0 where
-  to_run : {node : List ℕ} → IsRunOf words file node → has_controls program ≡ true → AsksToChoose words file program
-  to_tell : {node : List ℕ} → IsTellOf words file node → AsksToChoose words file program
-  to_compile : {out : List ℕ} → IsCompileOf words file out → has_controls program ≡ true → AsksToChoose words file program
-
--- They ask to run the node of this name so.
-pub data AsksToRun (words : List (List ℕ)) (file node : List ℕ) (program : List Item) : Type 0 where
-  to_run : IsRunOf words file node → has_controls program ≡ true → AsksToRun words file node program
-  to_tell : IsTellOf words file node → AsksToRun words file node program
-
--- the machine that is run for the node of a name
-abbrev pub IsRunFor : List ℕ → List ℕ → Type 0
-IsRunFor node name = (name ≡ node) ⊎ (name ≡ node ++ codes "$contract")
 
 -- Whenever input was asked for, it had not ended, what was said were the answers to the whole lines heard before, and no line heard before has a fault.
 abbrev pub InLockstep : System → List Event → Type 0
@@ -212,8 +203,8 @@ module _ (words : List (List ℕ)) (files : Option Files) where
     no_text : {file node : List ℕ} (text : List ℕ) (at : Span) → IsExecOf words file node → Gives files file text → IsRefused text at → Outcome [] (no_text_line at) 8
     -- a word of the text is the first that breaks a rule of form
     no_form : {file node : List ℕ} (text : List ℕ) (at : Span) → IsExecOf words file node → Gives files file text → BreaksForm text at → Outcome [] (no_form_line at) 8
-    -- there is no machine of this name
-    no_machine : {node : List ℕ} {o : Obc} → AreAskedFor words files node o → machine_named o.machines node ≡ None → Outcome [] (no_node_line node) 1
+    -- there is no machine of this name in the text, or no node in the program
+    no_machine : {node : List ℕ} {o : Obc} (asked : AreAskedFor words files node o) → LacksNode words files node o asked → Outcome [] (no_node_line node) 1
     -- the machine of this name, of a text of machines, passes a limit: that on the machines on a chain of instances comes first, and then that on all instances
     too_large : {file node : List ℕ} {o : Obc} (limit : Limit) → IsExecOf words file node → AreMachines files file o → IsPassed o node limit → Outcome [] (executor_line limit) 1
     -- the machines of the program were written, which has no controllable variables

@@ -12,6 +12,7 @@ use Rattle.hp_obctext.specs.declared.memory.error.MemErr.{MemErr}
 use Rattle.hp_tree.specs.Meaning.{node_among}
 use Rattle.hp_tree.specs.Programs.{Node}
 use Rattle.hp_driver.specs.Answers.{IsAnswer}
+pub use Rattle.hp_driver.specs.Asking.{run_words}
 use Rattle.hp_driver.specs.BadLines.{bad_line_line}
 use Rattle.hp_driver.specs.Checkpoints.{IsCheckpointOf, RefusesCheckpoint, memory_behind}
 use Rattle.hp_driver.specs.Command.{IsNoSegment, IsSegmentOf}
@@ -25,10 +26,6 @@ use Rattle.hp_driver.specs.Systems.{System, of_node, of_machine, from_memory, in
 use Rattle.hp_driver.specs.Values.{first_bad, inputs_until}
 use Rattle.hp_driver.specs.WrittenText.{WritesText}
 use Rattle.hp_driver.specs.declared.trace_limits.BadLine.{BadLine}
-
--- the words of `run` for a node
-abbrev pub run_words : List ℕ → List ℕ → List (List ℕ)
-run_words file node = codes "run" ∷ file ∷ node ∷ []
 
 -- The machine that `run` runs for the node is among these, and it does what this does: the node itself, of a program without controllable variables; or else the machine.
 pub data AreRun (files : Option Files) (file node : List ℕ) (o : Obc) : System → Type 0 where

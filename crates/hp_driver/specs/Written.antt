@@ -6,7 +6,7 @@ use Rattle.hp_obc.specs.Machines.{Machine, Obc}
 use Rattle.hp_obctext.specs.Answers.{IsTextOf}
 use Rattle.hp_driver.specs.Answers.{IsAnswer}
 use Rattle.hp_driver.specs.Leaves.{IsPrinted}
-use Rattle.hp_driver.specs.Outcome.{AreWritten}
+use Rattle.hp_driver.specs.Outcome.{AreCompiled, AreWritten}
 use Rattle.hp_driver.specs.Systems.{System, of_node, of_machine, inputs_of}
 use Rattle.hp_driver.specs.Values.{first_bad}
 
@@ -21,3 +21,9 @@ abbrev pub WrittenLaw : Type 0
 WrittenLaw =
     (files : Option Files) (file : List ℕ) (o read : Obc) (text node : List ℕ) (m : Machine) (written : AreWritten files file o) → IsPrinted o text → IsTextOf text read
     → machine_named written.own.machines node ≡ Some m → (machine_named read.machines node ≡ Some m) × AgreesWith (of_machine read node) (of_node written.compiled.held.clocked node)
+
+-- The machine of a node agrees with it also where no text is written.
+abbrev pub CompiledLaw : Type 0
+CompiledLaw =
+    (files : Option Files) (file : List ℕ) (o : Obc) (compiled : AreCompiled files file o) (node : List ℕ) (m : Machine) → machine_named o.machines node ≡ Some m
+    → AgreesWith (of_machine o node) (of_node compiled.held.clocked node)

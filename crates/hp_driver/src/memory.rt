@@ -3,7 +3,8 @@ ghost use Rattle.std.specs.Prelude.{◌≡◌, ◌⊎◌, ℕ, List, [], None, m
 ghost use Rattle.std.specs.FinMap as finmap;
 ghost use Rattle.std.specs.String.{string_bytes};
 ghost use Rattle.hp_io.specs.Events.{said_bytes};
-ghost use Rattle.hp_driver.specs.Claim.{Ends, LacksFile};
+ghost use Rattle.hp_driver.specs.Claim.{Ends};
+ghost use Rattle.hp_driver.specs.ClaimTerms.{LacksFile};
 ghost use Rattle.hp_driver.specs.Commanded.{Spells, SpellsSegment};
 ghost use Rattle.hp_driver.specs.Status.{code_of};
 ghost use Rattle.hp_driver.specs.declared.status.Status.TheVariants.{ReadFailed, NoMemory};

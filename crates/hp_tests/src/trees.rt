@@ -1,8 +1,8 @@
-//! Copies of trees, and which trees are the same: no clause says that memory is enough for them.
+//! Copies of trees, which trees are the same, and how many places nodes have: no clause says that memory is enough for them.
 use crate::program_of;
 use hp_base::{Name, Span};
 use hp_meaning::causal::{Point, PointKind};
-use hp_tree::{Item, Program};
+use hp_tree::{Item, Program, places};
 use std::alloc::Global;
 use std::process::Abort;
 use std::test::Fail;
@@ -75,5 +75,25 @@ fn copies_of_points_are_the_same(rt: HostRuntime) -> Result<(), Fail> {
     let call = point(rt.alloc(), PointKind::Call)?;
     assert!(rt; call.copy(rt.alloc())?.same(&call));
     assert!(rt; !call.same(&point(rt.alloc(), PointKind::Def)?));
+    Ok(())
+}
+
+/// How many places the first node of a program has.
+fn places_of(program: &Program) -> u64 {
+    for item in &program.items {
+        if let Item::NodeItem(node) = item {
+            return places(node);
+        }
+    }
+    0
+}
+
+#[test]
+fn declarations_expressions_and_automata_have_places(rt: HostRuntime) -> Result<(), Fail> {
+    let counts: [u64; 3] = [9, 15, 19];
+    for (i, text) in PROGRAMS.iter().enumerate() {
+        let program = program_of(rt.alloc(), text.as_bytes())?;
+        assert_eq!(rt; places_of(&program), counts[i], "at {text}");
+    }
     Ok(())
 }
