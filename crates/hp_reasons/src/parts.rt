@@ -146,7 +146,8 @@ impl<'p> Probe<'p> {
     fn made(&self, enforce: Option<Expr>) -> Result<Option<Abstraction>, WhyErr> {
         let copy = copy_node(self.alloc, self.node, enforce)?;
         let made = abstraction(self.alloc, self.program, &copy)?;
-        if made.machine.counts == self.machine.counts {
+        let machine = self.machine;
+        if made.machine.counts == machine.counts {
             Ok(Some(made))
         } else {
             Ok(None)

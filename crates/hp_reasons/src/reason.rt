@@ -100,7 +100,8 @@ fn add_instants(play: &[Instant], page: &mut Page) -> Result<(), AllocError> {
 impl<'t, 'a> Told<'t, 'a> {
     /// Adds what the contract assumes and enforces.
     fn add_contract(&self, page: &mut Page) -> Result<(), AllocError> {
-        let Some(contract) = &self.node.contract else {
+        let node = self.node;
+        let Some(contract) = &node.contract else {
             return Ok(());
         };
         if let Some(assume) = &contract.assume {
