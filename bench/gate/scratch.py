@@ -96,6 +96,13 @@ def item_of(lines):
     return None
 
 
+def rows_of(name):
+    """The module of a name, where it is that of a data type, whose rows stand in the module too."""
+    parts = name.split('.')
+    folder = '/'.join(['crates', parts[1]] + parts[2:-1])
+    return '.'.join(parts[:-1]) if os.path.exists(folder + '.antt') and not os.path.exists(f'{folder}/{parts[-1]}.antt') and not os.path.isdir(folder) else name
+
+
 class Module:
     """The items of a file, and what its `use` lines bring in."""
 
@@ -121,12 +128,13 @@ class Module:
             alias = re.match(r'use ([\w.]+) as (\S+)', line)
             self.aliases[alias[2]] = alias[1]
             return
+        source = group[2] if '.declared.' in group[2] else rows_of(group[2])
         for part in group[3].split(','):
             there, _, here = part.strip().partition(' as ')
             if group[1]:
-                self.passed[there] = group[2]
+                self.passed[there] = source
             else:
-                self.uses.append((group[2], there, here or there))
+                self.uses.append((source, there, here or there))
 
 
 class Scratch:

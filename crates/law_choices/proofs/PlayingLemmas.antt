@@ -10,3 +10,5 @@ pub mod Greatest
 pub mod Programs
 pub mod WorkedMirror
 pub mod Drawn
+pub mod Owed
+pub mod Gates

@@ -76,6 +76,15 @@ watched_whole = record {
   );
 }
 
+-- what it tells are copies of one gate
+pub watched_assume : watched_whole.assume ≡ 5
+unfolding watched_whole
+watched_assume = refl
+
+pub watched_enforce : watched_whole.enforce ≡ 5
+unfolding watched_whole
+watched_enforce = refl
+
 pub some_choosing_law : SomeChoosingLaw
 some_choosing_law = (some_watched, watched_ranked, tt, of_some_tree, all_suit, is_watched, watched_controllable, record { takes = refl; gives = refl }, (refl, tt), watched_whole)
 

@@ -51,7 +51,8 @@ use Rattle.law_games.specs.Mirror.Memories.{SlotsFit}
 use Rattle.law_choices.specs.Runs.Chosen.{inputs_at}
 use Rattle.law_choices.specs.Seeing.Held.{AreHeld, HoldsValues, HoldThroughout}
 use Rattle.law_choices.specs.Seeing.Values.{SeesValues, SeeValues}
-use Rattle.law_choices.proofs.PlayingLemmas.Greatest.{ChoiceLaws, Known, all-choices, inputs-fit, range-long}
+use Rattle.law_choices.proofs.PlayingLemmas.Gates.{range-long}
+use Rattle.law_choices.proofs.PlayingLemmas.Greatest.{ChoiceLaws, Known, all-choices, inputs-fit}
 use Rattle.law_choices.proofs.SeeingLemmas.Held.{held_codes_law}
 use Rattle.law_choices.proofs.SeeingLemmas.Values.{values_choice_law}
 
