@@ -9,7 +9,7 @@ The plan is JSON:
   "opaque":  names of definitions that no proof looks into: each is its type with a hole;
   "texts":   for a definition, by its name, another text: a record with fewer fields;
   "types":   for a declared type, as `hp_typing_Scope`, the module that stands for it; without one it is data of the variants that are named;
-  "answer":  a lemma that is to be checked, with its module, as "Rattle.law_choices.proofs.X.lemma"; others of the modules are loaded with it.
+  "answer":  a lemma that is to be checked, with its module, as "Rattle.law_choices.proofs.X.lemma", or a list of some; of the other modules what these do not reach is loaded and not checked.
 
 Names are followed word by word. Of proofs elsewhere a lemma is its signature with a hole, and abbreviations and records stay; of specs an item is what it is. Then `rt check --only checked --allow-holes` in FOLDER/crates/scratch.
 What it does not see: that a name is private in its own crate, and operators that a copied file brings in."""
@@ -96,6 +96,13 @@ def item_of(lines):
     return None
 
 
+def rows_of(name):
+    """The module of a name, where it is that of a data type, whose rows stand in the module too."""
+    parts = name.split('.')
+    folder = '/'.join(['crates', parts[1]] + parts[2:-1])
+    return '.'.join(parts[:-1]) if os.path.exists(folder + '.antt') and not os.path.exists(f'{folder}/{parts[-1]}.antt') and not os.path.isdir(folder) else name
+
+
 class Module:
     """The items of a file, and what its `use` lines bring in."""
 
@@ -121,12 +128,13 @@ class Module:
             alias = re.match(r'use ([\w.]+) as (\S+)', line)
             self.aliases[alias[2]] = alias[1]
             return
+        source = group[2] if '.declared.' in group[2] else rows_of(group[2])
         for part in group[3].split(','):
             there, _, here = part.strip().partition(' as ')
             if group[1]:
-                self.passed[there] = group[2]
+                self.passed[there] = source
             else:
-                self.uses.append((group[2], there, here or there))
+                self.uses.append((source, there, here or there))
 
 
 class Scratch:
@@ -311,10 +319,14 @@ class Writer:
 
     def check(self):
         """A function whose proof loads all that was written, with one answer."""
-        module, lemma = self.scratch.plan['answer'].rsplit('.', 1)
-        uses = [f'use {self.new_name(name)}.{{{named}}}' for name in self.scratch.plan['modules'] if '.proofs.' in name and name != module for named in self.public(name)]
+        asked = self.scratch.plan['answer']
+        answers = [answer.rsplit('.', 1) for answer in ([asked] if isinstance(asked, str) else asked)]
+        heads = {module for module, _ in answers}
+        uses = [f'use {self.new_name(name)}.{{{named}}}' for name in self.scratch.plan['modules'] if '.proofs.' in name and name not in heads for named in self.public(name)]
+        uses += [f'use {self.new_name(module)}.{{{lemma}}}' for module, lemma in answers]
+        laws = ' '.join(f'let law{at} = {lemma} in' for at, (_, lemma) in enumerate(answers))
         self.put(f'{self.crate}/src/lib.rt', '//! Scratch.\n#![tactic(auto)]\n\nghost use Rattle.std.specs.Prelude.{◌≡◌, true};\n\n/// Loads the laws.\npub fn checked()\n    ensures { true ≡ true }\n{}\n')
-        text = '\n'.join(uses + [f'use {self.new_name(module)}.{{{lemma}}}', 'use Rattle.std.proofs.Common.{refl}', 'use Rattle.scratch.proofs.checked.Goals as goal', '', 'pub returns : goal.returns', f'returns c = let law = {lemma} in refl', ''])
+        text = '\n'.join(uses + ['use Rattle.std.proofs.Common.{refl}', 'use Rattle.scratch.proofs.checked.Goals as goal', '', 'pub returns : goal.returns', f'returns c = {laws} refl', ''])
         self.put(f'{self.crate}/proofs/checked/Answers.antt', text)
 
     def public(self, name):

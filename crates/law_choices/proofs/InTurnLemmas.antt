@@ -7,8 +7,8 @@ pub mod Observers
 pub mod Programs
 mod Said
 pub mod Standing
-mod Telling
-mod Tells
+pub mod Telling
+pub mod Tells
 pub mod TellsFor
 pub mod Texts
 pub mod Types

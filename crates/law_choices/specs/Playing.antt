@@ -6,3 +6,4 @@ pub mod Mirrored
 pub mod Greatest
 pub mod Worked
 pub mod Drawn
+pub mod Telling

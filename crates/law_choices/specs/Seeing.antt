@@ -5,3 +5,4 @@ pub mod Held
 pub mod Greatest
 pub mod Plants
 pub mod Named
+pub mod Telling

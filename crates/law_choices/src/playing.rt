@@ -3,9 +3,10 @@
 //! The functions here do nothing: each is a law, which its contract states.
 #![tactic(auto)]
 
-ghost use Rattle.law_choices.specs.Playing.Drawn.{DrawnFlagsLaw};
+ghost use Rattle.law_choices.specs.Playing.Drawn.{DrawnFlagsLaw, DrawnOwedLaw};
 ghost use Rattle.law_choices.specs.Playing.Greatest.{GreatestLaw, GreatestRunLaw};
-ghost use Rattle.law_choices.specs.Playing.Laws.{InputsChoiceLaw, InputsOweLaw, PlayingLaw, SteeredChoiceLaw};
+ghost use Rattle.law_choices.specs.Playing.Laws.{InputsChoiceLaw, InputsOweLaw, PlayingLaw, SteeredChoiceLaw, SteeredOweLaw};
+ghost use Rattle.law_choices.specs.Playing.Telling.{ContractToldLaw};
 ghost use Rattle.law_choices.specs.Playing.Worked.{SomeMirroredLaw};
 ghost use Rattle.law_choices.specs.Playing.Steering.{ControllerAnswersLaw, TypedAtLaw, WholeRunLaw};
 
@@ -14,14 +15,16 @@ use crate::adding::{
     watched_nodes_choose,
 };
 use crate::answered::extended_nodes_close;
+use crate::in_turn::a_node_tells_each_contract;
 use hp_controller::{
     added_equations_give_inputs, controlled_nodes_follow_their_controller,
-    controllers_answer_with_the_choice, lines_give_their_functions,
+    controllers_answer_with_the_choice, gates_have_their_values, lines_give_their_functions,
 };
 use hp_meaning::contract::{
     choices_are_values, codes_of_values, reactions_are_instants_of_the_game,
 };
 use law_drawing::mirrors::{drawn_nodes_are_mirrored, machine_choices_are_kept};
+use law_drawing::uncalled::nothing_else_is_owed;
 use law_equations::fitting::{calls_are_kept, targets_differ};
 use law_equations::meaning::nodes_have_one_reaction;
 use law_games::forced::{machines_go_along, permitted_is_fitting};
@@ -34,6 +37,13 @@ pub fn machines_that_are_asked_choose()
     machines_go_along();
 }
 
+/// And at each instant its hypothesis and its duty are those of the contract in the game: it sees whether the contract is kept.
+pub fn machines_that_are_asked_owe()
+    ensures { SteeredOweLaw }
+{
+    machines_go_along();
+}
+
 /// Where nothing is free but the inputs of a node, each choice that a machine makes which is asked at each instant is the greatest permitted one.
 pub fn machines_that_know_all_choose()
     ensures { InputsChoiceLaw }
@@ -42,12 +52,12 @@ pub fn machines_that_know_all_choose()
     machines_go_along();
 }
 
-/// There the machine sees, at each instant, whether the contract is kept: its hypothesis and its duty are those of the node.
+/// There the hypothesis and the duty of the machine are those of the node at each instant.
 pub fn machines_that_know_all_owe_what_nodes_do()
     ensures { InputsOweLaw }
 {
     permitted_is_fitting();
-    machines_go_along();
+    machines_that_are_asked_owe();
 }
 
 /// The node that chooses keeps the registers of its machine and asks its controller: each of its reactions is a run of the node that is watched under the choices of the controller.
@@ -106,4 +116,37 @@ pub fn drawn_machines_mirror()
     ensures { DrawnFlagsLaw }
 {
     drawn_nodes_are_mirrored();
+}
+
+/// Gates of the machine that have the values of what the node assumes and enforces tell what the machine supposes and owes, where the node calls nothing.
+pub fn copied_gates_tell_what_is_owed()
+    ensures { DrawnOwedLaw }
+{
+    nothing_else_is_owed();
+}
+
+/// Line by line: behind what a node answers its contract's node tells whether the assumption and the guarantee hold at the instant, where nothing is free in the node but its inputs and it calls nothing.
+pub fn contracts_are_told()
+    ensures { ContractToldLaw }
+{
+    a_node_tells_each_contract();
+    machines_that_know_all_owe_what_nodes_do();
+    gates_have_their_values();
+    callees_may_differ_elsewhere();
+    equations_may_be_added();
+    made_nodes_may_be_added_to();
+    watched_nodes_choose();
+    extended_nodes_close();
+    targets_differ();
+    calls_are_kept();
+    nodes_have_one_reaction();
+    added_equations_give_inputs();
+    controlled_nodes_follow_their_controller();
+    controllers_answer_with_the_choice();
+    codes_of_values();
+    choices_are_values();
+    reactions_are_instants_of_the_game();
+    permitted_is_fitting();
+    machines_go_along();
+    machine_choices_are_kept();
 }

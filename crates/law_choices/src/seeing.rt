@@ -8,6 +8,7 @@ ghost use Rattle.law_choices.specs.Seeing.Greatest.{SeenGreatestLaw};
 ghost use Rattle.law_choices.specs.Seeing.Held.{HeldCodesLaw};
 ghost use Rattle.law_choices.specs.Seeing.Laws.{GivenLaw, ValuesChoiceLaw, ValuesPlayLaw};
 ghost use Rattle.law_choices.specs.Seeing.Named.{NamedValuesLaw};
+ghost use Rattle.law_choices.specs.Seeing.Telling.{SeenToldLaw};
 ghost use Rattle.law_choices.specs.Seeing.Plants.{PlantNamesLaw, PlantReactionLaw};
 
 use crate::adding::{
@@ -15,9 +16,11 @@ use crate::adding::{
     watched_nodes_choose,
 };
 use crate::answered::extended_nodes_close;
+use crate::in_turn::a_node_tells_each_contract;
+use crate::playing::machines_that_are_asked_owe;
 use hp_controller::{
     added_equations_give_inputs, controlled_nodes_follow_their_controller,
-    controllers_answer_with_the_choice,
+    controllers_answer_with_the_choice, gates_have_their_values,
 };
 use hp_meaning::contract::{
     choices_are_values, codes_of_values, reactions_are_instants_of_the_game,
@@ -65,6 +68,32 @@ pub fn nodes_that_see_values_choose_the_greatest()
     ensures codes { HeldCodesLaw }
     ensures greatest { SeenGreatestLaw }
 {
+    callees_may_differ_elsewhere();
+    equations_may_be_added();
+    made_nodes_may_be_added_to();
+    watched_nodes_choose();
+    extended_nodes_close();
+    targets_differ();
+    calls_are_kept();
+    nodes_have_one_reaction();
+    added_equations_give_inputs();
+    controlled_nodes_follow_their_controller();
+    controllers_answer_with_the_choice();
+    codes_of_values();
+    choices_are_values();
+    reactions_are_instants_of_the_game();
+    permitted_is_fitting();
+    machines_go_along();
+    machine_choices_are_kept();
+}
+
+/// There, if the node has a contract and calls nothing, its contract's node tells the values of the assumption and of the guarantee at each instant behind what the node answers.
+pub fn contracts_that_are_seen_are_told()
+    ensures { SeenToldLaw }
+{
+    a_node_tells_each_contract();
+    machines_that_are_asked_owe();
+    gates_have_their_values();
     callees_may_differ_elsewhere();
     equations_may_be_added();
     made_nodes_may_be_added_to();

@@ -24,6 +24,7 @@ use Rattle.law_wellmade.proofs.BegunLemmas.Items.{types_low}
 use Rattle.law_wellmade.proofs.TestedLemmas.FittedLaws.{differ_law}
 use Rattle.law_wellmade.proofs.TimelyLemmas.KindLaws.{are_of}
 use Rattle.law_choices.specs.Playing.Greatest.{ChoosesGreatest, GreatestLaw}
+use Rattle.law_choices.specs.Playing.Telling.{ContractToldLaw}
 use Rattle.law_choices.specs.Runs.Chosen.{ChosenReaction}
 use Rattle.law_choices.specs.Runs.Laws.{ChoosesValues, OfProgramLaw}
 use Rattle.law_choices.proofs.PlayingLemmas.Holding.{runs-of}
@@ -47,6 +48,7 @@ pub record SteeringLaws : Type 0 where
   pub stands : StandsLaw
   pub instances : InstancesLaw
   pub tells : TellsForLaw
+  pub told : ContractToldLaw
 
 drop_front : (P : Node → Type 0) (later items : List Item) → EachNode P (later ++ items) → EachNode P items
 drop_front P [] items v = v

@@ -14,4 +14,5 @@ pub mod PartLaws
 pub mod PlantLaws
 pub mod RunLaws
 pub mod SaidLaws
+pub mod ToldLaws
 pub mod WorkedLaws

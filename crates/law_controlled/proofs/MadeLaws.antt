@@ -171,6 +171,11 @@ module _ (types : List ObcType) (observers : Observing) (node : Node) (n : FlatN
         ranked = ordered.ranked;
       }
 
+  -- it copies the gates of what is assumed and enforced
+  copied : (whole.assume ≡ first_gate w a.machine + a.assume) × (whole.enforce ≡ first_gate w a.machine + a.enforce)
+  unfolding whole
+  copied = (refl, refl)
+
   -- the node that chooses has the name of its clocked equations
   name_is : IsLarger n w → n.name ≡ node.name → c.node.name ≡ node.name
   name_is larger named =
@@ -280,6 +285,7 @@ one_made program types observers node n these named (with_contract controller ow
       enforce = after.1;
       own = own_is.1;
     } in
+    let gates = copied types observers node n a c machine chooses assume.there enforce.there in
     let asks : AsksItsMachine program types observers node it = record {
       is = is;
       abstraction = a;
@@ -287,6 +293,8 @@ one_made program types observers node n these named (with_contract controller ow
       machine = refl;
       flags = refl;
       widths = each_width types (drop (length node.inputs) n.variables) a.machine.widths s.controls s.are;
+      assume = gates.0;
+      enforce = gates.1;
     } in
     let adds : Adds n c.node = choosing_adds types observers node n a c chooses in
     let told_name : turn.telling it.chosen ≡ with_outputs (contract_name node.name) (told_outputs c) c.node =

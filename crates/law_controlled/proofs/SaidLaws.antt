@@ -18,7 +18,7 @@ use Rattle.hp_flat.specs.Nodes.{FlatNode}
 use Rattle.law_equations.specs.Answered.Answering.{AreApart}
 use Rattle.law_equations.specs.Followed.Programs.{all_answers}
 use Rattle.law_history.proofs.StreamsLemmas.NamesApart.{name_found, own_found, ready_apart_after}
-use Rattle.hp_meaning.specs.Contract.Guarantee.{AllSafe}
+use Rattle.hp_meaning.specs.Contract.Guarantee.{AllSafe, HasContract}
 use Rattle.law_games.specs.ReadyGames.Laws.{IsInOrder, TextOrderLaw}
 use Rattle.law_wellmade.specs.Timely.Kinds.{kinds_of_decls}
 use Rattle.law_choices.specs.Observed.Texts.{ObservableTextsLaw}
@@ -32,7 +32,7 @@ use Rattle.law_choices.proofs.OnClocksLemmas.Texts.{when_accepted}
 use Rattle.law_controlled.specs.Allowed.{AllowedLaw, RunsAllowed}
 use Rattle.law_controlled.specs.Greatest.{IsSteeredRun, SaysGreatest}
 use Rattle.law_controlled.specs.Saying.{SaysAllowed}
-use Rattle.law_controlled.specs.Telling.{AreTold, TellsBeside}
+use Rattle.law_controlled.specs.Telling.{AreTold, TellsBeside, TellsContract}
 use Rattle.law_controlled.specs.Said.{GreatestSaidLaw, SaidLaw}
 use Rattle.law_controlled.proofs.DutyLaws.{SteeringLaws}
 use Rattle.law_controlled.proofs.GreatestLaws.{steered}
@@ -86,11 +86,33 @@ module _ (program after : List Item) (o : Obc) (r : RunsAllowed program after o)
       let said = ran inputs (subst (λ ks. AllByRecursion (AreOfKinds ks) inputs) (sym w.takes) kinds) in
       ap reverse said ∙ reverse-reverse (all_answers (answers f) inputs)
 
+  -- the machine of a contract says what the contract's node answers
+  contract_said : TellsForLaw → (f : List ℕ) (n : Node) → node_among (reverse after) f ≡ Some n → HasContract n → (inputs : List (List Value)) → AllByRecursion (AreOfKinds (kinds_of_decls (types_of after) n.inputs)) inputs
+      → reverse (run (machine_behaviour o (contract_name f)) (reverse inputs)) ≡ all_answers (r.allowed.one.answers (contract_name f)) inputs
+  contract_said law f n e has inputs kinds =
+      let answers = r.allowed.one.answers in
+      let takes = (said_of after r.all).takes in
+      let t = law program after r.observers r.all r.chooses r.allowed.one f n e has in
+      let Answers_so : List ℕ → Type 0 = λ g. (rows : List (List Value)) → AllByRecursion (AreOfKinds (takes g)) rows → run (machine_behaviour o g) (reverse rows) ≡ reverse (all_answers (answers g) rows) in
+      let ran : Answers_so (contract_name f) = subst Answers_so t.named (at_one (λ (v : FlatNode). Answers_so v.name) (all_nodes r.all) t.node r.runs t.there) in
+      ap reverse (ran inputs (subst (λ ks. AllByRecursion (AreOfKinds ks) inputs) (sym t.takes) kinds)) ∙ reverse-reverse (all_answers (answers (contract_name f)) inputs)
+
   says : AllowedRunLaw → (f : List ℕ) (n : Node) → node_among (reverse after) f ≡ Some n → SaysAllowed after o f n
   says law f n e inputs kinds = subst (IsAllowedRun after f inputs) (sym (answers_said f n e inputs kinds)) (law after r.all r.allowed f n inputs e kinds)
 
   says_greatest : SteeringLaws → (ranks : List (List ℕ)) → IsInOrder program after ranks → AllSafe after (reverse after) → (f : List ℕ) (n : Node) → node_among (reverse after) f ≡ Some n → SaysGreatest after o f n
-  says_greatest laws ranks order safe f n e inputs kinds = subst (IsSteeredRun after f n inputs) (sym (answers_said f n e inputs kinds)) (steered laws program after ranks order safe o r f n inputs e kinds)
+  says_greatest laws ranks order safe f n e inputs kinds =
+      let s = steered laws program after ranks order safe o r f n inputs e kinds in
+      let said = all_answers (r.allowed.one.answers f) inputs in
+      let told = reverse (run (machine_behaviour o (contract_name f)) (reverse inputs)) in
+      let run_said : IsSteeredRun after f n inputs said told = record {
+        allowed = s.allowed;
+        greatest = s.greatest;
+        is_chosen = s.is_chosen;
+        tells = λ has alone none. subst (TellsContract (s.allowed).past said) (sym (contract_said laws.tells f n e has inputs kinds)) (s.tells has alone none);
+        at_depth = s.at_depth;
+      } in
+      subst (λ xs. IsSteeredRun after f n inputs xs told) (sym (answers_said f n e inputs kinds)) run_said
 
   -- what is answered is told
   told_rows : (answer tell : List Value → List (List Value) → List Value) (inputs : List (List Value)) (Takes : List Value → Type 0) → AllByRecursion Takes inputs
@@ -102,11 +124,8 @@ module _ (program after : List Item) (o : Obc) (r : RunsAllowed program after o)
   tells_beside : TellsForLaw → (f : List ℕ) (n : Node) → node_among (reverse after) f ≡ Some n → TellsBeside after o f n
   tells_beside law f n e has inputs kinds =
       let answers = r.allowed.one.answers in
-      let takes = (said_of after r.all).takes in
       let t = law program after r.observers r.all r.chooses r.allowed.one f n e has in
-      let Answers_so : List ℕ → Type 0 = λ g. (rows : List (List Value)) → AllByRecursion (AreOfKinds (takes g)) rows → run (machine_behaviour o g) (reverse rows) ≡ reverse (all_answers (answers g) rows) in
-      let ran : Answers_so (contract_name f) = subst Answers_so t.named (at_one (λ (v : FlatNode). Answers_so v.name) (all_nodes r.all) t.node r.runs t.there) in
-      let told = ap reverse (ran inputs (subst (λ ks. AllByRecursion (AreOfKinds ks) inputs) (sym t.takes) kinds)) ∙ reverse-reverse (all_answers (answers (contract_name f)) inputs) in
+      let told = contract_said law f n e has inputs kinds in
       subst (λ xs. AreTold xs (reverse (run (machine_behaviour o (contract_name f)) (reverse inputs)))) (sym (answers_said f n e inputs kinds))
       (subst (AreTold (all_answers (answers f) inputs)) (sym told) (told_rows (answers f) (answers (contract_name f)) inputs (AreOfKinds (kinds_of_decls (types_of after) n.inputs)) kinds t.tells))
 

@@ -1,6 +1,6 @@
 -- Machines that say runs of the greatest permitted values: so does that of each node of which nothing is free but the inputs, and it keeps its contract.
 -- Source: own; the controller of Delaval, Marchand and Rutten (LCTES 2010).
-use Rattle.std.specs.Prelude.{◌≡◌, ℕ, IsTrue, List, [], ◌∷◌, reverse, Some}
+use Rattle.std.specs.Prelude.{◌≡◌, codes, ℕ, IsTrue, List, [], ◌∷◌, ◌++◌, reverse, Some}
 use Rattle.std.specs.List.{AllByRecursion}
 use Rattle.hp_base.specs.Kinds.{AreOfKinds}
 use Rattle.hp_base.specs.declared.value.Value.{Value}
@@ -18,8 +18,9 @@ use Rattle.hp_meaning.specs.Contract.Guarantee.{AllAssumed, AllSupposed, HasCont
 use Rattle.law_wellmade.specs.Timely.Kinds.{kinds_of_decls}
 use Rattle.law_choices.specs.InTurn.AllowedRuns.{IsAllowedRun}
 use Rattle.law_choices.specs.Playing.Greatest.{ChoosesGreatest, KnowsAll}
+use Rattle.law_choices.specs.Playing.Inputs.{HasInputsAlone}
 use Rattle.law_controlled.specs.AtDepth.{AreGreatestAtDepth}
-use Rattle.law_controlled.specs.Telling.{TellsBeside}
+use Rattle.law_controlled.specs.Telling.{TellsBeside, TellsContract}
 
 -- At each instant of a past, the duty of the node holds where its hypothesis holds and held at all instants before: it supposes its assumption, and that each callee keeps its contract; it owes its guarantee, and the assumption of each callee.
 abbrev pub KeepsDuty : Node → Past → Type 0
@@ -35,17 +36,19 @@ pub record IsGreatest (program : List Item) (n : Node) (past : Past) : Type 0 wh
   pub duty : HasContract n → KeepsDuty n past
   pub contract : HasContract n → calls_of n ≡ [] → KeepsContract past
 
--- What is said over inputs, newest first, is a run that the program allows. If nothing is free in the node but its inputs, the values in this run are the greatest permitted ones; so, if it calls nothing, it is the run of chosen values. Whatever the node is, each instance in the run, at every depth, has the greatest permitted values if it knows all.
-pub record IsSteeredRun (program : List Item) (f : List ℕ) (n : Node) (inputs said : List (List Value)) : Type 0 where
+-- What is said over inputs, newest first, is a run that the program allows. If nothing is free in the node but its inputs, the values in this run are the greatest permitted ones; so, if it calls nothing, it is the run of chosen values, and what is told beside, newest first, are the assumption and the guarantee of its contract in this run. Whatever the node is, each instance in the run, at every depth, has the greatest permitted values if it knows all.
+pub record IsSteeredRun (program : List Item) (f : List ℕ) (n : Node) (inputs said told : List (List Value)) : Type 0 where
   pub allowed : IsAllowedRun program f inputs said
   pub greatest : KnowsAll program n → IsGreatest program n allowed.past
   pub is_chosen : KnowsAll program n → calls_of n ≡ [] → IsChosenRun program f (reverse inputs) (reverse said)
+  pub tells : HasContract n → HasInputsAlone program n → calls_of n ≡ [] → TellsContract allowed.past said told
   pub at_depth : AreGreatestAtDepth program f allowed.past
 
--- So it is of what the machine of a node says over inputs of its kinds, newest first.
+-- So it is of what the machine of a node says over inputs of its kinds, newest first, and the machine of its contract beside it.
 abbrev pub SaysGreatest : List Item → Obc → List ℕ → Node → Type 0
 SaysGreatest program o f n =
-    (inputs : List (List Value)) → AllByRecursion (AreOfKinds (kinds_of_decls (types_of program) n.inputs)) inputs → IsSteeredRun program f n inputs (reverse (run (machine_behaviour o f) (reverse inputs)))
+    (inputs : List (List Value)) → AllByRecursion (AreOfKinds (kinds_of_decls (types_of program) n.inputs)) inputs
+    → IsSteeredRun program f n inputs (reverse (run (machine_behaviour o f) (reverse inputs))) (reverse (run (machine_behaviour o (f ++ codes "$contract")) (reverse inputs)))
 
 -- So is that of each node; and the machine of a contract says what the machine of its node says, with two truth values behind.
 abbrev pub AllSayGreatest : List Item → Obc → Type 0

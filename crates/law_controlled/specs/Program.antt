@@ -1,6 +1,6 @@
 -- What is made of the nodes of a program whose nodes choose the values of their controllable variables.
 -- Source: own.
-use Rattle.std.specs.Prelude.{◌≡◌, ⊤, List, [], ◌∷◌, map}
+use Rattle.std.specs.Prelude.{◌≡◌, ◌+◌, ⊤, List, [], ◌∷◌, map}
 use Rattle.std.specs.List.{AllByRecursion}
 use Rattle.hp_obc.specs.Machines.{ObcType}
 use Rattle.hp_tree.specs.declared.program.Item.{Item}
@@ -22,6 +22,7 @@ use Rattle.hp_controlled.specs.Compiled.{AreNodes}
 use Rattle.law_controlled.specs.Names.{Adds, HasFreeNames}
 use Rattle.law_choices.specs.Answered.Loops as loop
 use Rattle.law_choices.specs.InTurn.Nodes.{Contracted, IsContracted, Made, plain, contracted, AreAllMade, all_nodes, loops}
+use Rattle.law_choices.specs.Playing.Mirrored.{first_gate}
 use Rattle.law_controlled.specs.Machines.{AreMadeFrom}
 
 -- what is added to the node of a contract so that it chooses are variables with names of their own
@@ -29,7 +30,7 @@ abbrev pub HasAdded : Made → Type 0
 HasAdded (plain f) = ⊤
 HasAdded (contracted c) = Adds c.plant c.chosen.node
 
--- What is made of a node asks the controller of the Boolean machine of its contract. It is told which inputs and free places are early as the circuit of the machine has it, and each control variable has as many bits as in the machine.
+-- What is made of a node asks the controller of the Boolean machine of its contract. It is told which inputs and free places are early as the circuit of the machine has it, and each control variable has as many bits as in the machine. What it tells are copies of the gates of what is assumed and enforced.
 pub record AsksItsMachine (program : List Item) (types : List ObcType) (observers : Observing) (n : Node) (c : Contracted) : Type 0 where
   pub is : IsContracted types observers n c
   pub abstraction : Abstraction
@@ -37,6 +38,8 @@ pub record AsksItsMachine (program : List Item) (types : List ObcType) (observer
   pub machine : is.machine ≡ abstraction.machine
   pub flags : is.is_early ≡ map (λ g. g.is_early) abstraction.given.items
   pub widths : map (λ (k : Control). k.width) is.controls ≡ (is.machine).widths
+  pub assume : is.whole.assume ≡ first_gate types observers n c is + abstraction.assume
+  pub enforce : is.whole.enforce ≡ first_gate types observers n c is + abstraction.enforce
 
 abbrev pub AsksIfContracted : List Item → List ObcType → Observing → Node → Made → Type 0
 AsksIfContracted program types observers n (plain f) = ⊤

@@ -27,7 +27,10 @@ use law_choices::observed::{
     contracts_of_texts_can_be_observed, observers_can_be_compiled, tests_of_observers_are_typed,
 };
 use law_choices::part::{parts_keep_form, parts_keep_reactions};
-use law_choices::playing::{drawn_machines_mirror, nodes_that_know_all_choose_the_greatest};
+use law_choices::playing::{
+    contracts_are_told, copied_gates_tell_what_is_owed, drawn_machines_mirror,
+    nodes_that_know_all_choose_the_greatest,
+};
 use law_choices::runs::chosen_values_make_one_reaction;
 use law_choices::undisturbed::controls_are_apart;
 use law_equations::fewer::nodes_are_compiled;
@@ -71,6 +74,7 @@ pub fn nodes_ask_machines_that_mirror()
     ensures { MirroredLaw }
 {
     drawn_machines_mirror();
+    copied_gates_tell_what_is_owed();
 }
 
 /// Names of variables differ in whatever is made of a ready program, also where variables are controllable, and are no names of memories or instances.
@@ -121,7 +125,7 @@ pub fn machines_of_texts_say_what_is_allowed()
     contracts_of_texts_can_be_observed();
 }
 
-/// And if nothing is free in such a node but its inputs, the controllable variables have the greatest permitted values in that reaction; so it keeps its contract. So it is of each instance in the reaction, at every depth, if none of its inputs is an integer either. The machine of a contract says what the machine of its node says, with two truth values behind.
+/// And if nothing is free in such a node but its inputs, the controllable variables have the greatest permitted values in that reaction; so it keeps its contract. So it is of each instance in the reaction, at every depth, if none of its inputs is an integer either. The machine of a contract says what the machine of its node says, with two truth values behind; if nothing is free in the node but its inputs, and it calls nothing, these are the values of the assumption and of the guarantee in that reaction.
 pub fn machines_of_texts_choose_the_greatest()
     ensures { GreatestSaidLaw }
 {
@@ -129,6 +133,7 @@ pub fn machines_of_texts_choose_the_greatest()
     nodes_that_know_all_choose_the_greatest();
     instances_react_as_callees();
     a_node_tells_each_contract();
+    contracts_are_told();
     chosen_values_make_one_reaction();
     choice_is_permitted();
     choices_are_values();

@@ -8,4 +8,5 @@ pub mod CarriedLemmas
 pub mod InshapeLemmas
 pub mod EarlyLemmas
 pub mod ReachedLemmas
+pub mod UncalledLemmas
 pub mod MirrorsLemmas

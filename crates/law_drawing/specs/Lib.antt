@@ -8,4 +8,5 @@ pub mod Carried
 pub mod Inshape
 pub mod Early
 pub mod Reached
+pub mod Uncalled
 pub mod Mirrors

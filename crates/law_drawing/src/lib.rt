@@ -12,3 +12,4 @@ pub mod mirrors;
 pub mod no_circle;
 pub mod reached;
 pub mod steered;
+pub mod uncalled;

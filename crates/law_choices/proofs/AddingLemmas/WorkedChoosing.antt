@@ -76,6 +76,11 @@ watched_whole = record {
   );
 }
 
+-- what it copies is the first gate of the machine
+pub watched_gates : (watched_whole.assume ≡ 5) × (watched_whole.enforce ≡ 5)
+unfolding watched_whole
+watched_gates = (refl, refl)
+
 pub some_choosing_law : SomeChoosingLaw
 some_choosing_law = (some_watched, watched_ranked, tt, of_some_tree, all_suit, is_watched, watched_controllable, record { takes = refl; gives = refl }, (refl, tt), watched_whole)
 

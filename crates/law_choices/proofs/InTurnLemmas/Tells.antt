@@ -25,7 +25,7 @@ use Rattle.law_choices.proofs.InTurnLemmas.Contracted.{NodeLaws, Ground, plant_w
 -- ---- reactions
 
 -- the outputs of a node do not matter to its reactions
-tell_reaction : (answers : Answers) (c : Chosen) (rows : List (List Value)) (instants : List Instant) → Reaction answers (telling c) rows instants → Reaction answers c.node rows instants
+pub tell_reaction : (answers : Answers) (c : Chosen) (rows : List (List Value)) (instants : List Instant) → Reaction answers (telling c) rows instants → Reaction answers c.node rows instants
 tell_reaction answers c [] [] r = tt
 tell_reaction answers c [] (now ∷ past) r = absurd r
 tell_reaction answers c (row ∷ rows) [] r = absurd r

@@ -54,7 +54,7 @@ cut-all count now [] h = refl
 cut-all count now (x ∷ xs) h = ap (λ v. v ∷ map (cut count now) xs) (cut-below count now x h.0) ∙ ap (λ vs. now x ∷ vs) (cut-all count now xs h.1)
 
 -- variables that hold bits hold truth values
-are-bits : (now : Instant) (xs : List ℕ) (bits : Bits) → map now xs ≡ map (λ b. B b) bits → AreBits now xs
+pub are-bits : (now : Instant) (xs : List ℕ) (bits : Bits) → map now xs ≡ map (λ b. B b) bits → AreBits now xs
 are-bits now [] bits h = tt
 are-bits now (x ∷ xs) [] h = absurd cc
 are-bits now (x ∷ xs) (b ∷ bits) h =

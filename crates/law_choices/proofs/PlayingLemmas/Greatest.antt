@@ -8,7 +8,7 @@ use Rattle.hp_base.specs.declared.ty.Ty.{Ty}
 use Rattle.hp_base.specs.declared.ty.Ty.TheVariants as ty
 use Rattle.hp_base.specs.declared.value.Value.{Value}
 use Rattle.hp_base.specs.declared.value.Value.TheVariants.{Absent, Nil, B, E, I, Star}
-use Rattle.hp_boolx.specs.Machine.{Machine}
+use Rattle.hp_boolx.specs.Machine.{Machine, game}
 use Rattle.hp_boolx.specs.Search.{Bits}
 use Rattle.hp_obc.specs.Machines.{ObcType}
 use Rattle.hp_tree.specs.declared.program.Item.{Item}
@@ -25,8 +25,9 @@ use Rattle.hp_flat.specs.Nodes.{FlatNode}
 use Rattle.hp_meaning.specs.Causal.Sources.{below}
 use Rattle.hp_meaning.specs.Contract.ChosenRuns.{NamesApart}
 use Rattle.hp_meaning.specs.Contract.Codes.{CodeLaw, WidthLaw}
-use Rattle.hp_meaning.specs.Contract.Forgetting.{ContractsCallNothing, erase}
-use Rattle.hp_meaning.specs.Contract.FreePlaces.{InputsFit, IsAbstractOf}
+use Rattle.hp_meaning.specs.Contract.Duties.{assumes, duty, enforces, hypothesis}
+use Rattle.hp_meaning.specs.Contract.Forgetting.{ContractsCallNothing, erase, erased}
+use Rattle.hp_meaning.specs.Contract.FreePlaces.{InputsFit, IsAbstractOf, calls_of}
 use Rattle.hp_meaning.specs.Contract.Game.{AreChoices, Choice, ChoiceTypesLaw, IsAmong, IsChoiceOf, IsChosen, choices_of, preferred}
 use Rattle.hp_meaning.specs.Contract.Guarantee.{ErasedNextLaw, Through, Typed}
 use Rattle.hp_meaning.specs.Contract.Slots.{FreePlace, slots_of_node}
@@ -46,6 +47,7 @@ use Rattle.hp_controller.specs.declared.decoding.Control.{Control}
 use Rattle.hp_controller.specs.Controlled.{AreChosen, ControlledLaw, placing_of}
 use Rattle.hp_controller.specs.Decoding.{values_by}
 use Rattle.hp_controller.specs.Extending.{ExtendedLaw, cut}
+use Rattle.hp_controller.specs.Gates.{GatesLaw}
 use Rattle.hp_controller.specs.Steps.{AlwaysSteered, AnswersLaw, IsSteered, Placing, bits_of, control_places, register_places, state_after}
 use Rattle.hp_watch.specs.declared.watching.Free.{Free}
 use Rattle.hp_watch.specs.Adding.{type_at}
@@ -57,7 +59,8 @@ use Rattle.law_choices.specs.Coded.Codes.{all_bits_at, bits_of_kinds, early_plac
 use Rattle.law_choices.specs.InTurn.Nodes.{Contracted, IsContracted}
 use Rattle.law_choices.specs.OnClocks.Meaning.{GivesAnswers}
 use Rattle.law_choices.specs.Playing.Inputs.{GiveInputs, GivesInputs, HasInputsAlone, codes_of_inputs, places_in_row}
-use Rattle.law_choices.specs.Playing.Mirrored.{early_flags}
+use Rattle.law_choices.specs.Playing.Laws.{InputsOweLaw, bits_at}
+use Rattle.law_choices.specs.Playing.Mirrored.{TellsOwed, early_flags, first_gate}
 use Rattle.law_choices.specs.Playing.Steering.{asking_instants}
 use Rattle.law_choices.specs.Runs.Laws.{ChoosesValues}
 use Rattle.law_choices.proofs.AddingLemmas.Adding.{targets_kinds}
@@ -67,9 +70,12 @@ use Rattle.law_choices.proofs.InTurnLemmas.Contracted.{Ground, NodeLaws, chooses
 use Rattle.law_choices.proofs.PlayingLemmas.Asking.{are_coded, asking, chosen, controls, cut-all, early_below, early_many, is_steered, machine, made, made_inputs, name, plant_below, seen, survey, type-same}
 use Rattle.law_choices.proofs.PlayingLemmas.ControlBits.{Suits, chosen-back, controls-are, here as same_place, of-long, suits}
 use Rattle.law_choices.proofs.PlayingLemmas.Flags.{all-early, all_true, flags-inputs, inputs-alone, none-late}
+use Rattle.law_choices.proofs.PlayingLemmas.Gates.{range-long}
 use Rattle.law_choices.proofs.PlayingLemmas.Holding.{AreLong, Does, Runs, controls-held, found, inputs-held, meets}
 use Rattle.law_choices.proofs.PlayingLemmas.Inputs.{inputs_choice_law}
+use Rattle.law_choices.proofs.PlayingLemmas.Owed.{owed-alone, supposed-alone}
 use Rattle.law_choices.proofs.PlayingLemmas.Playing.{bits-given}
+use Rattle.law_choices.proofs.PlayingLemmas.Told.{told-at}
 
 -- ---- values of types
 
@@ -112,10 +118,6 @@ codes-kinds : (types : List TypeDecl) (ds : List Decl) (vs : List Value) → cod
 codes-kinds types [] vs = refl
 codes-kinds types (d ∷ ds) [] = refl
 codes-kinds types (d ∷ ds) (v ∷ vs) = ap₂ (λ a b. a ++ b) (code_bits_law types d.ty v) (codes-kinds types ds vs)
-
-pub range-long : (a k : ℕ) → length (range_with_len a k) ≡ k
-range-long a zero = refl
-range-long a (suc k) = ap suc (range-long (a + 1) k)
 
 -- what is read of the first variables is what is read of more
 free-same : (vs : List Variable) (n other : FlatNode) (xs : List ℕ) → other.variables ≡ n.variables ++ vs → AreBelow (length n.variables) xs → flat_map (free_input other) xs ≡ flat_map (free_input n) xs
@@ -355,3 +357,27 @@ module _ (laws : ChoiceLaws) (program after : List Item) (ranks : List (List ℕ
         let u = laws.one types all answers choosing well of-kinds rows (subst (λ ks. AllByRecursion (AreOfKinds ks) rows) (sym chosen-kinds) kinds) in
         let run = is_steered laws.nodes types all observers n c g answers laws.answers laws.extended laws.controlled gives rows u.instants u.reaction u.possible in
         greatest rows u.instants past kinds u.reaction u.possible runs (typed rows past (rows-of rows kinds) runs) run.steered run.chosen
+
+    -- ---- what the machine supposes and owes
+
+    -- At the newest instant of a reaction of the equations, beside one of the node, the machine is steered, and supposes and owes what the node does.
+    node-owes : InputsOweLaw → AnswersOfKinds answers all → (row : List Value) (rows : List (List Value)) (now : Instant) (past : Past) → AllByRecursion (AreOfKinds (kinds_of_decls decls n.inputs)) (row ∷ rows) → Runs choices decls earlier n (row ∷ rows) (now ∷ past)
+        → (i : flat.Instant) (instants : List flat.Instant) → Reaction answers choosing (row ∷ rows) (i ∷ instants)
+        → IsSteered m p (asked instants) (cut V i) × IsPossible types choosing i × ((game m).hyp (bits_at m p (cut V i)) ≡ hypothesis n (erased now)) × ((game m).duty (bits_at m p (cut V i)) ≡ duty n (erased now))
+    node-owes owe of-kinds row rows now past kinds runs i instants reaction =
+        let well = (chooses laws.nodes types all observers n c g).0 in
+        let u = laws.one types all answers choosing well of-kinds (row ∷ rows) (subst (λ ks. AllByRecursion (AreOfKinds ks) (row ∷ rows)) (sym chosen-kinds) kinds) in
+        let possible : AllByRecursion (IsPossible types choosing) (i ∷ instants) = subst (AllByRecursion (IsPossible types choosing)) (sym (u.only (i ∷ instants) reaction)) u.possible in
+        let run = is_steered laws.nodes types all observers n c g answers laws.answers laws.extended laws.controlled gives (row ∷ rows) (i ∷ instants) reaction possible in
+        let given : GiveInputs after n m p (asked (i ∷ instants)) (now ∷ past) = gives-all (row ∷ rows) (i ∷ instants) (now ∷ past) kinds reaction possible runs (typed (row ∷ rows) (now ∷ past) (rows-of (row ∷ rows) kinds) runs) run.steered run.chosen in
+        let it = owe program after ranks order earlier n stands alone m known.mirrors p none-is-late (cut V i) (asked instants) now past run.steered given in
+        (run.steered.0, possible.0, it.0, it.1)
+
+    -- So if the node calls nothing, the copies of two gates that tell what is supposed and owed have the values of the assumption and of the guarantee.
+    pub node-tells : InputsOweLaw → GatesLaw → AnswersOfKinds answers all → calls_of n ≡ [] → (assume enforce : ℕ) → TellsOwed m assume enforce → (g.is).whole.assume ≡ first_gate types observers n c g.is + assume → (g.is).whole.enforce ≡ first_gate types observers n c g.is + enforce
+        → (row : List Value) (rows : List (List Value)) (now : Instant) (past : Past) → AllByRecursion (AreOfKinds (kinds_of_decls decls n.inputs)) (row ∷ rows) → Runs choices decls earlier n (row ∷ rows) (now ∷ past)
+        → (i : flat.Instant) (instants : List flat.Instant) → Reaction answers choosing (row ∷ rows) (i ∷ instants) → (i c.chosen.assume ≡ B (assumes now)) × (i c.chosen.enforce ≡ B (enforces now))
+    node-tells owe gates of-kinds none assume enforce tells assume_copied enforce_copied row rows now past kinds runs i instants reaction =
+        let owed = node-owes owe of-kinds row rows now past kinds runs i instants reaction in
+        told-at laws.nodes types all observers n c g answers instants row i reaction.1 owed.1 (asked instants) owed.0 gates assume enforce tells assume_copied enforce_copied
+        (assumes now) (enforces now) (owed.2 ∙ supposed-alone n none now) (owed.3 ∙ owed-alone n none now)

@@ -7,9 +7,7 @@ use Rattle.hp_base.specs.declared.ty.Ty.{Ty}
 use Rattle.hp_base.specs.declared.ty.Ty.TheVariants as ty
 use Rattle.hp_base.specs.declared.value.Value.{Value}
 use Rattle.hp_base.specs.declared.value.Value.TheVariants.{I}
-use Rattle.hp_boolx.specs.Game.{joined}
-use Rattle.hp_boolx.specs.Machine.{Machine, game}
-use Rattle.hp_boolx.specs.Search.{Bits}
+use Rattle.hp_boolx.specs.Machine.{Machine}
 use Rattle.hp_tree.specs.declared.program.Item.{Item}
 use Rattle.hp_tree.specs.Blocks.{Decl}
 use Rattle.hp_tree.specs.Programs.{Contract, Node, TypeDecl}
@@ -20,27 +18,23 @@ use Rattle.hp_tree.specs.Reaction.{controls_at}
 use Rattle.hp_tree.specs.Values.{IsOf}
 use Rattle.hp_meaning.specs.Causal.Sources.{below}
 use Rattle.hp_meaning.specs.Contract.Codes.{code}
-use Rattle.hp_meaning.specs.Contract.Duties.{duty, hypothesis}
 use Rattle.hp_meaning.specs.Contract.Forgetting.{erased, erase}
-use Rattle.hp_meaning.specs.Contract.Memory.{bits, memory}
 use Rattle.hp_meaning.specs.Contract.FreePlaces.{InputsFit, IsAbstractOf, IsEarly, by_step, free_in_block, free_in_contract}
 use Rattle.hp_meaning.specs.Contract.Game.{Choice}
 use Rattle.hp_meaning.specs.Contract.Slots.{Slot, register, free, input, control, FreePlace, free_among, free_places, slots_of_node}
 use Rattle.law_equations.specs.Meaning.Instants as flat
 use Rattle.law_games.specs.Forced.Laws.{InstantsLaw}
-use Rattle.law_games.specs.Forced.Twins.{AlongLaw, LongerLaw, PlayedChoiceLaw, PlaysLaw}
+use Rattle.law_games.specs.Forced.Twins.{PlayedChoiceLaw}
 use Rattle.law_games.specs.Mirror.Histories.{EarlyFits}
 use Rattle.law_games.specs.Mirror.Memories.{SlotsFit}
-use Rattle.law_games.specs.Mirror.Mirrored.{Mirrors, codes_at, controls_among, early_among, given_with, late_among, valuation}
+use Rattle.law_games.specs.Mirror.Mirrored.{Mirrors, codes_at, early_among, given_with, late_among}
 use Rattle.law_games.specs.ReadyGames.FittingHistories.{IsFitting, AllFitting}
 use Rattle.law_games.specs.ReadyGames.Laws.{IsInOrder, Stands}
-use Rattle.law_games.proofs.MirrorLemmas.SameChoices.{own_bits}
-use Rattle.law_games.proofs.ReadyGamesLemmas.Settled.{ready_settled}
-use Rattle.hp_controller.specs.Steps.{Placing, bits_of, control_places, register_places, state_after}
+use Rattle.hp_controller.specs.Steps.{Placing, bits_of, control_places}
 use Rattle.law_choices.specs.Playing.Given.{GivesSame, GiveSame}
 use Rattle.law_choices.specs.Playing.Inputs.{placed, places_in_row, HasInputsAlone, codes_of_inputs, GivesInputs, GiveInputs}
-use Rattle.law_choices.specs.Playing.Laws.{InputsChoiceLaw, InputsOweLaw, bits_at}
-use Rattle.law_choices.proofs.PlayingLemmas.Playing.{bits-given, playing_law, steered_choice_law}
+use Rattle.law_choices.specs.Playing.Laws.{InputsChoiceLaw, InputsOweLaw, SteeredOweLaw}
+use Rattle.law_choices.proofs.PlayingLemmas.Playing.{bits-given, steered_choice_law}
 
 -- ---- the slots of inputs, and those behind them
 
@@ -276,37 +270,6 @@ inputs_choice_law fitting played program after ranks order earlier n stands inpu
     (λ d. slots-anyhow program after ranks order earlier n stands fitting inputs_alone _ refl (map marked g.inputs) x.others now c d x.fits) c g.is_choice
     (input-codes program after ranks order earlier n stands fitting inputs_alone _ refl M.is_early g.inputs now c g.fit ∙ sym g.early_bits) (sym g.chosen_bits ∙ chosen)
 
--- over plain bits, so that gates are not unfolded
-follows : (f : Bits → Bool) (u v : Bits) (b : Bool) → u ≡ v → f v ≡ b → f u ≡ b
-follows f u v b e h = ap f e ∙ h
-
-four-bits : (r s u v c d w x : Bits) → r ≡ s → u ≡ v → c ≡ d → w ≡ x → joined r u c w ≡ joined s v d x
-four-bits r s u v c d w x e f g h = ap (λ z. joined z u c w) e ∙ ap (λ z. joined s z c w) f ∙ ap (λ z. joined s v z w) g ∙ ap (λ z. joined s v d z) h
-
-pub inputs_owe_law : InstantsLaw → PlaysLaw → LongerLaw → AlongLaw → InputsOweLaw
-inputs_owe_law fitting plays longer along program after ranks order earlier n stands inputs_alone m M p none i instants now past steered given =
-    let g = given.1 in
-    let c = controls_at n now in
-    let here = steered.0 in
-    let types = types_of after in
-    let inputs = map marked g.inputs in
-    let all = all-fit program after ranks order earlier n stands fitting inputs_alone _ refl m M p none instants past given.0 in
-    let x = fits-now program after ranks order earlier n stands fitting inputs_alone _ refl m M p none past i now all g in
-    let same = all-same program after ranks order earlier n stands fitting inputs_alone _ refl m M p none instants past given.0 in
-    let state = playing_law after earlier n m M p instants (erase past) steered.1 same in
-    let b = plays program after ranks order earlier n stands m M (erase past) (state_after m p instants) state in
-    let y = longer program after ranks order earlier n stands (erase past) b.0 inputs now c (erased now) b.1.0 g.is_choice x in
-    let goes = along program after ranks order earlier n stands m M (erase past) b.0 inputs x.others c (erased now) y.0 b.1.0 y.1 in
-    let settled = ready_settled program after ranks order earlier n stands in
-    let registers : bits_of i (register_places m p) ≡ bits after n b.0 = bits-given i (register_places m p) (state_after m p instants) here.registers ∙ b.1.1 in
-    let early : bits_of i p.early ≡ codes_at types (early_among M.is_early (slots_of_node after n)) (given_with inputs x.others c) =
-    g.early_bits ∙ sym (input-codes program after ranks order earlier n stands fitting inputs_alone _ refl M.is_early g.inputs x.others c g.fit) in
-    let chosen : bits_of i (control_places m p) ≡ codes_at types (controls_among (slots_of_node after n)) (given_with inputs x.others c) = g.chosen_bits ∙ sym (own_bits after settled.0 earlier n m settled.1 M inputs x.others c) in
-    let late : bits_of i p.late ≡ codes_at types (late_among M.is_early (slots_of_node after n)) (given_with inputs x.others c) =
-    ap (bits_of i) none ∙ sym (ap (λ ps. codes_at types ps (given_with inputs x.others c)) (late-places program after ranks order earlier n stands fitting inputs_alone _ refl M.is_early)) in
-    let valued : bits_at m p i ≡ valuation after n M.is_early (memory after n b.0) (given_with inputs x.others c) =
-    four-bits (bits_of i (register_places m p)) (bits after n b.0) (bits_of i p.early) (codes_at types (early_among M.is_early (slots_of_node after n)) (given_with inputs x.others c))
-    (bits_of i (control_places m p)) (codes_at types (controls_among (slots_of_node after n)) (given_with inputs x.others c)) (bits_of i p.late) (codes_at types (late_among M.is_early (slots_of_node after n)) (given_with inputs x.others c)) registers early chosen late in (
-      follows (game m).hyp (bits_at m p i) (valuation after n M.is_early (memory after n b.0) (given_with inputs x.others c)) (hypothesis n (erased now)) valued goes.supposes,
-      follows (game m).duty (bits_at m p i) (valuation after n M.is_early (memory after n b.0) (given_with inputs x.others c)) (duty n (erased now)) valued goes.owes,
-    )
+pub inputs_owe_law : InstantsLaw → SteeredOweLaw → InputsOweLaw
+inputs_owe_law fitting owe program after ranks order earlier n stands inputs_alone m M p none i instants now past steered given =
+    owe program after ranks order earlier n stands m M p i instants (erased now) (erase past) steered (all-same program after ranks order earlier n stands fitting inputs_alone _ refl m M p none (i ∷ instants) (now ∷ past) given)

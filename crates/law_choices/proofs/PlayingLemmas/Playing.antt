@@ -1,5 +1,5 @@
 -- A machine that is asked plays along with the game.
-use Rattle.std.proofs.Common.{◌≡◌, ℕ, List, [], ◌∷◌, map, refl, sym, ap, subst, ◌∙◌}
+use Rattle.std.proofs.Common.{◌≡◌, ℕ, Bool, List, [], ◌∷◌, map, refl, sym, ap, subst, ◌∙◌}
 use Rattle.hp_base.specs.declared.value.Value.{Value}
 use Rattle.hp_base.specs.declared.value.Value.TheVariants.{B}
 use Rattle.hp_boolx.specs.Game.{joined}
@@ -11,15 +11,19 @@ use Rattle.hp_tree.specs.Programs.{Node}
 use Rattle.hp_tree.specs.Instant.{Instant, Past}
 use Rattle.hp_tree.specs.Meaning.{types_of}
 use Rattle.hp_tree.specs.Operators.{marked}
+use Rattle.hp_meaning.specs.Contract.Duties.{duty, hypothesis}
 use Rattle.hp_meaning.specs.Contract.Game.{Choice, IsChoiceOf}
+use Rattle.hp_meaning.specs.Contract.Memory.{bits as bits_behind, memory}
 use Rattle.hp_meaning.specs.Contract.Slots.{slots_of_node}
 use Rattle.law_games.specs.ReadyGames.FittingHistories.{IsFitting}
 use Rattle.law_equations.specs.Meaning.Instants as flat
-use Rattle.law_games.specs.Forced.Twins.{Plays, PlayedChoiceLaw}
+use Rattle.law_games.specs.Forced.Twins.{AlongLaw, LongerLaw, Plays, PlayedChoiceLaw, PlaysLaw}
 use Rattle.law_games.specs.Mirror.Choices.{choice_bits}
-use Rattle.law_games.specs.Mirror.Mirrored.{Mirrors, codes_at, early_among, given_with, late_among}
+use Rattle.law_games.specs.Mirror.Mirrored.{Mirrors, codes_at, controls_among, early_among, given_with, late_among, valuation}
+use Rattle.law_games.proofs.MirrorLemmas.SameChoices.{own_bits}
+use Rattle.law_games.proofs.ReadyGamesLemmas.Settled.{ready_settled}
 use Rattle.hp_controller.specs.Steps.{Placing, bits_of, register_places, control_places, state_after}
-use Rattle.law_choices.specs.Playing.Laws.{PlayingLaw, SteeredChoiceLaw}
+use Rattle.law_choices.specs.Playing.Laws.{PlayingLaw, SteeredChoiceLaw, SteeredOweLaw, bits_at}
 
 pub bits-given : (now : flat.Instant) (xs : List ℕ) (bits : Bits) → map now xs ≡ map (λ b. B b) bits → bits_of now xs ≡ bits
 bits-given now xs bits h = through xs ∙ ap (λ vs. map flat.is_true vs) h ∙ back bits
@@ -77,3 +81,28 @@ steered_choice_law played program after ranks order earlier n stands m M prefer 
     let plays = playing_law after earlier n m M p instants history steered.1 same in
     let it = played program after ranks order earlier n stands m M prefer many history (state_after m p instants) plays inputs early fits slots c choice in
     it.1 (same-choice (λ u d. IsChoice (game m) (state_after m p instants) u d) (codes_at (types_of after) (early_among M.is_early (slots_of_node after n)) (given_with (map marked inputs) early c)) (bits_of i p.early) (choice_bits after n c) now.choice codes bits now.chosen)
+
+-- over plain bits, so that gates are not unfolded
+follows : (f : Bits → Bool) (u v : Bits) (b : Bool) → u ≡ v → f v ≡ b → f u ≡ b
+follows f u v b e h = ap f e ∙ h
+
+pub steered_owe_law : PlaysLaw → LongerLaw → AlongLaw → SteeredOweLaw
+steered_owe_law plays longer along program after ranks order earlier n stands m M p i instants now history steered same =
+    let g = same.1 in
+    let here = steered.0 in
+    let types = types_of after in
+    let slots = slots_of_node after n in
+    let state = playing_law after earlier n m M p instants history steered.1 same.0 in
+    let b = plays program after ranks order earlier n stands m M history (state_after m p instants) state in
+    let y = longer program after ranks order earlier n stands history b.0 g.inputs g.early g.chosen now b.1.0 g.is_choice g.fits in
+    let given = given_with g.inputs (g.fits).others g.chosen in
+    let goes = along program after ranks order earlier n stands m M history b.0 g.inputs (g.fits).others g.chosen now y.0 b.1.0 y.1 in
+    let settled = ready_settled program after ranks order earlier n stands in
+    let registers : bits_of i (register_places m p) ≡ bits_behind after n b.0 = bits-given i (register_places m p) (state_after m p instants) here.registers ∙ b.1.1 in
+    let chosen : bits_of i (control_places m p) ≡ codes_at types (controls_among slots) given = g.chosen_bits ∙ sym (own_bits after settled.0 earlier n m settled.1 M g.inputs (g.fits).others g.chosen) in
+    let valued : bits_at m p i ≡ valuation after n M.is_early (memory after n b.0) given =
+    same-bits (bits_of i (register_places m p)) (bits_behind after n b.0) (bits_of i p.early) (codes_at types (early_among M.is_early slots) given)
+    (bits_of i (control_places m p)) (codes_at types (controls_among slots) given) (bits_of i p.late) (codes_at types (late_among M.is_early slots) given) registers g.early_bits chosen g.late_bits in (
+      follows (game m).hyp (bits_at m p i) (valuation after n M.is_early (memory after n b.0) given) (hypothesis n now) valued goes.supposes,
+      follows (game m).duty (bits_at m p i) (valuation after n M.is_early (memory after n b.0) given) (duty n now) valued goes.owes,
+    )

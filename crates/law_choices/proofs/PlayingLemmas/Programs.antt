@@ -1,20 +1,24 @@
 -- In the nodes of a program of which nothing is free but the inputs the controllable variables have the greatest permitted values.
-use Rattle.std.proofs.Common.{◌≡◌, ◌⊎◌, inl, inr, ℕ, ◌+◌, List, [], ◌∷◌, ◌++◌, length, map, reverse, Option, None, Some, refl, sym, ap, ap₂, subst, ◌∙◌, arith}
+use Rattle.std.proofs.Common.{◌≡◌, ◌⊎◌, inl, inr, ℕ, ◌+◌, Bool, List, [], ◌∷◌, ◌++◌, length, map, reverse, Option, None, Some, refl, sym, ap, ap₂, subst, ◌∙◌, arith}
 use Rattle.std.specs.List.{AllByRecursion, range_with_len}
-use Rattle.std.proofs.lemmas.List.{append_assoc, append-nil, length-map, reverse-append}
-use Rattle.std.specs.Prelude.{zero, suc}
+use Rattle.std.proofs.lemmas.List.{append_assoc, append-nil, length-append, length-map, map-append, reverse-append}
+use Rattle.std.proofs.lemmas.Option.{none-some}
+use Rattle.std.specs.Prelude.{⊤, zero, suc}
 use Rattle.hp_base.specs.Kinds.{KindData, AreOfKinds}
 use Rattle.hp_base.specs.declared.value.Value.{Value}
+use Rattle.hp_base.specs.declared.value.Value.TheVariants.{B}
 use Rattle.hp_obc.specs.Machines.{ObcType}
 use Rattle.hp_tree.specs.declared.program.Item.{Item}
 use Rattle.hp_tree.specs.declared.program.Item.TheVariants.{TypeItem, NodeItem}
 use Rattle.hp_tree.specs.Blocks.{Decl}
 use Rattle.hp_tree.specs.Programs.{Contract, Node, TypeDecl}
-use Rattle.hp_tree.specs.Instant.{Controls, Inputs, Instant, Past, part}
+use Rattle.hp_tree.specs.Instant.{Controls, Inputs, Instant, Past, nothing, part}
 use Rattle.hp_tree.specs.Meaning.{types_of, node_among, controls_of}
 use Rattle.hp_tree.specs.Reaction.{controls_at, row_of}
 use Rattle.hp_tree.specs.Values.{AreOf}
 use Rattle.hp_meaning.specs.Contract.Forgetting.{erase}
+use Rattle.hp_meaning.specs.Contract.Duties.{assumes, enforces}
+use Rattle.hp_meaning.specs.Contract.FreePlaces.{calls_of}
 use Rattle.hp_meaning.specs.Contract.Game.{AreChoices, AtMost, Choice, Permitted, choices_of, first_of}
 use Rattle.hp_meaning.specs.Contract.ChosenRuns.{NamesApart}
 use Rattle.hp_meaning.specs.Contract.Guarantee.{Through, Typed}
@@ -24,11 +28,12 @@ use Rattle.law_values.proofs.FilledLemmas.Ready.{ready_firsts}
 use Rattle.hp_automata.specs.Lowering.{Enumerations, enumerations, lowered_item, lowered_program}
 use Rattle.law_automata.proofs.LowerableLemmas.Texts.{each_reverse}
 use Rattle.hp_flat.specs.Nodes.{FlatNode}
-use Rattle.law_equations.specs.Followed.Programs.{Answered}
+use Rattle.law_equations.specs.Followed.Programs.{Answered, all_answers}
 use Rattle.law_equations.specs.Made.Making.{Known, flat_type}
 use Rattle.law_equations.specs.Made.Types.{obc_types}
 use Rattle.law_equations.specs.Meaning.Kinding.{Callees, kind_of_type, kinds_at, variable_kind}
-use Rattle.law_equations.specs.Meaning.Reactions.{Answers}
+use Rattle.law_equations.specs.Meaning.Instants as flat
+use Rattle.law_equations.specs.Meaning.Reactions.{Answers, Reaction}
 use Rattle.hp_complete.specs.Declaring.{known_of}
 use Rattle.hp_complete.specs.Made.{AreMadeOf}
 use Rattle.law_games.specs.ReadyGames.Laws.{IsInOrder, Stands}
@@ -41,6 +46,7 @@ use Rattle.law_wellmade.specs.Timely.Kinds as timely
 use Rattle.law_wellmade.specs.Timely.Tested.{ConstructorsDiffer}
 use Rattle.law_wellmade.proofs.TestedLemmas.FittedLaws.{differ_law}
 use Rattle.hp_controller.specs.declared.decoding.Control.{Control}
+use Rattle.hp_controller.specs.Gates.{GatesLaw}
 use Rattle.hp_watch.specs.Watching.{Observing}
 use Rattle.law_choices.specs.Answered.Loops.{AreTheirChoices, IsItsChoice}
 use Rattle.law_choices.specs.Choosing.Choices.{Choices}
@@ -50,21 +56,27 @@ use Rattle.law_choices.specs.OnClocks.WellMade.{callees_of}
 use Rattle.law_choices.specs.Runs.Chosen.{ChosenReaction}
 use Rattle.law_choices.specs.Runs.Laws.{ChoosesValues}
 use Rattle.law_choices.specs.InTurn.Laws.{IsAllowed, IsChoosing, said_of}
-use Rattle.law_choices.specs.InTurn.Nodes.{AreAllMade, Contracted, IsMade, IsOwn, Made, all_nodes, contracted, loops, plain}
+use Rattle.law_choices.specs.InTurn.Nodes.{AreAllMade, Contracted, IsMade, IsOwn, Made, all_nodes, contract_name, contracted, loops, plain, telling}
 use Rattle.law_choices.specs.Answered.Loops as loop
+use Rattle.law_choices.specs.InTurn.Telling.{TellsFor, TellsForLaw}
 use Rattle.law_choices.specs.Playing.Greatest.{AreMirrored, ChoosesGreatest, GreatestLaw, GreatestRunLaw, KnowsAll}
 use Rattle.law_choices.specs.Playing.Inputs.{HasInputsAlone}
+use Rattle.law_choices.specs.Playing.Laws.{InputsOweLaw, SteeredOweLaw}
 use Rattle.law_choices.specs.Playing.Mirrored.{IsMirrored}
+use Rattle.law_choices.specs.Playing.Telling.{AreToldOf, ContractToldLaw}
 use Rattle.law_choices.proofs.AnsweredLemmas.Programs.{decls_kinds, takes_kinds}
-use Rattle.law_choices.proofs.InTurnLemmas.Contracted.{Ground}
+use Rattle.law_choices.proofs.InTurnLemmas.Contracted.{Ground, chosen_named}
 use Rattle.law_choices.proofs.InTurnLemmas.Programs.{Grounded, TurnLaws, all_old, all_own, all_stand, have_bytes}
+use Rattle.law_choices.proofs.InTurnLemmas.Tells.{tell_reaction}
 use Rattle.law_wellmade.proofs.BegunLemmas.Items.{types_low}
 use Rattle.law_choices.proofs.OnClocksLemmas.Programs.{some_of}
-use Rattle.law_choices.proofs.PlayingLemmas.Greatest.{ChoiceLaws, Known as KnownNode, node-greatest, range-long}
+use Rattle.law_choices.proofs.PlayingLemmas.Gates.{range-long}
+use Rattle.law_choices.proofs.PlayingLemmas.Greatest.{ChoiceLaws, Known as KnownNode, node-greatest, node-tells}
 use Rattle.law_choices.specs.Seeing.Greatest.{SeenGreatestLaw}
-use Rattle.law_choices.specs.Seeing.Held.{IsMadeOf, SeesOwn}
+use Rattle.law_choices.specs.Seeing.Held.{HoldThroughout, IsMadeOf, SeesOwn, survey_of}
+use Rattle.law_choices.specs.Seeing.Telling.{SeenToldLaw}
 use Rattle.law_choices.proofs.PlayingLemmas.Holding.{Runs, runs-of}
-use Rattle.law_choices.proofs.SeeingLemmas.Watching.{node-seen}
+use Rattle.law_choices.proofs.SeeingLemmas.Watching.{node-seen, node-seen-tells, seen-before}
 use Rattle.law_choices.proofs.RunsLemmas.Chosen.{of_program}
 use Rattle.law_choices.proofs.RunsLemmas.Wholes.{typed-through}
 
@@ -120,6 +132,33 @@ behind-row g a (suc n) (k ∷ ks) js h =
     let start : a + length (k ∷ ks) ≡ (a + 1) + length ks = omega arith in
     ap (λ i. map g (range_with_len i (length js))) start ∙ behind-row g (a + 1) n ks js rest
 
+-- ---- the last of some values
+
+pub last-two : {A : Type 0} (xs ys : List A) (a b v w : A) → xs ++ a ∷ b ∷ [] ≡ ys ++ v ∷ w ∷ [] → (a ≡ v) × (b ≡ w)
+last-two [] [] a b v w h =
+    let first : a ≡ v = cc in
+    let second : b ≡ w = cc in
+    (first, second)
+last-two [] (y ∷ ys) a b v w h =
+    let l = ap length h in
+    let m = length-append ys (v ∷ w ∷ []) in
+    absurd (omega (arith, l, m))
+last-two (x ∷ xs) [] a b v w h =
+    let l = ap length h in
+    let m = length-append xs (a ∷ b ∷ []) in
+    absurd (omega (arith, l, m))
+last-two (x ∷ xs) (y ∷ ys) a b v w h =
+    let behind : xs ++ a ∷ b ∷ [] ≡ ys ++ v ∷ w ∷ [] = cc in
+    last-two xs ys a b v w behind
+
+-- what is told behind a line, as the last two variables have it
+line-told : (now : flat.Instant) (outputs : List ℕ) (assume enforce : ℕ) (line told : List Value) (v w a b : Bool) → told ≡ map now (outputs ++ assume ∷ enforce ∷ []) → told ≡ line ++ B v ∷ B w ∷ [] → now assume ≡ B a → now enforce ≡ B b
+    → told ≡ line ++ B a ∷ B b ∷ []
+line-told now outputs assume enforce line told v w a b e h x y =
+    let both : map now outputs ++ now assume ∷ now enforce ∷ [] ≡ line ++ B v ∷ B w ∷ [] = sym (map-append now outputs (assume ∷ enforce ∷ [])) ∙ sym e ∙ h in
+    let same = last-two (map now outputs) line (now assume) (now enforce) (B v) (B w) both in
+    h ∙ ap₂ (λ p q. line ++ p ∷ q ∷ []) (sym same.0 ∙ x) (sym same.1 ∙ y)
+
 -- ---- what is made of a node
 
 module _ (laws : GreatestLaws) (program after : List Item) (ranks : List (List ℕ)) (observers : Observing) (ms : List Made) (order : IsInOrder program after ranks) (h : IsChoosing program after observers ms) (allowed : IsAllowed after ms) where
@@ -161,6 +200,7 @@ module _ (laws : GreatestLaws) (program after : List Item) (ranks : List (List �
     count : length (controls_in after made.plant.name) ≡ length (controls_of n.contract)
     controller : Answered answers all.takes made.controller
     its : IsItsChoice answers ((callees_of after).takes made.plant.name) (length (controls_in after made.plant.name)) made.own (choices made.plant.name)
+    teller : Answered answers all.takes (telling made.chosen)
     among : IsMadeOf after ms n made
 
   abbrev Found : Node → Type 0
@@ -198,6 +238,7 @@ module _ (laws : GreatestLaws) (program after : List Item) (ranks : List (List �
           count = subst (λ (z : Node). length (controls_in after c.plant.name) ≡ length (controls_of z.contract)) same it.4;
           controller = given.0;
           its = their.0;
+          teller = given.1.1.0;
           among = one n c (inl (refl, refl));
         }),
         find items (NodeItem n ∷ earlier) made (λ k x i. one k x (inr i)) behind is.1 of.1 mirrored.1 own.1 grounded.1 given.1.1.1 their.1,
@@ -314,6 +355,74 @@ module _ (laws : GreatestLaws) (program after : List Item) (ranks : List (List �
         node-greatest laws.choice program after ranks order found.earlier n found.stands alone types all observers c g known-here choices own-values answers gives its-choice typed-here
         (allowed.one).typed rows past kinds (runs-of choices after found.earlier n found.stands apart-here rows _ past reaction)
 
+    -- ---- what its contract's node tells
+
+    abbrev Runs_here : List (List Value) → Past → Type 0
+    Runs_here rows past = Runs choices decls found.earlier n rows past
+
+    abbrev Kinds : List (List Value) → Type 0
+    Kinds rows = AllByRecursion (AreOfKinds (timely.kinds_of_decls decls n.inputs)) rows
+
+    -- the last two variables of each reaction of the node that chooses have the values of the assumption and of the guarantee
+    abbrev TellsNow : List Value → List (List Value) → Instant → Type 0
+    TellsNow row rows now = (i : flat.Instant) (instants : List flat.Instant) → Reaction answers c.chosen.node (row ∷ rows) (i ∷ instants) → (i c.chosen.assume ≡ B (assumes now)) × (i c.chosen.enforce ≡ B (enforces now))
+
+    -- They do where something is so of a run, and then of what stands before its newest instant.
+    module _ (told : TellsFor after ms answers n.name n) (Sees : List (List Value) → Past → Type 0)
+        (before : (row : List Value) (rows : List (List Value)) (now : Instant) (past : Past) → Kinds (row ∷ rows) → Sees (row ∷ rows) (now ∷ past) → Sees rows past)
+        (here : (row : List Value) (rows : List (List Value)) (now : Instant) (past : Past) → Kinds (row ∷ rows) → Runs_here (row ∷ rows) (now ∷ past) → Sees (row ∷ rows) (now ∷ past) → TellsNow row rows now) where
+      abbrev tells : FlatNode
+      tells = telling c.chosen
+
+      telling-named : tells.name ≡ contract_name n.name
+      telling-named = ap contract_name (chosen_named laws.choice.nodes types all observers n c g)
+
+      named-telling : contract_name n.name ≡ tells.name
+      named-telling = sym telling-named
+
+      telling-takes : all.takes tells.name ≡ timely.kinds_of_decls decls n.inputs
+      telling-takes = ap all.takes telling-named ∙ told.takes
+
+      told-line : (row : List Value) (rows : List (List Value)) (now : Instant) (past : Past) → Kinds (row ∷ rows) → Runs_here (row ∷ rows) (now ∷ past) → Sees (row ∷ rows) (now ∷ past)
+          → answers (contract_name n.name) row rows ≡ answers n.name row rows ++ B (assumes now) ∷ B (enforces now) ∷ []
+      told-line row rows now past kinds runs sees =
+          let x = told.tells row rows kinds.0 kinds.1 in
+          let y = found.teller row rows (subst (λ ks. AreOfKinds ks row) (sym telling-takes) kinds.0) (subst (λ ks. AllByRecursion (AreOfKinds ks) rows) (sym telling-takes) kinds.1) in
+          let reaction : Reaction answers c.chosen.node (row ∷ rows) (y.now ∷ y.past) = tell_reaction answers c.chosen (row ∷ rows) (y.now ∷ y.past) y.reaction in
+          let values = here row rows now past kinds runs sees y.now y.past reaction in
+          line-told y.now c.chosen.node.outputs c.chosen.assume c.chosen.enforce (answers n.name row rows) (answers (contract_name n.name) row rows) x.0 x.1 (assumes now) (enforces now)
+          (ap (λ f. answers f row rows) named-telling ∙ y.answer) x.2 values.0 values.1
+
+      told-lines : (rows : List (List Value)) (past : Past) → Kinds rows → Runs_here rows past → Sees rows past → AreToldOf past (all_answers (answers n.name) rows) (all_answers (answers (contract_name n.name)) rows)
+      told-lines [] [] kinds runs sees = tt
+      told-lines [] (now ∷ past) kinds runs sees = absurd runs
+      told-lines (row ∷ rows) [] kinds runs sees = absurd runs
+      told-lines (row ∷ rows) (now ∷ past) kinds runs sees = (told-line row rows now past kinds runs sees, told-lines rows past kinds.1 runs.0 (before row rows now past kinds sees))
+
+    abbrev AllTold : List (List Value) → Past → Type 0
+    AllTold rows past = AreToldOf past (all_answers (answers n.name) rows) (all_answers (answers (contract_name n.name)) rows)
+
+    runs-here : (rows : List (List Value)) (past : Past) → ChosenReaction choices after n.name rows past → Runs_here rows past
+    runs-here rows past reaction = runs-of choices after found.earlier n found.stands apart-here rows (map (λ (vs : List Value). nothing) rows) past reaction
+
+    -- where nothing is free but the inputs, and nothing is called
+    told-of : InputsOweLaw → GatesLaw → TellsFor after ms answers n.name n → HasInputsAlone after n → calls_of n ≡ [] → (rows : List (List Value)) (past : Past) → Kinds rows → ChosenReaction choices after n.name rows past → AllTold rows past
+    told-of owe gates told alone none rows past kinds reaction =
+        told-lines told (λ rs p. ⊤) (λ row rs now p k s. tt)
+        (λ row rs now p k r s.
+        node-tells laws.choice program after ranks order found.earlier n found.stands alone types all observers c g known-here choices own-values answers gives its-choice typed-here owe gates
+        (allowed.one).typed none mirror.assume mirror.enforce (mirror.told none) mirror.assume_copied mirror.enforce_copied row rs now p k r) rows past kinds (runs-here rows past reaction) tt
+
+    -- where the equations hold values of the reaction, and nothing is called
+    told-seen : SteeredOweLaw → GatesLaw → TellsFor after ms answers n.name n → calls_of n ≡ [] → (rows : List (List Value)) (past : Past) → Kinds rows → ChosenReaction choices after n.name rows past → SeesOwn types observers after ms n answers rows past → AllTold rows past
+    told-seen owe gates told none rows past kinds reaction sees =
+        told-lines told (λ rs p. (instants : List flat.Instant) → Reaction answers c.chosen.node rs instants → HoldThroughout types after n (survey_of types observers n c mirror.is) instants p)
+        (λ row rs now p k s.
+        seen-before laws.choice program after ranks order found.earlier n found.stands types all observers c g known-here choices own-values answers gives its-choice typed-here (allowed.one).typed row rs now p k s)
+        (λ row rs now p k r s.
+        node-seen-tells laws.choice program after ranks order found.earlier n found.stands types all observers c g known-here choices own-values answers gives its-choice typed-here owe gates
+        (allowed.one).typed none mirror.assume mirror.enforce (mirror.told none) mirror.assume_copied mirror.enforce_copied row rs now p k r s) rows past kinds (runs-here rows past reaction) (sees found.earlier c mirror found.among)
+
     -- so it is where the equations hold values of the reaction
     seen-of : (rows : List (List Value)) (past : Past) → AllByRecursion (AreOfKinds (timely.kinds_of_decls decls n.inputs)) rows → ChosenReaction choices after n.name rows past → SeesOwn types observers after ms n answers rows past
         → Through (ChoosesGreatest after n) past
@@ -362,3 +471,39 @@ seen_greatest_law laws program after ranks observers ms order h mirrored allowed
     by : node_among (reverse after) n.name ≡ Some n → Found laws program after ranks observers ms order h allowed n → ChosenReaction (allowed.allowed).choices after n.name inputs past → Through (ChoosesGreatest after n) past
     by own (inl none) r = nothing-through after n past (ap (λ (o : Option Contract). controls_of o) none)
     by own (inr found) r = seen-of laws program after ranks observers ms order h allowed n own found inputs past kinds r sees
+
+pub contract_told_law : GreatestLaws → InputsOweLaw → GatesLaw → TellsForLaw → ContractToldLaw
+contract_told_law laws owe gates told_for program after ranks observers ms order h mirrored allowed f n inputs past e has alone none kinds reaction =
+    let named : n.name ≡ f = name_found (reverse after) f n e in
+    let choices = (allowed.allowed).choices in
+    let own : node_among (reverse after) n.name ≡ Some n = ap (node_among (reverse after)) named ∙ e in
+    let answers = (allowed.one).answers in
+    let P = Found laws program after ranks observers ms order h allowed in
+    let stand = all_stand laws.turn program after observers ms h in
+    let found =
+    find laws program after ranks observers ms order h allowed after [] ms (λ k x i. i) (sym (append-nil (reverse after))) h.made h.equations mirrored (all_own after (ready_apart program after h.ready)) stand.2 (allowed.one).answered (allowed.allowed).theirs in
+    subst (λ x. AreToldOf past (all_answers (answers x) inputs) (all_answers (answers (contract_name x)) inputs)) named
+    (by own (told_for program after observers ms h allowed.one n.name n own has) (each_found P (reverse after) f n (each_reverse P after found) e) (subst (λ x. ChosenReaction choices after x inputs past) (sym named) reaction))
+  where
+    by : node_among (reverse after) n.name ≡ Some n → TellsFor after ms (allowed.one).answers n.name n → Found laws program after ranks observers ms order h allowed n → ChosenReaction (allowed.allowed).choices after n.name inputs past
+        → AreToldOf past (all_answers ((allowed.one).answers n.name) inputs) (all_answers ((allowed.one).answers (contract_name n.name)) inputs)
+    by own told (inl lacks) r = absurd (none-some has.0 (sym lacks ∙ has.1))
+    by own told (inr found) r = told-of laws program after ranks observers ms order h allowed n own found owe gates told alone none inputs past kinds r
+
+pub seen_told_law : GreatestLaws → SteeredOweLaw → GatesLaw → TellsForLaw → SeenToldLaw
+seen_told_law laws owe gates told_for program after ranks observers ms order h mirrored allowed f n inputs past e has none kinds reaction sees =
+    let named : n.name ≡ f = name_found (reverse after) f n e in
+    let choices = (allowed.allowed).choices in
+    let own : node_among (reverse after) n.name ≡ Some n = ap (node_among (reverse after)) named ∙ e in
+    let answers = (allowed.one).answers in
+    let P = Found laws program after ranks observers ms order h allowed in
+    let stand = all_stand laws.turn program after observers ms h in
+    let found =
+    find laws program after ranks observers ms order h allowed after [] ms (λ k x i. i) (sym (append-nil (reverse after))) h.made h.equations mirrored (all_own after (ready_apart program after h.ready)) stand.2 (allowed.one).answered (allowed.allowed).theirs in
+    subst (λ x. AreToldOf past (all_answers (answers x) inputs) (all_answers (answers (contract_name x)) inputs)) named
+    (by own (told_for program after observers ms h allowed.one n.name n own has) (each_found P (reverse after) f n (each_reverse P after found) e) (subst (λ x. ChosenReaction choices after x inputs past) (sym named) reaction))
+  where
+    by : node_among (reverse after) n.name ≡ Some n → TellsFor after ms (allowed.one).answers n.name n → Found laws program after ranks observers ms order h allowed n → ChosenReaction (allowed.allowed).choices after n.name inputs past
+        → AreToldOf past (all_answers ((allowed.one).answers n.name) inputs) (all_answers ((allowed.one).answers (contract_name n.name)) inputs)
+    by own told (inl lacks) r = absurd (none-some has.0 (sym lacks ∙ has.1))
+    by own told (inr found) r = told-seen laws program after ranks observers ms order h allowed n own found owe gates told none inputs past kinds r sees

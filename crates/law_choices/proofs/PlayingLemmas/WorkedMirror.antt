@@ -16,7 +16,7 @@ use Rattle.hp_watch.specs.Adding.{with_eqn, with_variable}
 use Rattle.law_choices.specs.Adding.Worked.{free_machine, one_control}
 use Rattle.law_choices.specs.InTurn.Worked.{contract_tree}
 use Rattle.law_choices.specs.Playing.Worked.{SomeMirroredLaw, contract_program}
-use Rattle.law_choices.proofs.AddingLemmas.WorkedChoosing.{watched_whole}
+use Rattle.law_choices.proofs.AddingLemmas.WorkedChoosing.{watched_gates, watched_whole}
 use Rattle.law_choices.proofs.AddingLemmas.WorkedSteps.{is_machine, some_watched}
 use Rattle.law_choices.proofs.InTurnLemmas.WorkedContract.{is_controller, some_contracted, watched_as_well}
 
@@ -86,5 +86,10 @@ some_mirrored_law well_made = (
     mirrors = mirrors;
     flags = refl;
     widths = refl;
+    assume = 0;
+    enforce = 0;
+    assume_copied = watched_gates.0;
+    enforce_copied = watched_gates.1;
+    told = λ none. record { assume_there = omega arith; enforce_there = omega arith; supposes = λ v. refl; owes = λ v. refl };
   },
 )

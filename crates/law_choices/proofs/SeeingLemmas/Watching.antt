@@ -1,5 +1,5 @@
 -- In a node of which the controller sees values of the free places the controllable variables have the greatest permitted values.
-use Rattle.std.proofs.Common.{◌≡◌, ℕ, ◌-◌, ◌<◌, ◌≤◌, List, [], ◌∷◌, length, map, refl, sym, ap, subst, ◌∙◌, arith}
+use Rattle.std.proofs.Common.{◌≡◌, ℕ, ◌+◌, ◌-◌, ◌<◌, ◌≤◌, List, [], ◌∷◌, length, map, refl, sym, ap, subst, ◌∙◌, arith}
 use Rattle.std.specs.List.{AllByRecursion, range_with_len}
 use Rattle.std.proofs.lemmas.List.{length-map}
 use Rattle.hp_base.specs.Kinds.{AreOfKinds}
@@ -16,7 +16,9 @@ use Rattle.hp_tree.specs.Reaction.{controls_at, row_of}
 use Rattle.hp_tree.specs.Values.{AreOf}
 use Rattle.hp_flat.specs.Nodes.{FlatNode}
 use Rattle.hp_meaning.specs.Causal.Sources.{below}
-use Rattle.hp_meaning.specs.Contract.Forgetting.{erase}
+use Rattle.hp_meaning.specs.Contract.Duties.{assumes, enforces}
+use Rattle.hp_meaning.specs.Contract.Forgetting.{erase, erased}
+use Rattle.hp_meaning.specs.Contract.FreePlaces.{calls_of}
 use Rattle.hp_meaning.specs.Contract.Game.{AreChoices, IsChoiceOf, IsChosen, preferred}
 use Rattle.hp_meaning.specs.Contract.Guarantee.{Through, Typed}
 use Rattle.hp_meaning.specs.Contract.Slots.{slots_of_node, Slot}
@@ -32,6 +34,7 @@ use Rattle.hp_controller.specs.declared.decoding.Control.{Control}
 use Rattle.hp_controller.specs.Controlled.{AreChosen, placing_of}
 use Rattle.hp_controller.specs.Decoding.{values_by}
 use Rattle.hp_controller.specs.Extending.{cut}
+use Rattle.hp_controller.specs.Gates.{GatesLaw}
 use Rattle.hp_controller.specs.Steps.{AlwaysSteered, IsSteered, Placing, bits_of, control_places, register_places, state_after}
 use Rattle.hp_watch.specs.Watching.{Observing, Surveyed, Watched}
 use Rattle.law_choices.specs.Answered.Loops.{IsItsChoice}
@@ -39,6 +42,8 @@ use Rattle.law_choices.specs.Choosing.Choices.{Choices}
 use Rattle.law_choices.specs.Coded.Codes.{all_bits_at, early_places, late_places}
 use Rattle.law_choices.specs.InTurn.Nodes.{Contracted}
 use Rattle.law_choices.specs.OnClocks.Meaning.{GivesAnswers}
+use Rattle.law_choices.specs.Playing.Laws.{SteeredOweLaw}
+use Rattle.law_choices.specs.Playing.Mirrored.{TellsOwed, first_gate}
 use Rattle.law_choices.specs.Playing.Steering.{asking_instants}
 use Rattle.law_choices.specs.Runs.Laws.{ChoosesValues}
 use Rattle.law_choices.proofs.AddingLemmas.Rows.{each_range}
@@ -51,9 +56,12 @@ use Rattle.law_games.specs.Mirror.Memories.{SlotsFit}
 use Rattle.law_choices.specs.Runs.Chosen.{inputs_at}
 use Rattle.law_choices.specs.Seeing.Held.{AreHeld, HoldsValues, HoldThroughout}
 use Rattle.law_choices.specs.Seeing.Values.{SeesValues, SeeValues}
-use Rattle.law_choices.proofs.PlayingLemmas.Greatest.{ChoiceLaws, Known, all-choices, inputs-fit, range-long}
+use Rattle.law_choices.proofs.PlayingLemmas.Gates.{range-long}
+use Rattle.law_choices.proofs.PlayingLemmas.Greatest.{ChoiceLaws, Known, all-choices, inputs-fit}
+use Rattle.law_choices.proofs.PlayingLemmas.Owed.{owed-alone, supposed-alone}
+use Rattle.law_choices.proofs.PlayingLemmas.Told.{told-at}
 use Rattle.law_choices.proofs.SeeingLemmas.Held.{held_codes_law}
-use Rattle.law_choices.proofs.SeeingLemmas.Values.{values_choice_law}
+use Rattle.law_choices.proofs.SeeingLemmas.Values.{all-same, values_choice_law}
 
 module _ (laws : ChoiceLaws) (program after : List Item) (ranks : List (List ℕ)) (order : IsInOrder program after ranks) (earlier : List Item) (n : Node) (stands : Stands after earlier n) (types : List ObcType) (all : Callees) (observers : Observing)
     (c : Contracted) (g : Ground types all observers n c) (known : Known types all observers after earlier n c g) where
@@ -249,3 +257,37 @@ module _ (laws : ChoiceLaws) (program after : List Item) (ranks : List (List ℕ
         let u = laws.one types all answers choosing well of-kinds rows (subst (λ ks. AllByRecursion (AreOfKinds ks) rows) (sym chosen-kinds) kinds) in
         let run = is_steered laws.nodes types all observers n c g answers laws.answers laws.extended laws.controlled gives rows u.instants u.reaction u.possible in
         greatest rows u.instants past kinds u.reaction u.possible runs (typed rows past (rows-of rows kinds) runs) run.steered run.chosen (holds u.instants u.reaction)
+
+    -- ---- what is told
+
+    -- the equations hold the values of a run of the node
+    abbrev Sees : List (List Value) → Past → Type 0
+    Sees rows past = (instants : List flat.Instant) → Reaction answers choosing rows instants → HoldThroughout types after n s instants past
+
+    -- so they do of what stands before its newest instant
+    pub seen-before : AnswersOfKinds answers all → (row : List Value) (rows : List (List Value)) (now : Instant) (past : Past) → AllByRecursion (AreOfKinds (kinds_of_decls decls n.inputs)) (row ∷ rows) → Sees (row ∷ rows) (now ∷ past) → Sees rows past
+    seen-before of-kinds row rows now past kinds sees instants reaction =
+        let well = (chooses laws.nodes types all observers n c g).0 in
+        let u = laws.one types all answers choosing well of-kinds (row ∷ rows) (subst (λ ks. AllByRecursion (AreOfKinds ks) (row ∷ rows)) (sym chosen-kinds) kinds) in
+        let v = laws.one types all answers choosing well of-kinds rows (subst (λ ks. AllByRecursion (AreOfKinds ks) rows) (sym chosen-kinds) kinds.1) in
+        by v.instants v.only u.instants u.reaction (sees u.instants u.reaction)
+      where
+        by : (one : List flat.Instant) → ((others : List flat.Instant) → Reaction answers choosing rows others → others ≡ one) → (xs : List flat.Instant) → Reaction answers choosing (row ∷ rows) xs → HoldThroughout types after n s xs (now ∷ past)
+            → HoldThroughout types after n s instants past
+        by one only [] r h = absurd r
+        by one only (i ∷ xs) r h = subst (λ ys. HoldThroughout types after n s ys past) (only xs r.0 ∙ sym (only instants reaction)) h.0
+
+    -- If the node calls nothing, the copies of two gates that tell what is supposed and owed have the values of the assumption and of the guarantee.
+    pub node-seen-tells : SteeredOweLaw → GatesLaw → AnswersOfKinds answers all → calls_of n ≡ [] → (assume enforce : ℕ) → TellsOwed m assume enforce → (g.is).whole.assume ≡ first_gate types observers n c g.is + assume → (g.is).whole.enforce ≡ first_gate types observers n c g.is + enforce
+        → (row : List Value) (rows : List (List Value)) (now : Instant) (past : Past) → AllByRecursion (AreOfKinds (kinds_of_decls decls n.inputs)) (row ∷ rows) → Runs choices decls earlier n (row ∷ rows) (now ∷ past) → Sees (row ∷ rows) (now ∷ past)
+        → (i : flat.Instant) (instants : List flat.Instant) → Reaction answers choosing (row ∷ rows) (i ∷ instants) → (i c.chosen.assume ≡ B (assumes now)) × (i c.chosen.enforce ≡ B (enforces now))
+    node-seen-tells owe gates of-kinds none assume enforce tells assume_copied enforce_copied row rows now past kinds runs sees i instants reaction =
+        let well = (chooses laws.nodes types all observers n c g).0 in
+        let u = laws.one types all answers choosing well of-kinds (row ∷ rows) (subst (λ ks. AllByRecursion (AreOfKinds ks) (row ∷ rows)) (sym chosen-kinds) kinds) in
+        let possible : AllByRecursion (IsPossible types choosing) (i ∷ instants) = subst (AllByRecursion (IsPossible types choosing)) (sym (u.only (i ∷ instants) reaction)) u.possible in
+        let run = is_steered laws.nodes types all observers n c g answers laws.answers laws.extended laws.controlled gives (row ∷ rows) (i ∷ instants) reaction possible in
+        let given : SeeValues after earlier n m known.mirrors p (asked (i ∷ instants)) (now ∷ past) =
+        gives-all (row ∷ rows) (i ∷ instants) (now ∷ past) kinds reaction possible runs (typed (row ∷ rows) (now ∷ past) (rows-of (row ∷ rows) kinds) runs) run.steered run.chosen (sees (i ∷ instants) reaction) in
+        let it = owe program after ranks order earlier n stands m known.mirrors p (cut V i) (asked instants) (erased now) (erase past) run.steered (all-same program after ranks order earlier n stands m known.mirrors p (asked (i ∷ instants)) (now ∷ past) given) in
+        told-at laws.nodes types all observers n c g answers instants row i reaction.1 possible.0 (asked instants) run.steered.0 gates assume enforce tells assume_copied enforce_copied
+        (assumes now) (enforces now) (it.0 ∙ supposed-alone n none now) (it.1 ∙ owed-alone n none now)

@@ -32,6 +32,18 @@ PlayingLaw =
     (program earlier : List Item) (n : Node) (m : Machine) (M : Mirrors program earlier n m) (p : Placing) (instants : List flat.Instant) (history : Past)
     → AlwaysSteered m p instants → GiveSame program earlier n m M p instants history → Plays program earlier n m M history (state_after m p instants)
 
+-- the bits that the variables of a machine have at an instant of clocked equations
+abbrev pub bits_at : Machine → Placing → flat.Instant → Bits
+bits_at m p i = joined (bits_of i (register_places m p)) (bits_of i p.early) (bits_of i (control_places m p)) (bits_of i p.late)
+
+-- So at each instant it supposes and owes what the contract does in the game: it sees whether the contract is kept.
+abbrev pub SteeredOweLaw : Type 0
+SteeredOweLaw =
+    OfReadyNodes
+    (λ after earlier n.
+    (m : Machine) (M : Mirrors after earlier n m) (p : Placing) (i : flat.Instant) (instants : List flat.Instant) (now : Instant) (history : Past) → AlwaysSteered m p (i ∷ instants) → GiveSame after earlier n m M p (i ∷ instants) (now ∷ history)
+    → ((game m).hyp (bits_at m p i) ≡ hypothesis n now) × ((game m).duty (bits_at m p i) ≡ duty n now))
+
 -- So what they choose next is the greatest permitted choice after the history.
 abbrev pub SteeredChoiceLaw : Type 0
 SteeredChoiceLaw =
@@ -52,11 +64,7 @@ InputsChoiceLaw =
     → (i : flat.Instant) (instants : List flat.Instant) (now : Instant) (past : Past) → AlwaysSteered m p (i ∷ instants) → (given : GiveInputs after n m p (i ∷ instants) (now ∷ past))
     → IsChosen after n (erase past) (given.1).inputs now (controls_at n now))
 
--- the bits that the variables of a machine have at an instant of clocked equations
-abbrev pub bits_at : Machine → Placing → flat.Instant → Bits
-bits_at m p i = joined (bits_of i (register_places m p)) (bits_of i p.early) (bits_of i (control_places m p)) (bits_of i p.late)
-
--- And the machine supposes and owes what the node does at the instant: it sees whether the contract is kept.
+-- And the machine supposes and owes what the node does at the instant.
 abbrev pub InputsOweLaw : Type 0
 InputsOweLaw =
     OfReadyNodes

@@ -17,5 +17,6 @@ returns c =
       stands = order.stands;
       instances = c.instances_react_as_callees.ensures;
       tells = c.a_node_tells_each_contract.ensures;
+      told = c.contracts_are_told.ensures;
     })
     c.machines_say_what_is_allowed.ensures c.programs_of_texts_may_choose.ensures.sign order.order c.contracts_of_texts_can_be_observed.ensures

@@ -30,7 +30,7 @@ use Rattle.hp_drawing.specs.DrawnBlocks.{Telling, untold, at_base, of_name, on_v
 use Rattle.hp_drawing.proofs.SetLaws.{set-is}
 use Rattle.law_drawing.proofs.CarryingLemmas.Clocks.{telling_clock, same-told}
 use Rattle.law_drawing.specs.Early.Flags.{IsFlagged, AreFlagged}
-use Rattle.law_drawing.proofs.EarlyLemmas.Running.{IsHeld, Running, and-runs, step-runs, cons-runs, clock_on-runs}
+use Rattle.law_drawing.proofs.EarlyLemmas.Running.{IsHeld, Running, TellingRuns, and-runs, step-runs, cons-runs, clock_on-runs}
 
 -- ---- clocks
 
@@ -202,12 +202,12 @@ module _ (place : ℕ → Place) (clocks : FreeClocks) where
     set_runs = set-goes;
     read_runs = read-goes;
     clock_runs = clock-goes;
-    hyp_runs = hyp-goes;
-    duty_runs = duty-goes;
-    assume_runs = assume-goes;
     next_runs = next-goes;
     slot_runs = λ r p s h. slot-goes r p s (role-held clocks (place (next_slot s)) r h);
   }
+
+  pub going-told : TellingRuns Goes
+  going-told = record { hyp_runs = hyp-goes; duty_runs = duty-goes; assume_runs = assume-goes }
 
   pub empty-flagged : Flagged 0 empty.slots × HasBase empty.clocks
   unfolding empty begun push add_clock nothing

@@ -31,7 +31,7 @@ use Rattle.law_drawing.proofs.SteeredLemmas.LayingNodes.{rows-laid}
 use Rattle.law_drawing.specs.Early.Flags.{FlagsLaw}
 use Rattle.law_drawing.proofs.EarlyLemmas.Running.{IsHeld, called-runs, scope-runs, call-runs, given-runs, from-runs, finish-runs, holes-run}
 use Rattle.law_drawing.proofs.EarlyLemmas.Flags as flags
-use Rattle.law_drawing.proofs.EarlyLemmas.Flags.{Goes, going, Stands, stands-behind, HasBase, base-later, if_own, none-own, flag-of, empty-flagged}
+use Rattle.law_drawing.proofs.EarlyLemmas.Flags.{Goes, going, going-told, Stands, stands-behind, HasBase, base-later, if_own, none-own, flag-of, empty-flagged}
 use Rattle.law_drawing.proofs.EarlyLemmas.Walk.{standing, Frees, BringsGo, both, expr-goes}
 use Rattle.law_drawing.proofs.EarlyLemmas.Blocks.{block-goes}
 
@@ -89,7 +89,7 @@ module _ (place : ℕ → Place) (clocks : FreeClocks) where
         let d = drawn_contract t no_brings z.0 inside.0 contract z.1 in
         let g2 = on s z.1 d.1 g1 (contract-goes t no_brings (λ q. none_held) none-brings contract z.0 inside.0 false at z.1 here (none-inside (λ p. at (Observer ∷ p)) (free_in_block contract.body) f) (none-inside (λ p. at (Assume ∷ p)) (free_in_told contract.assume) u)
         (none-inside (λ p. at (Enforce ∷ p)) (free_in_told contract.enforce) v) l) in
-        on s d.1 (add_call inside.0.here d.0.assume d.0.enforce d.1) g2 (call-runs G (going place clocks) inside.0.here d.0.assume d.0.enforce d.1)
+        on s d.1 (add_call inside.0.here d.0.assume d.0.enforce d.1) g2 (call-runs G (going place clocks) (going-told place clocks) inside.0.here d.0.assume d.0.enforce d.1)
 
     contracts-go : BringsGo place clocks t contracts (λ q. contracts_held (standing place q) t)
     contracts-go spot n c s at base f u v l = called-goes n.contract spot n c s at base f u v l
@@ -136,7 +136,7 @@ module _ (place : ℕ → Place) (clocks : FreeClocks) where
         let g5 = on s g.1 d.1 g4 (block-goes place clocks t contracts (λ q. contracts_held (standing place q) t) contracts-go n.body y top_place true (λ p. Body ∷ p) g.1 (behind s g.1 top_place true g4 here) f.1 (λ q. (l q).1)) in
         let e = define_from d.0 rows.outputs 0 n.outputs d.1 in
         let g6 = on s d.1 e g5 (from-runs G (going place clocks) d.0 rows.outputs 0 n.outputs d.1) in
-        on s e (finish g.0.assume g.0.enforce e) g6 (finish-runs G (going place clocks) g.0.assume g.0.enforce e)
+        on s e (finish g.0.assume g.0.enforce e) g6 (finish-runs G (going place clocks) (going-told place clocks) g.0.assume g.0.enforce e)
 
     node-goes : (n : Node) → FreesOf n → ((q : Place) → NodePlaced (standing place q) t n) → G empty (drawn_node t n)
     node-goes n f l = let s = with_controls t n (node_scope t n empty).1 in on empty s (drawn_node t n) (rows-go n) (rest-goes n f l)

@@ -52,11 +52,14 @@ module _ (R : Sketch → Sketch → Type 0) where
     pub set_runs : (w : ℕ) (g : Wire) (s : Sketch) → R s (set w g s)
     pub read_runs : (w v : ℕ) (s : Sketch) → R s (read w v s)
     pub clock_runs : (h o : ℕ) (s : Sketch) → R s (add_clock h o s).1
+    pub next_runs : (i next : ℕ) (s : Sketch) → R s (set_next i next s)
+    pub slot_runs : (r : Role) (p : Shape) (s : Sketch) → IsHeld r → R s (slot r p s).1
+
+  -- and those that tell what is assumed, supposed and owed
+  pub record TellingRuns : Type 0 where
     pub hyp_runs : (w : ℕ) (s : Sketch) → R s (with_hyp w s)
     pub duty_runs : (w : ℕ) (s : Sketch) → R s (with_duty w s)
     pub assume_runs : (w : ℕ) (s : Sketch) → R s (with_assume w s)
-    pub next_runs : (i next : ℕ) (s : Sketch) → R s (set_next i next s)
-    pub slot_runs : (r : Role) (p : Shape) (s : Sketch) → IsHeld r → R s (slot r p s).1
 
   module _ (o : Running) where
     -- ---- wires
@@ -138,17 +141,17 @@ module _ (R : Sketch → Sketch → Type 0) where
 
     -- ---- contracts
 
-    pub told-runs : (a b : ℕ) (s : Sketch) → R s (add_told a b s)
+    pub told-runs : TellingRuns → (a b : ℕ) (s : Sketch) → R s (add_told a b s)
     unfolding add_told
-    told-runs a b s =
+    told-runs q a b s =
         let x = and_gate (hyp_of s) a s in
         let h = with_hyp_drawn x in
         let y = and_gate (duty_of h) b h in
-        o.both_run s h (with_duty_drawn y) (o.both_run s x.1 h (and-runs (hyp_of s) a s) (o.hyp_runs x.0 x.1)) (o.both_run h y.1 (with_duty_drawn y) (and-runs (duty_of h) b h) (o.duty_runs y.0 y.1))
+        o.both_run s h (with_duty_drawn y) (o.both_run s x.1 h (and-runs (hyp_of s) a s) (q.hyp_runs x.0 x.1)) (o.both_run h y.1 (with_duty_drawn y) (and-runs (duty_of h) b h) (q.duty_runs y.0 y.1))
 
-    pub call-runs : (here assume enforce : ℕ) (s : Sketch) → R s (add_call here assume enforce s)
+    pub call-runs : TellingRuns → (here assume enforce : ℕ) (s : Sketch) → R s (add_call here assume enforce s)
     unfolding add_call
-    call-runs here assume enforce s =
+    call-runs q here assume enforce s =
         let away = not_gate here s in
         let unassumed = not_gate assume away.1 in
         let kept = or_gate unassumed.0 enforce unassumed.1 in
@@ -158,19 +161,19 @@ module _ (R : Sketch → Sketch → Type 0) where
         let two = o.both_run s unassumed.1 kept.1 one (or-runs unassumed.0 enforce unassumed.1) in
         let three = o.both_run s kept.1 supposed.1 two (or-runs away.0 kept.0 kept.1) in
         let four = o.both_run s supposed.1 owed.1 three (or-runs away.0 assume supposed.1) in
-        o.both_run s owed.1 (add_told supposed.0 owed.0 owed.1) four (told-runs supposed.0 owed.0 owed.1)
+        o.both_run s owed.1 (add_told supposed.0 owed.0 owed.1) four (told-runs q supposed.0 owed.0 owed.1)
 
-    pub finish-runs : (assume enforce : ℕ) (s : Sketch) → R s (finish assume enforce s)
+    pub finish-runs : TellingRuns → (assume enforce : ℕ) (s : Sketch) → R s (finish assume enforce s)
     unfolding finish
-    finish-runs assume enforce s =
+    finish-runs q assume enforce s =
         let a = with_assume assume s in
         let x = and_gate assume (hyp_of a) a in
         let h = with_hyp_drawn x in
         let y = and_gate enforce (duty_of h) h in
-        let one = o.both_run s a x.1 (o.assume_runs assume s) (and-runs assume (hyp_of a) a) in
-        let two = o.both_run s x.1 h one (o.hyp_runs x.0 x.1) in
+        let one = o.both_run s a x.1 (q.assume_runs assume s) (and-runs assume (hyp_of a) a) in
+        let two = o.both_run s x.1 h one (q.hyp_runs x.0 x.1) in
         let three = o.both_run s h y.1 two (and-runs enforce (duty_of h) h) in
-        o.both_run s y.1 (with_duty_drawn y) three (o.duty_runs y.0 y.1)
+        o.both_run s y.1 (with_duty_drawn y) three (q.duty_runs y.0 y.1)
 
     -- ---- places and registers
 

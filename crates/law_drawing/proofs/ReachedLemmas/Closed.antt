@@ -11,7 +11,7 @@ use Rattle.hp_circuit.specs.declared.circuit.Wire.{Wire}
 use Rattle.hp_circuit.specs.declared.circuit.Wire.TheVariants as wire
 use Rattle.hp_drawing.specs.Sketch.{Sketch, write, read, read_all, is_open, set_over, push, set, slot, set_next, set_next_at, next_as, next_slot, add_clock, with_hyp, with_duty, with_assume}
 use Rattle.law_drawing.specs.Steered.Marks.{Each}
-use Rattle.law_drawing.proofs.EarlyLemmas.Running.{IsHeld, Running}
+use Rattle.law_drawing.proofs.EarlyLemmas.Running.{IsHeld, Running, TellingRuns}
 
 -- ---- lists
 
@@ -302,9 +302,9 @@ module _ (S : ℕ → Type 0) where
       set_runs = set-runs;
       read_runs = read-runs;
       clock_runs = clock-runs;
-      hyp_runs = hyp-runs;
-      duty_runs = duty-runs;
-      assume_runs = assume-runs;
       next_runs = next-runs;
       slot_runs = λ r p s h. slot-runs r p s (role-held (next_slot s) (slot r p s).0 r h);
     }
+
+    pub running-told : TellingRuns Runs
+    running-told = record { hyp_runs = hyp-runs; duty_runs = duty-runs; assume_runs = assume-runs }

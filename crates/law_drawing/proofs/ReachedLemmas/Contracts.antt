@@ -23,7 +23,7 @@ use Rattle.law_drawing.proofs.SteeredLemmas.Assumed.{told_reads, assumption_read
 use Rattle.law_drawing.proofs.EarlyLemmas.Running.{called-runs, scope-runs, call-runs}
 use Rattle.law_drawing.proofs.EarlyLemmas.Walk.{standing}
 use Rattle.law_drawing.specs.Reached.Filled.{IsFilled, ContractFilled}
-use Rattle.law_drawing.proofs.ReachedLemmas.Closed.{running}
+use Rattle.law_drawing.proofs.ReachedLemmas.Closed.{running, running-told}
 use Rattle.law_drawing.proofs.ReachedLemmas.Whereabouts.{Said, anything, Holds}
 use Rattle.law_drawing.proofs.ReachedLemmas.Wires.{ExprWires, BlockWires}
 use Rattle.law_drawing.proofs.ReachedLemmas.Expressions.{leading, L, Early, R, Shut, SlotsRight, NamesLead, IsOwn, Reached, Going, BringsRun, nothing-read, expr-done}
@@ -116,7 +116,7 @@ module _ (S : ℕ → Type 0) (T : Place → Type 0) (n : Node) (place : ℕ →
         let i = called_at spot s in
         let z = contract_scope t i.0 m d.inputs d.outputs i.1 in
         let g = drawn_contract t no_brings z.0 i.0 c z.1 in
-        let r2 = call-runs Runs (running S (Early S T n place)) i.0.here g.0.assume g.0.enforce g.1 in
+        let r2 = call-runs Runs (running S (Early S T n place)) (running-told S (Early S T n place)) i.0.here g.0.assume g.0.enforce g.1 in
         let r1 = scope-runs Runs (running S (Early S T n place)) t i.0 m d.inputs d.outputs i.1 in
         let r0 = called-runs Runs (running S (Early S T n place)) spot s in
         let u = contract-done t no_brings (λ q. none_held) none-run c ⊤ z.0 (λ x. none) (λ p. p) i.0 z.1 fit filled (λ x l. inl tt) (λ p l. inl tt) (λ o. absurd (let x : false ≡ true = sym (called-outside spot s) ∙ o in cc)) (r2.closed e) in

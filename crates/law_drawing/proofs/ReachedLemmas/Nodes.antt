@@ -31,7 +31,7 @@ use Rattle.law_drawing.proofs.EarlyLemmas.Running.{IsHeld, holes-run, given-runs
 use Rattle.law_drawing.proofs.EarlyLemmas.Walk.{standing}
 use Rattle.law_drawing.proofs.EarlyLemmas.Nodes.{node-flagged, node-lies, node-frees, rest-goes}
 use Rattle.law_drawing.specs.Reached.Reached.{NodeReads, ReachedLaw, AssumptionReachedLaw}
-use Rattle.law_drawing.proofs.ReachedLemmas.Closed.{Closed, none-runs, both-run, running}
+use Rattle.law_drawing.proofs.ReachedLemmas.Closed.{Closed, none-runs, both-run, running, running-told}
 use Rattle.law_drawing.proofs.ReachedLemmas.Final.{Steered, steered-closed, control-steered, early-at}
 use Rattle.law_drawing.proofs.ReachedLemmas.Wires.{BlockWires}
 use Rattle.law_drawing.proofs.ReachedLemmas.Scopes.{pushed-value}
@@ -159,7 +159,7 @@ module _ (program : List Item) (t : Told) (n : Node) (known : (f : List ℕ) →
   run = contracts-run S T n place t fits.callees filled.callees
 
   shut_e : Closed S e
-  shut_e = (finish-runs Runs (running S (Early S T n place)) g.0.assume g.0.enforce e).closed (steered-closed final)
+  shut_e = (finish-runs Runs (running S (Early S T n place)) (running-told S (Early S T n place)) g.0.assume g.0.enforce e).closed (steered-closed final)
 
   shut_d : Closed S d.1
   shut_d = (from-runs Runs (running S (Early S T n place)) d.0 (next_wire empty) 0 n.outputs d.1).closed shut_e
@@ -210,7 +210,7 @@ module _ (program : List Item) (t : Told) (n : Node) (known : (f : List ℕ) →
       let r2 = scope-runs Runs (running S (Early S T n place)) t top_place n (next_wire outs) (next_wire empty) ins in
       let r3 = given-row role.Control (controls_of n.contract) z.1 tt in
       let r4 = from-runs Runs (running S (Early S T n place)) d.0 (next_wire empty) 0 n.outputs d.1 in
-      let r5 = finish-runs Runs (running S (Early S T n place)) g.0.assume g.0.enforce e in
+      let r5 = finish-runs Runs (running S (Early S T n place)) (running-told S (Early S T n place)) g.0.assume g.0.enforce e in
       r5.slots (r4.slots (body_law.slots (observer_law.slots (r3.slots (r2.slots (r1.slots (r0.slots (no-slots S T n place))))))))
 
   -- ---- chains

@@ -19,10 +19,10 @@ use Rattle.hp_meaning.specs.Contract.Forgetting.{ContractsCallNothing}
 use Rattle.hp_meaning.specs.Contract.FreePlaces.{is_call}
 use Rattle.law_drawing.proofs.SteeredLemmas.Uncalled.{CallsNothing, PartsCallNothing, ConditionsCallNothing, BlockCallsNothing, EqnsCallNothing, EqnCallsNothing, ArmsCallNothing, StatesCallNothing, ToldCallsNothing, ContractCallsNothing}
 
-abbrev called : Placed → Bool
+abbrev pub called : Placed → Bool
 called c = is_call c.point.kind
 
-abbrev NoCall : List Placed → Type 0
+abbrev pub NoCall : List Placed → Type 0
 NoCall ps = filter called ps ≡ []
 
 first_empty : (xs ys : List Placed) → xs ++ ys ≡ [] → xs ≡ []
@@ -33,10 +33,10 @@ second_empty : (xs ys : List Placed) → xs ++ ys ≡ [] → ys ≡ []
 second_empty [] ys e = e
 second_empty (x ∷ xs) ys e = absurd (cc)
 
-first : (xs ys : List Placed) → NoCall (xs ++ ys) → NoCall xs
+pub first : (xs ys : List Placed) → NoCall (xs ++ ys) → NoCall xs
 first xs ys h = first_empty (filter called xs) (filter called ys) (sym (filter-append called xs ys) ∙ h)
 
-second : (xs ys : List Placed) → NoCall (xs ++ ys) → NoCall ys
+pub second : (xs ys : List Placed) → NoCall (xs ++ ys) → NoCall ys
 second xs ys h = second_empty (filter called xs) (filter called ys) (sym (filter-append called xs ys) ∙ h)
 
 mutual
@@ -73,7 +73,7 @@ tests_none (t ∷ ts) w h =
     (expr_none t.cond (below Head w) (first (calls t.cond (below Head w)) (conditions ts (below Tail w)) h), tests_none ts (below Tail w) (second (calls t.cond (below Head w)) (conditions ts (below Tail w)) h))
 
 mutual
-  block_none : (ds : List (List ℕ)) (b : Block) (w : Whereabouts) → NoCall (points_of ds b w) → BlockCallsNothing b
+  pub block_none : (ds : List (List ℕ)) (b : Block) (w : Whereabouts) → NoCall (points_of ds b w) → BlockCallsNothing b
   block_none ds (block own es) w h = eqns_none (ds ++ names_of own) (λ x. w (Named x ∷ [])) es (below Equations w) h
 
   eqns_none : (ds : List (List ℕ)) (named : List ℕ → Place) (es : Eqns) (w : Whereabouts) → NoCall (points_of_all ds named es w) → EqnsCallNothing es
@@ -118,7 +118,7 @@ told_none : (o : Option Expr) (w : Whereabouts) → NoCall (calls_told o w) → 
 told_none None w h = tt
 told_none (Some e) w h = expr_none e w h
 
-contract_none : (o : Option Contract) (w : Whereabouts) → NoCall (points_of_contract o w) → ContractCallsNothing o
+pub contract_none : (o : Option Contract) (w : Whereabouts) → NoCall (points_of_contract o w) → ContractCallsNothing o
 contract_none None w h = tt
 contract_none (Some c) w h =
     let a = calls_told c.assume (below Assume w) in
