@@ -1,18 +1,18 @@
 -- The levels of wires, and their order by level: there is one.
-use Rattle.std.proofs.Common.{◌≡◌, ◌≢◌, ◌≤◌, ◌<◌, ◌+◌, ◌⊎◌, inl, inr, ℕ, zero, suc, Bool, true, false, List, [], ◌∷◌, ◌++◌, length, set, drop, get_or, replicate, refl, sym, ap, ap₂, subst, ◌∙◌, arith, drop-cons, if◌then◌else◌}
+use Rattle.std.proofs.Common.{◌≡◌, ◌≢◌, ◌≤◌, ◌<◌, ◌+◌, ◌⊎◌, inl, inr, ℕ, zero, suc, Bool, true, false, List, [], ◌∷◌, ◌++◌, length, set, take, drop, get_or, replicate, refl, sym, ap, ap₂, subst, ◌∙◌, arith, drop-cons, if◌then◌else◌}
 use Rattle.std.specs.Prelude.{All, Contains, nat_le, nat_lt}
 use Rattle.std.specs.Cmp.{IsStrictWeakOrder, nat_cmp_is}
 use Rattle.std.specs.List.{AllByRecursion, sum_by}
-use Rattle.std.specs.List.Sorted.{IsNonDecreasingBy, IsPermutation, IsSorted, IsSortedBy}
 use Rattle.std.specs.Ordering.{is_lt, nat_cmp, ordering_then}
 use Rattle.std.specs.declared.cmp.Ordering.{Ordering}
 use Rattle.std.specs.declared.cmp.Ordering.TheVariants.{Equal}
 use Rattle.std.proofs.lemmas.Cmp.{nat_cmp_total, on_total, then_total}
 use Rattle.std.proofs.lemmas.List.MinMax.{ranks_by}
-use Rattle.std.proofs.lemmas.List.Sorted.{IsPermutation-sym, sorted_far, sum_by-IsPermutation}
+use Rattle.std.proofs.lemmas.List.Sorted.{sorted_far, sum_by-IsPermutation}
 use Rattle.std.proofs.lemmas.List.Sums.{sum_by-cons}
+use Rattle.std.proofs.Math.Seq.{take-append_seam}
 use Rattle.std.proofs.lemmas.Bool.{ltb-true, ltb-false}
-use Rattle.std.proofs.lemmas.List.{append_assoc, append-nil, get_or-set_same, get_or-set_other, drop_all}
+use Rattle.std.proofs.lemmas.List.{append_assoc, append-nil, get_or-set_same, get_or-set_other, drop_all, length-set}
 use Rattle.std.proofs.lemmas.List.Elements.{All-contains, recursion_from_All}
 use Rattle.hp_circuit.specs.Levels.{AreLevels, AreLifted, AreSorted, IsByLevel, level_at, lifted, numbered_from, read_of, reader_of}
 use Rattle.hp_circuit.specs.Ordering.{AreEdgesByRank, AreFalling}
@@ -63,7 +63,7 @@ module _ (edges : List (ℕ × ℕ × ℕ)) (ranks : List ℕ) (f : AreFalling r
       absurd (omega (arith, up, falls, a, b, x))
 
   module _ (levels : List ℕ) (there : reader_of edges i < length levels) (h : AreLifted edges i levels) where
-    new : List ℕ
+    abbrev pub new : List ℕ
     new = lifted levels (reader_of edges i) (read_of edges i)
 
     got : Lifts levels (reader_of edges i) (read_of edges i) there new
@@ -80,7 +80,7 @@ module _ (edges : List (ℕ × ℕ × ℕ)) (ranks : List ℕ) (f : AreFalling r
         by (inl e) = subst (λ z. level_at levels z ≤ level_at new z) (sym e) got.more
         by (inr g) = let e = got.others w g in omega (arith, e)
 
-    Least : ℕ → Type 0
+    abbrev Least : ℕ → Type 0
     Least w = (level_at new w ≡ 0) ⊎ ((k : ℕ) × (k < i + 1) × (reader_of edges k ≡ w) × (level_at new w ≡ suc (level_at new (read_of edges k))))
 
     -- a wire whose level stays
@@ -121,6 +121,14 @@ module _ (edges : List (ℕ × ℕ × ℕ)) (ranks : List ℕ) (f : AreFalling r
     pub lifted_more : AreLifted edges (i + 1) new
     lifted_more = record { above = above_at; least = least_at }
 
+-- there are as many levels
+pub lifted_long : (levels : List ℕ) (reader read : ℕ) → length (lifted levels reader read) ≡ length levels
+lifted_long levels reader read = by (nat_lt (level_at levels reader) (level_at levels read + 1))
+  where
+    by : (b : Bool) → length (if b then set levels reader (level_at levels read + 1) else levels) ≡ length levels
+    by true = length-set levels reader (level_at levels read + 1)
+    by false = refl
+
 -- no wire is lifted yet
 zero_at : (n w : ℕ) → level_at (replicate n 0) w ≡ 0
 zero_at zero w = refl
@@ -129,6 +137,10 @@ zero_at (suc n) (suc w) = zero_at n w
 
 pub lifted_none : (edges : List (ℕ × ℕ × ℕ)) (n : ℕ) → AreLifted edges 0 (replicate n 0)
 lifted_none edges n = record { above = λ k m. absurd (omega (arith, m)); least = λ w. inl (zero_at n w) }
+
+-- levels that were put into a vector of their length
+pub levels_back : (n : ℕ) (levels old : List ℕ) → length levels ≡ n → take n (levels ++ drop (length levels) old) ≡ levels
+levels_back n levels old h = ap (λ m. take m (levels ++ drop (length levels) old)) (sym h) ∙ take-append_seam levels (drop (length levels) old)
 
 -- all are
 pub levels_are : (edges : List (ℕ × ℕ)) (ranks : List ℕ) (sorted : List (ℕ × ℕ × ℕ)) (levels : List ℕ) → AreEdgesByRank edges ranks sorted → AreLifted sorted (length sorted) levels → AreLevels edges levels
@@ -162,13 +174,13 @@ numbered_all levels order i e h = sym (append-nil order) ∙ ap (λ (xs : List �
 module _ (edges : List (ℕ × ℕ)) (xs ys : List ℕ) (h : AreLevels edges xs) (g : AreLevels edges ys) where
   no_higher : (n w : ℕ) → level_at xs w < n → level_at xs w ≤ level_at ys w
   no_higher zero w l = absurd (omega (arith, l))
-  no_higher (suc n) w l = by (h.least w)
+  no_higher (suc n) w l = by (λ r. no_higher n r) (h.least w)
     where
-      by : (level_at xs w ≡ 0) ⊎ ((r : ℕ) × Contains edges (w, r) × (level_at xs w ≡ suc (level_at xs r))) → level_at xs w ≤ level_at ys w
-      by (inl e) = omega (arith, e)
-      by (inr q) =
+      by : ((r : ℕ) → level_at xs r < n → level_at xs r ≤ level_at ys r) → (level_at xs w ≡ 0) ⊎ ((r : ℕ) × Contains edges (w, r) × (level_at xs w ≡ suc (level_at xs r))) → level_at xs w ≤ level_at ys w
+      by lower (inl e) = omega (arith, e)
+      by lower (inr q) =
           let e = q.2 in
-          let below = no_higher n q.0 (omega (arith, e, l)) in
+          let below = lower q.0 (omega (arith, e, l)) in
           let up : level_at ys q.0 < level_at ys w = All-contains (λ (e : ℕ × ℕ). level_at ys e.1 < level_at ys e.0) edges (w, q.0) g.above q.1 in
           omega (arith, e, below, up)
 
@@ -176,7 +188,7 @@ same_lists : (xs ys : List ℕ) → length xs ≡ length ys → ((w : ℕ) → l
 same_lists [] [] e h = refl
 same_lists [] (y ∷ ys) e h = absurd (omega (arith, e))
 same_lists (x ∷ xs) [] e h = absurd (omega (arith, e))
-same_lists (x ∷ xs) (y ∷ ys) e h = ap₂ (λ (a : ℕ) as. a ∷ as) (h 0) (same_lists xs ys (omega (arith, e)) (λ w. h (suc w)))
+same_lists (x ∷ xs) (y ∷ ys) e h = ap₂ (λ (a : ℕ) rest. a ∷ rest) (h 0) (same_lists xs ys (omega (arith, e)) (λ w. h (suc w)))
 
 pub one_levels : (edges : List (ℕ × ℕ)) (xs ys : List ℕ) → length xs ≡ length ys → AreLevels edges xs → AreLevels edges ys → xs ≡ ys
 one_levels edges xs ys e h g =
@@ -235,7 +247,7 @@ nothing : (f : Pair → ℕ) (xs : List Pair) → AllByRecursion (λ x. f x ≡ 
 nothing f [] h = refl
 nothing f (x ∷ xs) h = let a = h.0 in let b = nothing f xs h.1 in sum_by-cons f x xs ∙ (let e : f x + sum_by f xs ≡ 0 = omega (arith, a, b) in e)
 
-one_if : Bool → ℕ
+abbrev one_if : Bool → ℕ
 one_if b = if b then 1 else 0
 
 none_less : (y : Pair) (xs : List Pair) → AllByRecursion (λ x. less x y ≡ false) xs → AllByRecursion (λ x. one_if (less x y) ≡ 0) xs

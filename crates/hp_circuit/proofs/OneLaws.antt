@@ -2,11 +2,9 @@
 use Rattle.std.proofs.Common.{◌≡◌, ℕ, ◌+◌, Bool, true, false, List, [], ◌∷◌, ◌++◌, length, map, take, refl, sym, ap, ap₂, subst, ◌∙◌}
 use Rattle.std.specs.Prelude.{IsTrue, slice_index_or}
 use Rattle.std.specs.List.{range_with_len}
-use Rattle.hp_boolx.specs.declared.gate.Gate.{Gate}
 use Rattle.hp_boolx.specs.Machine.{Machine}
 use Rattle.hp_circuit.specs.declared.circuit.Circuit.{Circuit}
 use Rattle.hp_circuit.specs.declared.circuit.Slot.{Slot}
-use Rattle.hp_circuit.specs.declared.circuit.Wire.{Wire}
 use Rattle.hp_circuit.specs.declared.given.Given.{Given}
 use Rattle.hp_circuit.specs.declared.kind.Kind.{Kind}
 use Rattle.hp_circuit.specs.declared.kind.Kind.TheVariants.{Registers, Early, Control, Late}
@@ -21,7 +19,7 @@ use Rattle.hp_circuit.specs.One.{AreAlike, OneMachineLaw}
 use Rattle.hp_circuit.specs.Placing.{slot_gates}
 use Rattle.hp_circuit.specs.Reading.{AreSteered, edges_of}
 use Rattle.hp_circuit.specs.Shapes.{shape_width}
-use Rattle.hp_circuit.specs.Wiring.{Numbered, Wired, starts_of, unwired, wired, with_all, with_valid}
+use Rattle.hp_circuit.specs.Wiring.{Numbered, starts_of, unwired, wired, with_all, with_valid}
 use Rattle.hp_circuit.proofs.LevelLaws.{one_by_level}
 
 -- ---- what is steered is told in one way
@@ -62,7 +60,7 @@ module _ (slots : List Slot) (edges : List (ℕ × ℕ)) (xs ys : List Bool) (h 
 
   given_same : (ss : List Slot) → given_of xs ss ≡ given_of ys ss
   given_same [] = refl
-  given_same (slot ∷ ss) = ap₂ (λ (as bs : List Given). as ++ bs) (ap (λ k. role_given slot.role slot.shape (is_early k)) (kind_same slot)) (given_same ss)
+  given_same (slot ∷ ss) = ap₂ (λ (xs ys : List Given). xs ++ ys) (ap (λ k. role_given slot.role slot.shape (is_early k)) (kind_same slot)) (given_same ss)
 
 -- ---- two machines
 

@@ -1,6 +1,6 @@
 -- Gates that are made are those of the definition, one after another.
-use Rattle.std.proofs.Common.{◌≡◌, ◌≤◌, ◌<◌, ℕ, zero, suc, ◌+◌, ◌-◌, List, [], ◌∷◌, ◌++◌, length, map, get_or, set, take, drop, replicate, refl, sym, ap, ap₂, subst, ◌∙◌, arith, drop-cons}
-use Rattle.std.specs.Prelude.{Option, None, Some, Bool, true, false, slice_index_or}
+use Rattle.std.proofs.Common.{◌≡◌, ◌<◌, ℕ, zero, suc, ◌+◌, ◌-◌, List, [], ◌∷◌, ◌++◌, length, map, get_or, set, take, drop, refl, sym, ap, ap₂, ◌∙◌, arith, drop-cons}
+use Rattle.std.specs.Prelude.{Option, Some, Bool, false, slice_index_or}
 use Rattle.std.specs.List.{range_with_len}
 use Rattle.std.proofs.lemmas.List.{append_assoc, drop_all, get_or-map, take_more}
 use Rattle.std.proofs.lemmas.List.FromFn.{get_or-range_with_len, length-map-range_with_len, length-range_with_len}
@@ -15,7 +15,7 @@ use Rattle.hp_circuit.specs.Forms.{no_slot, shape_at, slot_at, wire_at}
 use Rattle.hp_circuit.specs.Kinds.{place_of}
 use Rattle.hp_circuit.specs.Making.{compared_width, moved, or_zero, place_at, start_at}
 use Rattle.hp_circuit.specs.Shapes.{shape_width}
-use Rattle.hp_circuit.specs.Wiring.{Numbered, Wired, choice_gates, constant_gates, variable_gates, with_all, with_and, with_compared, with_compared_bit, with_gate, with_next, with_same, with_same_bit, with_valid, with_valid_role, with_wire, wire_made}
+use Rattle.hp_circuit.specs.Wiring.{Numbered, Wired, choice_gates, constant_gates, variable_gates, with_all, with_and, with_compared, with_compared_bit, with_gate, with_same, with_same_bit, with_valid, with_valid_role, with_wire, wire_made}
 
 -- ---- rows
 
@@ -55,7 +55,7 @@ module _ (old b c : List Gate) (i r : ℕ) where
       row_next (choice_gates t x y i) (choice_gates t x y (i + 1)) (Ite t (x + i) (y + i)) (ap (choice_gates t x y) (let e : i + 1 ≡ suc i = omega arith in e) ∙ choice_last t x y i)
 
 -- all of a row
-pub row_made : (old b row all : List Gate) (start : ℕ) → b ≡ old ++ row → row ≡ all → start ≡ length old → (b, start) ≡ (old ++ all, length old)
+pub row_made : (old b row all : List Gate) (start : ℕ) → b ≡ old ++ row → row ≡ all → start ≡ length old → ◌≡◌ {A = Numbered} (b, start) (old ++ all, length old)
 row_made old b row all start e f g = λ j. ((e ∙ ap (λ (gs : List Gate). old ++ gs) f) j, g j)
 
 -- ---- from the end
@@ -103,7 +103,7 @@ same_each : (xs ys : List ℕ) → length xs ≡ length ys → ((i : ℕ) → i 
 same_each [] [] e h = refl
 same_each [] (y ∷ ys) e h = absurd (omega (arith, e))
 same_each (x ∷ xs) [] e h = absurd (omega (arith, e))
-same_each (x ∷ xs) (y ∷ ys) e h = ap₂ (λ (a : ℕ) as. a ∷ as) (h 0 (omega arith)) (same_each xs ys (omega (arith, e)) (λ i l. h (suc i) (omega (arith, l))))
+same_each (x ∷ xs) (y ∷ ys) e h = ap₂ (λ (a : ℕ) rest. a ∷ rest) (h 0 (omega arith)) (same_each xs ys (omega (arith, e)) (λ i l. h (suc i) (omega (arith, l))))
 
 -- the first variables of slots are these
 pub places_are : (steered : List Bool) (slots : List Slot) (places : List ℕ) → length places ≡ length slots → ((i : ℕ) → i < length slots → place_at places i ≡ place_of steered slots i) → places ≡ places_of steered slots
@@ -111,17 +111,18 @@ places_are steered slots places many each =
     let f : ℕ → ℕ = place_of steered slots in
     let long : length (range_with_len 0 (length slots)) ≡ length slots = length-range_with_len 0 (length slots) in
     same_each places (places_of steered slots) (many ∙ sym (length-map-range_with_len f 0 (length slots))) (λ i l.
-        let there : i < length slots = omega (arith, l, many) in
-        each i there
-        ∙ ap f (sym (get_or-range_with_len 0 (length slots) i 0 there))
-        ∙ sym (get_or-map f (range_with_len 0 (length slots)) i 0 0 (omega (arith, there, long))))
+    let there : i < length slots = omega (arith, l, many) in
+    each i there
+    ∙ ap f (let e : i ≡ 0 + i = omega arith in e)
+    ∙ ap f (sym (get_or-range_with_len 0 (length slots) i 0 there))
+    ∙ sym (get_or-map f (range_with_len 0 (length slots)) i 0 0 (omega (arith, there, long))))
 
 -- the first gates of wires, where each has some
 pub starts_are : (made : List (Option ℕ)) (all : List ℕ) → length all ≡ length made → ((w : ℕ) → w < length made → start_at made w ≡ Some (slice_index_or all w 0)) → all ≡ map or_zero made
 starts_are [] [] e h = refl
 starts_are [] (s ∷ all) e h = absurd (omega (arith, e))
 starts_are (o ∷ made) [] e h = absurd (omega (arith, e))
-starts_are (o ∷ made) (s ∷ all) e h = ap₂ (λ (a : ℕ) as. a ∷ as) (sym (ap or_zero (h 0 (omega arith)))) (starts_are made all (omega (arith, e)) (λ w l. h (suc w) (omega (arith, l))))
+starts_are (o ∷ made) (s ∷ all) e h = ap₂ (λ (a : ℕ) rest. a ∷ rest) (sym (ap or_zero (h 0 (omega arith)))) (starts_are made all (omega (arith, e)) (λ w l. h (suc w) (omega (arith, l))))
 
 -- a wire that reads gates has those of the definition
 pub wire_is : (wires : List Wire) (shapes : List Shape) (places : List ℕ) (old : List Gate) (starts : List (Option ℕ)) (i width many : ℕ) (w placed : Wire) → w ≡ wire_at wires i → width ≡ shape_width (shape_at shapes i)

@@ -12,7 +12,7 @@ use Rattle.hp_circuit.specs.Machines.{joined}
 use Rattle.hp_circuit.specs.Making.{place_at}
 use Rattle.hp_circuit.specs.Placing.{slot_gates}
 use Rattle.hp_circuit.specs.Reading.{AreSteered, edges_of}
-use Rattle.hp_circuit.specs.Wiring.{Wired, starts_of, with_valid, wired}
+use Rattle.hp_circuit.specs.Wiring.{starts_of, with_valid, wired}
 
 -- the first variable of each slot
 abbrev pub places_of : List Bool → List Slot → List ℕ

@@ -6,7 +6,7 @@ ghost use Rattle.hp_circuit.specs.Numbers.{to_bits, compared};
 ghost use Rattle.hp_circuit.specs.Adding.{at, word, HasFirst, Adds, AddsRow};
 ghost use Rattle.hp_circuit.specs.Making.{start_at, or_zero, moved, AtReads, IsMade, compared_width, wire_bits, named_by, AreThere, ArePlaced, Stands, Makes};
 ghost use Rattle.hp_circuit.specs.Ordering.{AreInOrder};
-ghost use Rattle.hp_circuit.specs.Wiring.{Wired, wire_made, with_all, with_compared, with_wire};
+ghost use Rattle.hp_circuit.specs.Wiring.{wire_made, with_all, with_compared, with_wire};
 
 use crate::bits::{bits, shape_width};
 use crate::circuit::{Circuit, Shape, Wire};

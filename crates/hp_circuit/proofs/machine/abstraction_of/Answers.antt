@@ -1,4 +1,4 @@
-use Rattle.std.proofs.Common.{◌≡◌, List, ℕ, length, subst, sym, rules}
+use Rattle.std.proofs.Common.{◌≡◌, List, ℕ, length, subst, rules}
 use Rattle.hp_graph.specs.Graphs.{AreRanks}
 use Rattle.hp_circuit.specs.Forms.{IsCircuit}
 use Rattle.hp_circuit.specs.Levels.{AreLevels}

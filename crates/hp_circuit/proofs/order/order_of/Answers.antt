@@ -1,5 +1,4 @@
-use Rattle.std.proofs.Common.{◌≡◌, ◌<◌, ◌+◌, ◌++◌, length, drop, sym, ap, subst, ◌∙◌, rules}
-use Rattle.std.specs.Prelude.{List}
+use Rattle.std.proofs.Common.{◌≡◌, ◌<◌, ◌+◌, ◌++◌, length, drop, ap, subst, ◌∙◌, rules}
 use Rattle.std.specs.List.Sorted.{IsPermutation}
 use Rattle.hp_circuit.specs.Levels.{numbered_from}
 use Rattle.hp_circuit.proofs.LevelLaws.{numbered_more, numbered_all}
