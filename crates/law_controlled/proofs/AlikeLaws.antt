@@ -207,6 +207,9 @@ one_controls types (v ∷ vs) (w ∷ ws) (c ∷ cs) (d ∷ ds) h g = ap₂ (λ (
 
 -- ---- the nodes of a contract
 
+no_contract : (c : Option Contract) → c ≡ None → IsTrue (is_some c) → ⊥
+no_contract c none some = let both : false ≡ true = sym (ap (λ (z : Option Contract). is_some z) none) ∙ some in cc
+
 module _ (types : List ObcType) (observers others : Observing) (watch : bare_observing observers ≡ bare_observing others) (node : Node) (n k : FlatNode) (same : bare n ≡ bare k) where
   walked_same : walked node n ≡ walked node k
   walked_same =
@@ -262,15 +265,13 @@ module _ (types : List ObcType) (observers others : Observing) (watch : bare_obs
 
   nodes_both : OneAbstractionLaw → (program : List Item) (these those : List FlatNode) → AreNodesOf program types observers node n these → AreNodesOf program types others node k those → AreAlike these those
   nodes_both law program these those (without_contract none) (without_contract none_too) = (the_same same, tt)
-  nodes_both law program these those (without_contract none) (with_contract controller own told some of) = let both : IsTrue (is_some None) = subst (λ (c : Option Contract). IsTrue (is_some c)) none some in absurd cc
-  nodes_both law program these those (with_contract controller own told some of) (without_contract none) = let both : IsTrue (is_some None) = subst (λ (c : Option Contract). IsTrue (is_some c)) none some in absurd cc
+  nodes_both law program these those (without_contract none) (with_contract controller own told some of) = absurd (no_contract node.contract none some)
+  nodes_both law program these those (with_contract controller own told some of) (without_contract none) = absurd (no_contract node.contract none some)
   nodes_both law program these those (with_contract controller own told some h) (with_contract other own_too told_too more g) =
       let one = law program node h.abstraction g.abstraction h.is_abstraction g.is_abstraction in
       let both = chosen_both h.abstraction g.abstraction one own told own_too told_too h.chosen g.chosen in (
         both_control (record { machine = h.abstraction.machine; first = h.controls; second = subst (λ (m : Machine). IsController m other) (sym one.machine) g.controls }),
-        the_same both.0,
-        the_same both.1,
-        tt,
+        (the_same both.0, (the_same both.1, tt)),
       )
 
 -- ---- all nodes
