@@ -6,6 +6,7 @@ ghost use Rattle.hp_driver.specs.Written.{CompiledLaw, WrittenLaw};
 use hp_controlled::{machines_do_the_same_among_others, own_machines_do_the_same};
 use hp_machines::programs_have_one_list_of_machines;
 use hp_meaning::clocking::one_shortest_assignment;
+use law_controlled::programs_that_choose_have_one_list_of_machines;
 use law_decided::machines_keep_contracts;
 use law_history::streams::{machines_of_texts_are_built, machines_run_the_nodes_of_texts};
 use law_wellmade::lettered::names_are_spelled;
@@ -34,7 +35,7 @@ pub fn written_certificates_are_good()
     names_are_spelled();
 }
 
-/// A run that is stopped and resumed is one run. What is said to some lines, and from the memory behind them to more lines, is what is said to all of them, where none has a fault and they are few enough for one trace; and the memory behind them is the same. So it is of a call of `save` and one of `resume` over one text without controllable variables.
+/// A run that is stopped and resumed is one run. What is said to some lines, and from the memory behind them to more lines, is what is said to all of them, where none has a fault and they are few enough for one trace; and the memory behind them is the same. So it is of a call of `save` and one of `resume` over one text.
 pub fn stopped_runs_are_joined()
     ensures lines { JoinedLaw }
     ensures runs { JoinedRunLaw }
@@ -44,6 +45,7 @@ pub fn stopped_runs_are_joined()
     machines_keep_contracts();
     one_shortest_assignment();
     programs_have_one_list_of_machines();
+    programs_that_choose_have_one_list_of_machines();
 }
 
 /// A machine that is run takes the checkpoint of each of its memories, and no text is the checkpoint of two.

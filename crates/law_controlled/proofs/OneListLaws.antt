@@ -27,7 +27,7 @@ use Rattle.law_choices.proofs.OnClocksLemmas.Texts.{when_accepted}
 use Rattle.law_equations.specs.Made.Types.{obc_types, obc_types_of}
 use Rattle.law_equations.specs.Meaning.Scheduling.{IsWithin}
 use Rattle.law_games.specs.ReadyGames.Laws.{IsInOrder, ReadyContractsLaw, TextOrderLaw}
-use Rattle.law_history.proofs.StreamsLemmas.MadeMachines.{are_regular, have_few}
+use Rattle.law_history.proofs.StreamsLemmas.MadeMachines.{have_few}
 use Rattle.law_judged.specs.Named.Scoped.{EachNode}
 use Rattle.law_wellmade.specs.Spelled.Integers.{NodeShort}
 use Rattle.hp_controlled.specs.Chosen.{AreControlledMachines}
