@@ -59,6 +59,13 @@ module _ (o p : Obc) (node : List ℕ) (m l : Machine) (form : HasObcForm o.type
     spelled = is.spelled ∙ ap (λ (types : List ObcType). memory_text types node (flattened kept)) (sym one.types);
   }
 
+  pub checkpoint_back : (kept : Memory) (text : List ℕ) → IsCheckpointOf o node kept text → IsCheckpointOf p node kept text
+  checkpoint_back kept text is = record {
+    shaped = subst (AreAlike kept) (sym does.does.resets) is.shaped;
+    kinded = subst (λ (keeps : MemoryKinds). HasKinds keeps kept) does.keeps is.kinded;
+    spelled = is.spelled ∙ ap (λ (types : List ObcType). memory_text types node (flattened kept)) one.types;
+  }
+
   -- and what the one says from its memory on, the other one says
   pub answer_moved : (kept : Memory) → HasKinds (machine_keeps o node) kept → (lines : List (List ℕ)) (bytes : List ℕ) → IsAnswer (from_memory p node kept) lines bytes → IsAnswer (from_memory o node kept) lines bytes
   answer_moved kept has lines bytes a =

@@ -31,15 +31,15 @@ use Rattle.hp_driver.specs.Answers.{IsAnswer}
 use Rattle.hp_driver.specs.Checkpoints.{IsCheckpointOf}
 use Rattle.hp_driver.specs.Controls.{has_controls}
 use Rattle.hp_driver.specs.Given.{Gives}
-use Rattle.hp_driver.specs.Joined.{AreGoodLines, IsOneRun, IsResumed, ResumedLaw, memory_past}
+use Rattle.hp_driver.specs.Joined.{AreGoodLines, IsOneRun, IsResumed, ResumedLaw, TakenAgainLaw, memory_past}
 use Rattle.hp_driver.specs.Lines.{lines_of}
 use Rattle.hp_driver.specs.Log.{heard, said}
-use Rattle.hp_driver.specs.Outcome.{AreChosen, IsHeld}
+use Rattle.hp_driver.specs.Outcome.{AreChosen, AreCompiled, IsHeld}
 use Rattle.hp_driver.specs.Segments.{AreRun, Begins, IsRunnable, SegmentRun, Traced}
 use Rattle.hp_driver.specs.Systems.{System, of_machine, from_memory, inputs_of}
 use Rattle.hp_driver.specs.Values.{first_bad}
 use Rattle.hp_driver.specs.WrittenText.{WritesText}
-use Rattle.hp_driver.proofs.AlikeLaws.{answer_moved, checkpoint_moved, good_moved}
+use Rattle.hp_driver.proofs.AlikeLaws.{answer_moved, checkpoint_back, checkpoint_moved, good_moved}
 use Rattle.hp_driver.proofs.JoinedLaws.{joined_run}
 use Rattle.hp_driver.proofs.SegmentCalls.{one_memory}
 
@@ -99,34 +99,55 @@ module _ (file node mem out : List ℕ) (before found : Files) (source : map.get
 
   -- what a call resumed with machines of the program, the machines of the other call resume
   module _ (shortest : OneShortestLaw) (one : OneMachinesLaw) (choosing : OneTextListLaw) (text : List ℕ) (second : List Event) where
-    chosen_moved : (o p : Obc) (form : HasObcForm o.types o.machines) (a : AreChosen (Some before) file o) (b : AreChosen (Some found) file p) (n k : Node) → node_among a.held.clocked node ≡ Some n → node_among b.held.clocked node ≡ Some k
-        → IsChosen node o n → IsChosen node p k → Resumes node text second p → Resumes node text second o
-    chosen_moved o p form a b n k named its_name is its r =
-        let clocked = same_arranged shortest a.program b.program a.held b.held in
-        let nodes : n ≡ k = some_same n k (sym named ∙ ap (λ (items : List Item). node_among items node) clocked ∙ its_name) in
-        let headed : heading_of_machine is.machine ≡ heading_of_machine its.machine = is.headed ∙ ap own_heading nodes ∙ sym its.headed in
-        let j = a.held.judged in
-        let arranged = a.held.arranged in
-        let both : AreOne o p =
-        choosing a.held.text j.program_of.tokens a.program a.held.clocked a.held.ranks o p j.program_of.spelled j.program_of.read j.named j.typed j.defined arranged.formed arranged.initialised arranged.clocks arranged.ordered a.machines
-        (subst (λ items. AreControlledMachines items p) (sym clocked) b.machines) in
-        let inputs : is.machine.inputs ≡ its.machine.inputs = ap (λ (h : Heading). h.inputs) headed in
-        let outputs : is.machine.outputs ≡ its.machine.outputs = ap (λ (h : Heading). h.outputs) headed in
-        let moved = checkpoint_moved o p node is.machine its.machine form both is.named its.named inputs outputs r.kept text r.is in
-        record {
-          kept = r.kept;
-          is = moved;
-          answer = answer_moved o p node is.machine its.machine form both is.named its.named inputs outputs r.kept moved.kinded (lines_of true (heard second)) (said second) r.answer;
-          good = good_moved o p node is.machine its.machine form both is.named its.named inputs outputs (lines_of true (heard second)) r.good;
-        }
+    module _ (o p : Obc) (a : AreChosen (Some before) file o) (b : AreChosen (Some found) file p) (n k : Node) (named : node_among a.held.clocked node ≡ Some n) (its_name : node_among b.held.clocked node ≡ Some k) (is : IsChosen node o n)
+        (its : IsChosen node p k) where
+      -- two lists of machines of a program that chooses are one
+      chosen_one : AreOne o p
+      chosen_one =
+          let j = a.held.judged in
+          let arranged = a.held.arranged in
+          choosing a.held.text j.program_of.tokens a.program a.held.clocked a.held.ranks o p j.program_of.spelled j.program_of.read j.named j.typed j.defined arranged.formed arranged.initialised arranged.clocks arranged.ordered a.machines
+          (subst (λ items. AreControlledMachines items p) (sym (same_arranged shortest a.program b.program a.held b.held)) b.machines)
+
+      headed : heading_of_machine is.machine ≡ heading_of_machine its.machine
+      headed =
+          let clocked = same_arranged shortest a.program b.program a.held b.held in
+          let nodes : n ≡ k = some_same n k (sym named ∙ ap (λ (items : List Item). node_among items node) clocked ∙ its_name) in
+          is.headed ∙ ap own_heading nodes ∙ sym its.headed
+
+      abbrev inputs : is.machine.inputs ≡ its.machine.inputs
+      inputs = ap (λ (h : Heading). h.inputs) headed
+
+      abbrev outputs : is.machine.outputs ≡ its.machine.outputs
+      outputs = ap (λ (h : Heading). h.outputs) headed
+
+      chosen_moved : HasObcForm o.types o.machines → Resumes node text second p → Resumes node text second o
+      chosen_moved form r =
+          let there = checkpoint_moved o p node is.machine its.machine form chosen_one is.named its.named inputs outputs r.kept text r.is in
+          record {
+            kept = r.kept;
+            is = there;
+            answer = answer_moved o p node is.machine its.machine form chosen_one is.named its.named inputs outputs r.kept there.kinded (lines_of true (heard second)) (said second) r.answer;
+            good = good_moved o p node is.machine its.machine form chosen_one is.named its.named inputs outputs (lines_of true (heard second)) r.good;
+          }
+
+      chosen_taken : HasObcForm o.types o.machines → (memory : Memory) → IsCheckpointOf o node memory text → IsCheckpointOf p node memory text
+      chosen_taken form memory = checkpoint_back o p node is.machine its.machine form chosen_one is.named its.named inputs outputs memory text
+
+    plain_one : (o p : Obc) → AreCompiled (Some before) file o → AreCompiled (Some found) file p → o ≡ p
+    plain_one o p a b = one a.held.clocked o p a.machines (subst (λ items. AreMachinesOf items p) (sym (same_arranged shortest a.program b.program a.held b.held)) b.machines)
 
     moved : (o p : Obc) (s z : System) → HasObcForm o.types o.machines → AreRun (Some before) file node o s → AreRun (Some found) file node p z → Resumes node text second p → Resumes node text second o
-    moved o p s z form (AreRun.of_program a) (AreRun.of_program b) r =
-        let same : o ≡ p = one a.held.clocked o p a.machines (subst (λ items. AreMachinesOf items p) (sym (same_arranged shortest a.program b.program a.held b.held)) b.machines) in
-        subst (Resumes node text second) (sym same) r
-    moved o p s z form (AreRun.of_program a) (AreRun.that_choose k chosen some its_name its) r = no_choice a.program chosen.program a.held chosen.held a.uncontrolled some
-    moved o p s z form (AreRun.that_choose n chosen some named is) (AreRun.of_program b) r = no_plain chosen.program b.program chosen.held b.held some b.uncontrolled
-    moved o p s z form (AreRun.that_choose n a some named is) (AreRun.that_choose k b some_too its_name its) r = chosen_moved o p form a b n k named its_name is its r
+    moved o p s z form (AreRun.of_program a) (AreRun.of_program b) r = subst (Resumes node text second) (sym (plain_one o p a b)) r
+    moved o p s z form (AreRun.of_program a) (AreRun.that_choose k b some its_name its) r = no_choice a.program b.program a.held b.held a.uncontrolled some
+    moved o p s z form (AreRun.that_choose n a some named is) (AreRun.of_program b) r = no_plain a.program b.program a.held b.held some b.uncontrolled
+    moved o p s z form (AreRun.that_choose n a some named is) (AreRun.that_choose k b some_too its_name its) r = chosen_moved o p a b n k named its_name is its form r
+
+    taken_again : (o p : Obc) (s z : System) → HasObcForm o.types o.machines → AreRun (Some before) file node o s → AreRun (Some found) file node p z → (memory : Memory) → IsCheckpointOf o node memory text → IsCheckpointOf p node memory text
+    taken_again o p s z form (AreRun.of_program a) (AreRun.of_program b) memory is = subst (λ (q : Obc). IsCheckpointOf q node memory text) (plain_one o p a b) is
+    taken_again o p s z form (AreRun.of_program a) (AreRun.that_choose k b some its_name its) memory is = no_choice a.program b.program a.held b.held a.uncontrolled some
+    taken_again o p s z form (AreRun.that_choose n a some named is) (AreRun.of_program b) memory it = no_plain a.program b.program a.held b.held some b.uncontrolled
+    taken_again o p s z form (AreRun.that_choose n a some named is) (AreRun.that_choose k b some_too its_name its) memory it = chosen_taken o p a b n k named its_name is its form memory it
 
 -- ---- what each call did
 
@@ -206,6 +227,10 @@ module _ (text_law : TextLaw) (run_law : RunLaw) (before : Files) (file node : L
         let here : IsCheckpointOf o node (memory_past o node (machine_behaviour o node).reset (lines_of true (heard first))) text =
         subst (λ memory. IsCheckpointOf o node (memory_past o node memory (lines_of true (heard first))) text) b.1 is in
         both o b.0 text at here (second_part o b.0 text holds (Some mem) [] 0 r refl refl)
+
+pub taken : OneShortestLaw → OneMachinesLaw → OneTextListLaw → TakenAgainLaw
+taken shortest one choosing before found file node o p memory text source there again is =
+    taken_again file node [] [] before found source shortest one choosing text [] o p there.system again.system there.form there.are again.are memory is
 
 pub resumed : TextLaw → RunLaw → OneShortestLaw → OneMachinesLaw → OneTextListLaw → ResumedLaw
 resumed text_law run_law shortest one choosing file node mem out first second r few =

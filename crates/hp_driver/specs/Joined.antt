@@ -50,6 +50,12 @@ abbrev pub OneMemoryLaw : Type 0
 OneMemoryLaw =
     (files : Option Files) (file node : List ℕ) (o : Obc) (text : List ℕ) (memory other : Memory) → IsRunnable files file node o → IsCheckpointOf o node memory text → IsCheckpointOf o node other text → memory ≡ other
 
+-- What one list of machines of a source text left, another one takes: a checkpoint of a memory of the one is one of the same memory of the other.
+abbrev pub TakenAgainLaw : Type 0
+TakenAgainLaw =
+    (before found : Files) (file node : List ℕ) (o p : Obc) (memory : Memory) (text : List ℕ) → map.get found file ≡ map.get before file → IsRunnable (Some before) file node o → IsRunnable (Some found) file node p
+    → IsCheckpointOf o node memory text → IsCheckpointOf p node memory text
+
 -- ---- two calls
 
 -- A run of a node was stopped and resumed: `save` and `resume` both ended with status 0. Both found the same source text, and `resume` found, under the name that it was asked for, what `save` had left there.

@@ -1,6 +1,6 @@
 //! Laws on calls. The functions here do nothing: each is a law, which its contract states.
 ghost use Rattle.hp_driver.specs.GoodCalls.{PlainLaw, ProvedLaw};
-ghost use Rattle.hp_driver.specs.Joined.{JoinedLaw, JoinedRunLaw, OneMemoryLaw, ResumedLaw, TakenLaw};
+ghost use Rattle.hp_driver.specs.Joined.{JoinedLaw, JoinedRunLaw, OneMemoryLaw, ResumedLaw, TakenAgainLaw, TakenLaw};
 ghost use Rattle.hp_driver.specs.Written.{CompiledLaw, WrittenLaw};
 
 use hp_controlled::{machines_do_the_same_among_others, own_machines_do_the_same};
@@ -35,11 +35,12 @@ pub fn written_certificates_are_good()
     names_are_spelled();
 }
 
-/// A run that is stopped and resumed is one run. What is said to some lines, and from the memory behind them to more lines, is what is said to all of them, where none has a fault and they are few enough for one trace; and the memory behind them is the same. So it is of a call of `save` and one of `resume` over one text.
+/// A run that is stopped and resumed is one run. What is said to some lines, and from the memory behind them to more lines, is what is said to all of them, where none has a fault and they are few enough for one trace; and the memory behind them is the same. So it is of a call of `save` and one of `resume` over one text, and what the one leaves the other takes.
 pub fn stopped_runs_are_joined()
     ensures lines { JoinedLaw }
     ensures runs { JoinedRunLaw }
     ensures resumed { ResumedLaw }
+    ensures taken { TakenAgainLaw }
 {
     machines_run_the_nodes_of_texts();
     machines_keep_contracts();
