@@ -9,7 +9,7 @@ use Rattle.hp_driver.proofs.SegmentCalls.{good_resume, good_save, resume_ends}
 use Rattle.hp_driver.proofs.SegmentLaws.{command_outcome}
 use Rattle.hp_driver.proofs.StatusLaws.{numbered}
 use Rattle.hp_driver.proofs.WordLaws.{check_segment, compile_segment, exec_segment, past_segment, prove_segment, run_segment, verify_segment}
-use Rattle.hp_driver.proofs.tool.run_tool_with.Goals as goal
+use Rattle.hp_driver.proofs.tool.run_tool.Goals as goal
 
 pub returns-clause-outcome : goal.returns-clause-outcome
 returns-clause-outcome g c = (numbered c.code.ensures c.perform.ensures).outcome
