@@ -35,5 +35,5 @@ pub use ordering::run_tool_with_order;
 pub use resources::Extras;
 pub use status::Status;
 pub use system::run_on_system;
-pub use tool::{run_tool, run_tool_with};
+pub use tool::run_tool;
 pub use trace_limits::MAX_LINES;
