@@ -1,5 +1,5 @@
 -- At each step behind the grammar one fault is first, and there is none where the step finds none.
-use Rattle.std.proofs.Common.{◌≡◌, ◌≢◌, ℕ, Bool, List, [], ◌∷◌, ◌++◌, map, ◌⊎◌, inl, inr, Result, Err, Option, None, Some, refl, sym, ap, ap₂, subst, ◌∙◌}
+use Rattle.std.proofs.Common.{◌≡◌, ◌≢◌, ℕ, List, [], ◌∷◌, ◌++◌, map, inl, inr, Result, Err, None, Some, refl, sym, ap, ap₂, subst, ◌∙◌}
 use Rattle.hp_base.specs.First.First.{IsFirst}
 use Rattle.hp_base.specs.declared.limit.Limit.{Limit}
 use Rattle.hp_base.specs.declared.span.Span.{Span}
@@ -27,7 +27,7 @@ use Rattle.hp_meaning.specs.Clocking.Clocking.{Assignment, AllAllow, AreClocks, 
 use Rattle.hp_meaning.specs.Clocking.Solving.{FirstClash}
 use Rattle.hp_meaning.proofs.ClockingLemmas.Judging.{one as one_shortest}
 use Rattle.hp_meaning.proofs.ClockingLemmas.Units.{all_allow}
-use Rattle.hp_clocks.specs.Answers.{AreLong, AreNamed, AreShortest, HaveClocks, IsClash, IsClocked, IsTooLong, NoneLong, Refuses, too_long}
+use Rattle.hp_clocks.specs.Answers.{AreLong, AreNamed, AreShortest, HaveClocks, IsClash, IsClocked, IsTooLong, NoneLong, Refuses}
 use Rattle.hp_clocks.specs.Writing.{AreWritten}
 use Rattle.hp_clocks.specs.declared.error.ClockErr.{ClockErr}
 use Rattle.hp_clocks.specs.declared.error.ClockErr.TheVariants as clock_error

@@ -1,5 +1,5 @@
 -- A machine that gives no value at all. Its line is blank, as that of a machine without outputs; and such a line is no answer.
-use Rattle.std.proofs.Common.{◌≡◌, ℕ, List, [], ◌∷◌, codes, pos, refl, subst}
+use Rattle.std.proofs.Common.{◌≡◌, List, [], ◌∷◌, codes, pos, refl, subst}
 use Rattle.std.specs.List.{AllByRecursion, flat_map}
 use Rattle.hp_base.specs.Kinds.{AreOfKinds, Bools}
 use Rattle.hp_base.specs.declared.ty.Ty.TheVariants.{Bool as BoolTy, Int as IntTy}

@@ -1,6 +1,6 @@
 -- Equations in which no needless copies are left.
 -- Source: copy propagation and coalescing; in clock-directed code generation by Biernacki, Colaço, Hamon and Pouzet (LCTES 2008) they take away what normal form adds.
-use Rattle.std.specs.Prelude.{◌≡◌, ℕ, false, List, Some}
+use Rattle.std.specs.Prelude.{◌≡◌, ℕ, false, Some}
 use Rattle.std.specs.List.{AllByRecursion}
 use Rattle.hp_flat.specs.declared.equation.Atom.{Atom}
 use Rattle.hp_flat.specs.declared.equation.Atom.TheVariants.{Variable}
