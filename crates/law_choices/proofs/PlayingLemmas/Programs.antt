@@ -421,14 +421,14 @@ module _ (laws : GreatestLaws) (program after : List Item) (ranks : List (List �
         seen-before laws.choice program after ranks order found.earlier n found.stands types all observers c g known-here choices own-values answers gives its-choice typed-here (allowed.one).typed row rs now p k s)
         (λ row rs now p k r s.
         node-seen-tells laws.choice program after ranks order found.earlier n found.stands types all observers c g known-here choices own-values answers gives its-choice typed-here owe gates
-        (allowed.one).typed none mirror.assume mirror.enforce (mirror.told none) mirror.assume_copied mirror.enforce_copied row rs now p k r s) rows past kinds (runs-here rows past reaction) (sees found.earlier c mirror found.among)
+        (allowed.one).typed none mirror.assume mirror.enforce (mirror.told none) mirror.assume_copied mirror.enforce_copied row rs now p k r s) rows past kinds (runs-here rows past reaction) (sees found.earlier found.stands c mirror found.among)
 
     -- so it is where the equations hold values of the reaction
     seen-of : (rows : List (List Value)) (past : Past) → AllByRecursion (AreOfKinds (timely.kinds_of_decls decls n.inputs)) rows → ChosenReaction choices after n.name rows past → SeesOwn types observers after ms n answers rows past
         → Through (ChoosesGreatest after n) past
     seen-of rows past kinds reaction sees =
         node-seen laws.choice program after ranks order found.earlier n found.stands types all observers c g known-here choices own-values answers gives its-choice typed-here
-        (allowed.one).typed rows past kinds (runs-of choices after found.earlier n found.stands apart-here rows _ past reaction) (sees found.earlier c mirror found.among)
+        (allowed.one).typed rows past kinds (runs-of choices after found.earlier n found.stands apart-here rows _ past reaction) (sees found.earlier found.stands c mirror found.among)
 
 pub greatest_law : GreatestLaws → GreatestLaw
 greatest_law laws program after ranks observers ms order h mirrored allowed f n inputs past e knows kinds reaction =

@@ -88,7 +88,7 @@ along-parts P ps qs xs zs ys l m long first last =
     let same : length ys ≡ length qs = omega (arith, l, m, long, a, b, d) in
     along-append P ps qs (xs ++ zs) ys (subst (λ us. Along P ps (xs ++ us)) (sym none) (subst (Along P ps) (sym (append-nil xs)) first)) (last same)
 
-free-either : (xs ys : List FreePlace) (q : Place) → IsFree (xs ++ ys) q → IsFree xs q ⊎ IsFree ys q
+pub free-either : (xs ys : List FreePlace) (q : Place) → IsFree (xs ++ ys) q → IsFree xs q ⊎ IsFree ys q
 free-either [] ys q h = inr h
 free-either (x ∷ xs) ys q (inl e) = inl (inl e)
 free-either (x ∷ xs) ys q (inr h) = by (free-either xs ys q h)
@@ -98,7 +98,7 @@ free-either (x ∷ xs) ys q (inr h) = by (free-either xs ys q h)
     by (inr k) = inr k
 
 -- a free place in a row of inputs
-in-row-free : (ds : List Decl) (w : Place → Place) (q : Place) → IsFree (places_in_row ds w) q → (r : Place) × (q ≡ w r)
+pub in-row-free : (ds : List Decl) (w : Place → Place) (q : Place) → IsFree (places_in_row ds w) q → (r : Place) × (q ≡ w r)
 in-row-free [] w q h = absurd h
 in-row-free (d ∷ ds) w q h = by (free-either (place_of (w (Head ∷ [])) d.ty) (places_in_row ds (below Tail w)) q h)
   where
