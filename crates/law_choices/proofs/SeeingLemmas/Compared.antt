@@ -1,6 +1,6 @@
 -- The equations of a node whose comparisons have names hold values of its free places: of their types, and the instant's own wherever it looks.
-use Rattle.std.proofs.Common.{◌≡◌, ◌⊎◌, inl, inr, ℕ, ◌+◌, ◌<◌, Bool, true, false, List, [], ◌∷◌, ◌++◌, length, map, Some, refl, sym, ap, ap₂, subst, ◌∙◌, arith}
-use Rattle.std.specs.Prelude.{IsTrue}
+use Rattle.std.proofs.Common.{◌≡◌, ◌⊎◌, inl, inr, ℕ, suc, ◌+◌, ◌<◌, List, [], ◌∷◌, ◌++◌, length, map, Some, refl, sym, ap, subst, ◌∙◌, arith}
+use Rattle.std.specs.Prelude.{Bool, true, IsTrue}
 use Rattle.std.specs.List.{AllByRecursion, flat_map, range_with_len}
 use Rattle.hp_base.specs.declared.value.Value.{Value}
 use Rattle.hp_base.specs.declared.value.Value.TheVariants.{Star}
@@ -53,8 +53,8 @@ flags-many : (early : Place → Bool) (ss : List Slot) → length (early_flags e
 flags-many early [] = refl
 flags-many early (register p k ∷ ss) = flags-many early ss
 flags-many early (control p t ∷ ss) = flags-many early ss
-flags-many early (input p t ∷ ss) = ap (λ l. 1 + l) (flags-many early ss)
-flags-many early (free p t ∷ ss) = ap (λ l. 1 + l) (flags-many early ss)
+flags-many early (input p t ∷ ss) = ap suc (flags-many early ss)
+flags-many early (free p t ∷ ss) = ap suc (flags-many early ss)
 
 -- other values in the equations of the body
 abbrev in_body : Instant → Instant → Instant

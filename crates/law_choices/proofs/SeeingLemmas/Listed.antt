@@ -100,7 +100,7 @@ free-either (x ∷ xs) ys q (inr h) = by (free-either xs ys q h)
 -- a free place in a row of inputs
 pub in-row-free : (ds : List Decl) (w : Place → Place) (q : Place) → IsFree (places_in_row ds w) q → (r : Place) × (q ≡ w r)
 in-row-free [] w q h = absurd h
-in-row-free (d ∷ ds) w q h = by (free-either (place_of (w (Head ∷ [])) d.ty) (places_in_row ds (below Tail w)) q h)
+in-row-free (d ∷ ds) w q h = by (free-either (place_of (w (Head ∷ [])) d.ty) (places_in_row ds (below Tail w)) q h) (λ k. in-row-free ds (below Tail w) q k)
   where
     one : (t : Ty) → IsFree (place_of (w (Head ∷ [])) t) q → (r : Place) × (q ≡ w r)
     one ty.Bool (inl e) = (Head ∷ [], e)
@@ -109,9 +109,9 @@ in-row-free (d ∷ ds) w q h = by (free-either (place_of (w (Head ∷ [])) d.ty)
     one (ty.Enum x) (inl e) = (Head ∷ [], e)
     one (ty.Enum x) (inr h) = absurd h
 
-    by : IsFree (place_of (w (Head ∷ [])) d.ty) q ⊎ IsFree (places_in_row ds (below Tail w)) q → (r : Place) × (q ≡ w r)
-    by (inl k) = one d.ty k
-    by (inr k) = let r = in-row-free ds (below Tail w) q k in (Tail ∷ r.0, r.1)
+    by : IsFree (place_of (w (Head ∷ [])) d.ty) q ⊎ IsFree (places_in_row ds (below Tail w)) q → (IsFree (places_in_row ds (below Tail w)) q → (r : Place) × (q ≡ w (Tail ∷ r))) → (r : Place) × (q ≡ w r)
+    by (inl k) rest = one d.ty k
+    by (inr k) rest = let r = rest k in (Tail ∷ r.0, r.1)
 
 -- ---- slots
 
@@ -433,7 +433,7 @@ module _ (laws : NodeLaws) (types : List ObcType) (all : Callees) (observers : O
         sym (same (target_of m r x) (target-below m r x)) ∙ sym copy ∙ value ∙ sym truth.1
 
     -- the values that targets hold
-    pub held_values : (ms : List ℕ) (rs : List Comparison) → Along Row ms rs → List Value
+    abbrev pub held_values : (ms : List ℕ) (rs : List Comparison) → Along Row ms rs → List Value
     held_values [] [] h = []
     held_values [] (r ∷ rs) h = absurd h
     held_values (m ∷ ms) [] h = absurd h
@@ -453,15 +453,15 @@ module _ (laws : NodeLaws) (types : List ObcType) (all : Callees) (observers : O
 
     -- they are the instant's own wherever it looks
     pub own-values : (values : Instant) (ms : List ℕ) (rs : List Comparison) (ps : List Place) (h : Along Row ms rs) → Along Its rs ps → AllDeclared rs → AreAt values ps (held_values ms rs h) → (q : Place) → IsFree (ordered_of rs ps) q → is_seen (erased now) q ≡ true → values q ≡ now q
-    own-values values ms [] ps h its declared at q free seen_there = absurd free
-    own-values values ms (r ∷ rs) [] h its declared at q free seen_there = absurd its
-    own-values values [] (r ∷ rs) (p ∷ ps) h its declared at q free seen_there = absurd h
-    own-values values (m ∷ ms) (r ∷ rs) (p ∷ ps) h its declared at q free seen_there = by (is_order r.1) free (own-values values ms rs ps h.1 its.1 declared.1 at.1 q)
+    own-values values ms [] ps h its declared at q f seen_there = absurd f
+    own-values values ms (r ∷ rs) [] h its declared at q f seen_there = absurd its
+    own-values values [] (r ∷ rs) (p ∷ ps) h its declared at q f seen_there = absurd h
+    own-values values (m ∷ ms) (r ∷ rs) (p ∷ ps) h its declared at q f seen_there = by (is_order r.1) f (own-values values ms rs ps h.1 its.1 declared.1 at.1 q)
       where
         by : (b : Bool) → IsFree ((if b then (p, ty.Bool) ∷ [] else []) ++ ordered_of rs ps) q → (IsFree (ordered_of rs ps) q → is_seen (erased now) q ≡ true → values q ≡ now q) → values q ≡ now q
         by true (inl e) rest = ap values e ∙ at.0 ∙ row-own m r h.0 p its.0 declared.0 (ap (is_seen (erased now)) (sym e) ∙ seen_there) ∙ ap now (sym e)
-        by true (inr f) rest = rest f seen_there
-        by false f rest = rest f seen_there
+        by true (inr z) rest = rest z seen_there
+        by false z rest = rest z seen_there
 
     -- they are truth values
     pub own-typed : (given : Instant) (ms : List ℕ) (rs : List Comparison) (ps : List Place) (h : Along Row ms rs) → AreAt given ps (held_values ms rs h) → AllByRecursion (IsOfType decls given) (ordered_of rs ps)

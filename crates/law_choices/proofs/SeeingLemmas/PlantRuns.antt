@@ -46,14 +46,17 @@ module _ (laws : NodeLaws) (types : List ObcType) (all : Callees) (observers : O
   abbrev count : ℕ
   count = length (controls laws types all observers n c g)
 
-  -- the first variables of instants
+  -- the first variables of an instant, and of some
+  abbrev pub first_of : Instant → Instant
+  first_of i = cut (length c.plant.variables) (cut (length watched.variables) i)
+
   abbrev pub in_first : List Instant → List Instant
   in_first instants = map (cut (length c.plant.variables)) (map (cut (length watched.variables)) instants)
 
   keeps : Keeps types all g.clock c.plant watched
   keeps = keeps-both types all c.plant first watched g.clock (seen laws types all observers n c g).keeps (bits laws types all observers n c g).keeps
 
-  pub first-same : (i : Instant) (x : ℕ) → x < length c.plant.variables → cut (length c.plant.variables) (cut (length watched.variables) i) x ≡ i x
+  pub first-same : (i : Instant) (x : ℕ) → x < length c.plant.variables → first_of i x ≡ i x
   first-same i x l =
       let v = (keeps.grows).variables in
       let e = ap length v.1 in
