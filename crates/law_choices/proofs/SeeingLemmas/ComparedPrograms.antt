@@ -14,13 +14,11 @@ use Rattle.hp_tree.specs.Instant.{Body, Controls, Given, Instant, Named, Past, P
 use Rattle.hp_tree.specs.Meaning.{Names, Nodes, absent, controls_of, given_to, input_of, lasts, node_among, scope, types_of}
 use Rattle.hp_tree.specs.Values.{AreOf}
 use Rattle.hp_meaning.specs.Causal.OneReaction.{SamePasts}
-use Rattle.hp_meaning.specs.Causal.Sources.{below}
 use Rattle.hp_meaning.specs.Contract.Guarantee.{Through, Typed}
 use Rattle.hp_meaning.specs.Contract.Slots.{slots_of_node}
 use Rattle.law_judged.specs.Named.Scoped.{EachNode}
 use Rattle.hp_automata.specs.Lowering.{Enumerations, enumerations, lowered_node, lowered_program}
 use Rattle.law_automata.specs.Lowered.Removable.{BlockOk, IsRemovable, NodeOk, none_known}
-use Rattle.law_automata.specs.Lowered.Standing.{Along}
 use Rattle.law_automata.proofs.LowerableLemmas.Texts.{each_reverse}
 use Rattle.hp_flat.specs.Nodes.{FlatNode}
 use Rattle.law_equations.specs.Made.Making.{Known}
@@ -29,7 +27,6 @@ use Rattle.law_equations.specs.Meaning.Instants as flows
 use Rattle.law_equations.specs.Meaning.Kinding.{Callees, IsPossible, kinds_at}
 use Rattle.law_equations.specs.Meaning.Reactions.{Answers, Holds, Reaction, inputs_of}
 use Rattle.hp_complete.specs.Declaring.{known_of}
-use Rattle.law_games.specs.ReadyGames.Laws.{IsInOrder, Stands}
 use Rattle.law_games.proofs.GuaranteedLemmas.Apart.{ready_apart}
 use Rattle.law_history.proofs.StreamsLemmas.NamesApart.{each_found, name_found}
 use Rattle.law_wellmade.specs.Timely.Kinds as timely
@@ -37,22 +34,20 @@ use Rattle.law_wellmade.specs.Timely.Tested.{ConstructorsDiffer}
 use Rattle.law_wellmade.proofs.TimelyLemmas.KindLaws.{are_of}
 use Rattle.hp_controller.specs.Extending.{rows_with}
 use Rattle.hp_watch.specs.Watching.{Observing}
-use Rattle.law_values.specs.Filled.Under.{Under}
 use Rattle.law_choices.specs.Answered.Loops.{plants}
 use Rattle.law_choices.specs.Choosing.Choices.{Choices, OneReactionLaw, ReactionUnder, with_chosen}
 use Rattle.law_equations.specs.Meaning.Kinding as flat_kinds
-use Rattle.law_choices.specs.Choosing.Meaning.{HasOneMeaningUnder}
 use Rattle.law_choices.specs.Choosing.Programs.{AreChoices, ReadyLaw, controls_in}
 use Rattle.law_choices.specs.Flat.Names.{is_body_name, values_at, values_of, variable_of}
 use Rattle.law_choices.specs.Places.Laws.{AreMadeOf}
-use Rattle.law_choices.specs.InTurn.Laws.{IsAllowed, IsChoosing, said_of}
-use Rattle.law_choices.specs.InTurn.Nodes.{Contracted, Made, loops}
+use Rattle.law_choices.specs.InTurn.Laws.{said_of}
+use Rattle.law_choices.specs.InTurn.Nodes.{Contracted, loops}
 use Rattle.law_choices.specs.OnClocks.WellMade.{callees_of}
-use Rattle.law_choices.specs.Playing.Mirrored.{IsMirrored}
+use Rattle.law_choices.specs.Playing.Mirrored.{early_flags}
 use Rattle.law_choices.specs.Runs.Chosen.{ChosenReaction, chosen_given, chosen_nodes}
 use Rattle.law_choices.specs.Seeing.Compared.{ComparedLaw}
 use Rattle.law_choices.specs.Seeing.Comparing.{BlockNamesComparisons, ComparesByName}
-use Rattle.law_choices.specs.Seeing.Held.{HoldThroughout, HoldsValues, IsMadeOf, survey_of}
+use Rattle.law_choices.specs.Seeing.Held.{HoldThroughout, HoldsValues}
 use Rattle.law_choices.specs.Streams.Names.{AreUnder, IsOnlyReaction, KeepsNamesOf, NamesLaw, variable_in}
 use Rattle.law_choices.proofs.AnsweredLemmas.OneLoop.{rows_chosen}
 use Rattle.law_choices.proofs.AnsweredLemmas.Programs.{takes_kinds}
@@ -63,9 +58,9 @@ use Rattle.law_choices.proofs.OnClocksLemmas.OneMeaning.{ready_nodes}
 use Rattle.law_choices.proofs.PlayingLemmas.Asking.{controls, survey, survey_typed}
 use Rattle.law_choices.proofs.PlayingLemmas.ControlBits.{of-long}
 use Rattle.law_choices.proofs.PlayingLemmas.Holding.{Does, Runs, inputs-held, runs-of}
-use Rattle.law_choices.proofs.PlayingLemmas.Programs.{FoundMade, FoundOf, GreatestLaws, apart-here, differ, find-of, its-choice, kinds-in, typed-here}
+use Rattle.law_choices.proofs.PlayingLemmas.Programs.{FoundMade, GreatestLaws, differ, find-of, its-choice, kinds-in, typed-here}
 use Rattle.law_choices.proofs.SeeingLemmas.Compared.{holds}
-use Rattle.law_choices.proofs.SeeingLemmas.Defined.{HasItsValue, block-named, rights}
+use Rattle.law_choices.proofs.SeeingLemmas.Defined.{block-named}
 use Rattle.law_choices.proofs.SeeingLemmas.PlantRuns.{first-same, first_of, in_first, plant-runs}
 use Rattle.law_choices.proofs.StreamsLemmas.Alike.{only_law}
 use Rattle.law_choices.proofs.StreamsLemmas.Streams.{in_turn}

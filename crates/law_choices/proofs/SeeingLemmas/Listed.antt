@@ -1,5 +1,5 @@
 -- Of a node whose comparisons have names, what is watched are the inputs and the comparisons by order, and these hold values of their types: the instant's own wherever it looks.
-use Rattle.std.proofs.Common.{◌≡◌, ◌⊎◌, inl, inr, ℕ, zero, suc, ◌+◌, ◌≤◌, ◌<◌, Bool, true, false, if◌then◌else◌, List, [], ◌∷◌, ◌++◌, length, map, slice_get, Option, None, Some, refl, sym, ap, ap₂, subst, ◌∙◌, arith}
+use Rattle.std.proofs.Common.{◌≡◌, ◌⊎◌, inl, inr, ℕ, suc, ◌+◌, ◌≤◌, ◌<◌, Bool, true, false, if◌then◌else◌, List, [], ◌∷◌, ◌++◌, length, map, slice_get, None, Some, refl, sym, ap, ap₂, subst, ◌∙◌, arith}
 use Rattle.std.specs.Prelude.{⊤}
 use Rattle.std.specs.List.{AllByRecursion, flat_map, range_with_len}
 use Rattle.std.proofs.lemmas.List.{append-nil, length-append}
@@ -7,16 +7,15 @@ use Rattle.hp_base.specs.Kinds.{KindData, Bools, Ints, Constructors, IsOfKind}
 use Rattle.hp_base.specs.declared.ty.Ty.{Ty}
 use Rattle.hp_base.specs.declared.ty.Ty.TheVariants as ty
 use Rattle.hp_base.specs.declared.value.Value.{Value}
-use Rattle.hp_base.specs.declared.value.Value.TheVariants.{Absent, Nil, B, E, I, Star}
+use Rattle.hp_base.specs.declared.value.Value.TheVariants.{B, E, I, Star}
 use Rattle.hp_obc.specs.Form.{binary_kind, for_ints, result_kind}
 use Rattle.hp_obc.specs.Machines.{ObcType}
 use Rattle.hp_tree.specs.declared.expr.Op2.{Op2}
 use Rattle.hp_tree.specs.declared.expr.Op2.TheVariants as op
-use Rattle.hp_tree.specs.declared.program.Item.{Item}
 use Rattle.hp_tree.specs.Blocks.{Decl}
 use Rattle.hp_tree.specs.Programs.{Node, TypeDecl}
 use Rattle.hp_tree.specs.Operators.{marked}
-use Rattle.hp_tree.specs.Instant.{Body, Head, Inputs, Instant, Named, Place, Tail, alone, in_row}
+use Rattle.hp_tree.specs.Instant.{Body, Head, Instant, Named, Place, Tail, alone, in_row}
 use Rattle.hp_tree.specs.Meaning.{Nodes}
 use Rattle.hp_tree.specs.Values.{AreOf, IsOf}
 use Rattle.hp_flat.specs.declared.equation.Atom.{Atom}
@@ -41,8 +40,8 @@ use Rattle.law_games.specs.Mirror.Memories.{SlotsFit}
 use Rattle.law_values.specs.Filled.Under.{Under}
 use Rattle.law_wellmade.specs.Timely.Kinds.{kind_of, kinds_of_decls}
 use Rattle.hp_watch.specs.Adding.{some_value, type_at}
-use Rattle.hp_watch.specs.Embedding.{embedded, shift_of}
-use Rattle.hp_watch.specs.Watching.{Observing, Placed, Surveyed, called_by, clock_by, clock_of, compares_integers, free_by, free_input, free_inputs, free_moved, free_placed, free_placed_by, free_target, is_integer, moved_free, own_site, placed, reads_integer, shift_at, walked}
+use Rattle.hp_watch.specs.Embedding.{embedded}
+use Rattle.hp_watch.specs.Watching.{Observing, Placed, Surveyed, called_by, clock_by, clock_of, compares_integers, free_by, free_input, free_moved, free_placed, free_placed_by, free_target, is_integer, own_site, placed, reads_integer, shift_at}
 use Rattle.hp_watch.specs.declared.watching.Free.{Free}
 use Rattle.law_choices.specs.Adding.Lifts.{HaveBytes}
 use Rattle.law_choices.specs.Chosen.Laws.{is_seen}

@@ -25,7 +25,7 @@ use Rattle.hp_watch.specs.Walk.{compares, events_from, in_eqn, in_expr, walk_blo
 use Rattle.law_choices.specs.Flat.Names.{variable_of}
 use Rattle.law_choices.specs.Places.Laws.{AreMadeOf, IsEventOf, KnowsOutputs, events}
 use Rattle.law_choices.specs.Places.Named.{HasCopy, IsCopied}
-use Rattle.law_choices.specs.Places.Spots.{Spot, compared, compared_spots, spots, spots_of_block, spots_of_eqn, spots_of_eqns}
+use Rattle.law_choices.specs.Places.Spots.{Spot, compared, compared_spots, spots, spots_of_block, spots_of_eqns}
 use Rattle.law_choices.specs.Seeing.Comparing.{Comparison, NamesComparisons, no_more, nothing_compared, comparison, is_order, ordered, ordered_by, ordered_in}
 use Rattle.law_choices.proofs.PlacesLemmas.Events.{events-are}
 use Rattle.law_choices.proofs.PlacesLemmas.Named.{named_law}

@@ -4,13 +4,13 @@ use Rattle.std.specs.Prelude.{Bool, true, false, if◌then◌else◌, reverse, O
 use Rattle.std.specs.Str.{bytes_eq}
 use Rattle.std.proofs.lemmas.List.{append-nil, reverse-reverse}
 use Rattle.hp_tree.specs.declared.decl.Cons.{Cons}
-use Rattle.hp_tree.specs.Expressions.{Expr, constant, variable, last_of, one, two, choose, pre, fby, arrow, when_is, merge, call, Exprs, no_expr, more_exprs, Parts, no_part, more_parts}
+use Rattle.hp_tree.specs.Expressions.{Expr, constant, variable, last_of, one, two, choose, pre, fby, arrow, when_is, merge, call, Parts, no_part, more_parts}
 use Rattle.hp_tree.specs.Blocks.{Block, block, Decl, Eqns, no_eqn, more_eqns, eqns_of, Eqn, define, switch, reset, automaton, Arms, no_arm, more_arms, States, no_state, more_states}
 use Rattle.hp_tree.specs.Meaning.{clock_in, written}
 use Rattle.hp_automata.specs.Lowering.{Enumerations, Types, lowered_eqn, lowered_eqns, same_name}
 use Rattle.hp_automata.specs.Renaming.{renamed, renamed_decls, renamed_path}
 use Rattle.law_equations.specs.Made.Making.{path_of, path_written}
-use Rattle.hp_watch.specs.Walk.{compares, Walked, in_front, before, behind, in_arms, in_block, in_conditions, in_eqn, in_eqns, in_expr, in_exprs, in_parts, in_states, walk, walk_all, walk_arms, walk_block, walk_eqn, walk_eqns, walk_parts, walk_states}
+use Rattle.hp_watch.specs.Walk.{compares, Walked, in_front, before, behind, in_arms, in_block, in_conditions, in_eqn, in_eqns, in_expr, in_parts, in_states, walk, walk_arms, walk_block, walk_eqn, walk_eqns, walk_parts, walk_states}
 use Rattle.law_choices.specs.Places.Named.{AreNamed, nothing, quiet, named, IsQuiet, IsQuietEqn}
 use Rattle.law_choices.specs.Places.Spots.{Spot, spots, spots_of_eqn}
 use Rattle.law_choices.specs.Seeing.Comparing.{Comparison, NamesComparisons, no_more, nothing_compared, comparison}
