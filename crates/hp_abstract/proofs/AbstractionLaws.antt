@@ -1,5 +1,5 @@
 -- What a compiler of controllers needs, from the machine of the circuit that is drawn.
-use Rattle.std.proofs.Common.{◌≡◌, ◌<◌, ℕ, List, [], ◌∷◌, length, sym, subst, ◌∙◌, arith}
+use Rattle.std.proofs.Common.{◌≡◌, ◌<◌, ℕ, List, [], ◌∷◌, length, ap, sym, subst, ◌∙◌, arith}
 use Rattle.std.specs.Prelude.{slice_index_or}
 use Rattle.std.proofs.lemmas.List.{get_or_default}
 use Rattle.hp_tree.specs.declared.program.Item.{Item}
@@ -34,4 +34,9 @@ abstraction_is program n c wire assume enforce m is e of ea ee =
       enforce =
           subst (λ w. circuit.IsGateOf c of.machine.places m.machine.gates w enforce) e
           (subst (circuit.IsGateOf c of.machine.places m.machine.gates wire) (gate_at m.gates.items 1 enforce (omega (arith, many)) ee) (of.gates 1 (omega arith)));
+      starts = of.starts;
+      built = of.built;
+      tells_assume = sym (gate_at m.gates.items 0 assume (omega (arith, many)) ea) ∙ ap (λ (gs : List ℕ). slice_index_or gs 0 0) of.tell;
+      tells_enforce =
+          sym (gate_at m.gates.items 1 enforce (omega (arith, many)) ee) ∙ ap (λ (gs : List ℕ). slice_index_or gs 1 0) of.tell ∙ ap (circuit.gate_of c.shapes.items of.starts) e;
     }

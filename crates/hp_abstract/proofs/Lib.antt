@@ -2,6 +2,7 @@ mod AbstractionLaws
 mod BlockLaws
 mod MachineLaws
 mod NameLaws
+pub mod OneLaws
 mod Rules
 mod ScopeLaws
 mod TableLaws

@@ -23,7 +23,9 @@ use Rattle.hp_boolx.specs.Machine.{Machine}
 use Rattle.hp_boolx.specs.declared.machine.Counts.{Counts}
 use Rattle.hp_circuit.specs.declared.circuit.Wire.{Wire}
 use Rattle.hp_circuit.specs.Kinds.{place_of}
+use Rattle.hp_circuit.specs.Building.{HasGates}
 use Rattle.hp_circuit.specs.Finishing.{IsFinished}
+use Rattle.hp_circuit.specs.Wiring.{with_valid}
 use Rattle.hp_circuit.proofs.KindLaws.{placed_within}
 use Rattle.hp_circuit.specs.Reading.{edges_of, AreSteered}
 use Rattle.hp_circuit.specs.Giving.{gate_of, IsGateOf}
@@ -278,6 +280,16 @@ module _ (name : List ℕ) (c : Circuit) (is : IsCircuit c) (steered : List Bool
     tells = λ w. subst (λ (g : List Gate). IsGateOf c places g w (gate_of c.shapes.items starts w)) (sym f.gates_are) (tells w);
   }
   machine_is starts (Err e) f are placed meant tells = tt
+
+pub has_gates : (name : List ℕ) (c : Circuit) (counts : Counts) (old gates : List Gate) (starts nexts : List ℕ) (valid hyp duty : ℕ) (result : Result Machine AllocError) → IfOk result (IsFinished name c counts gates nexts valid hyp duty)
+    → (gates, valid) ≡ with_valid starts (old, 1) c.slots.items → nexts ≡ joined (slot_gates starts) c.slots.items → hyp ≡ place_at starts c.hyp → duty ≡ place_at starts c.duty → IfOk result (HasGates c old starts)
+has_gates name c counts old gates starts nexts valid hyp duty (Ok m) f made next at_hyp at_duty = record {
+  made = (λ i. (f.gates_are i, f.valid i)) ∙ made;
+  next = f.next ∙ next;
+  hyp = f.hyp ∙ at_hyp;
+  duty = f.duty ∙ at_duty;
+}
+has_gates name c counts old gates starts nexts valid hyp duty (Err e) f made next at_hyp at_duty = tt
 
 pub placed_all : (steered : List Bool) (slots : List Slot) (wires : List Wire) (shapes : List Shape) (counts : Counts) (places : List ℕ) → AreCounts slots steered counts → length places ≡ length slots
     → ((i : ℕ) → i < length slots → place_at places i ≡ place_of steered slots i) → ArePlaced slots wires shapes places

@@ -1,13 +1,16 @@
 pub mod NumberLaws
 pub mod AddingLaws
 pub mod WordLaws
+pub mod WiringLaws
 pub mod ComparedLaws
 pub mod MakingLaws
 pub mod KindLaws
 pub mod ReadingLaws
 pub mod SteeredLaws
 pub mod OrderLaws
+pub mod LevelLaws
 pub mod EndLaws
 pub mod TellingLaws
 pub mod PartLaws
+pub mod OneLaws
 pub mod PlacedLemmas

@@ -7,7 +7,7 @@ use Rattle.std.specs.List.Sorted.{IsSorted, IsSortedBy, IsNonDecreasingBy, IsPer
 use Rattle.std.proofs.lemmas.Bool.Decides.{nat_tests}
 use Rattle.std.proofs.lemmas.List.Elements.{All-contains, All-push, Contains-append_left, Contains-append_right, Contains-push}
 use Rattle.std.proofs.lemmas.List.Sorted.{All-permutation, Contains-permutation, IsNonDecreasingBy-from_all_adjacent}
-use Rattle.hp_graph.specs.Graphs.{AreRanks, AreWithin, IsCycle, Leads}
+use Rattle.hp_graph.specs.Graphs.{AreRanks, AreWithin, IsCycle, Leads, RanksAlong}
 use Rattle.hp_circuit.specs.declared.circuit.Circuit.{Circuit}
 use Rattle.hp_circuit.specs.declared.circuit.Wire.{Wire}
 use Rattle.hp_circuit.specs.declared.circuit.Wire.TheVariants as wire
@@ -22,7 +22,7 @@ use Rattle.hp_circuit.proofs.ReadingLaws.{edges_within}
 
 -- ---- what a sort by rank gives
 
-first_le : (a b : ℕ) (o : Ordering) → is_lt (ordering_then (nat_cmp b a) o) ≡ false → a ≤ b
+pub first_le : (a b : ℕ) (o : Ordering) → is_lt (ordering_then (nat_cmp b a) o) ≡ false → a ≤ b
 first_le a b o h = tests (nat_lt b a) (λ t. absurd (below t)) (λ t. grind (arith, nat_tests, t))
   where
     below : nat_lt b a ≡ true → ⊥
@@ -106,13 +106,10 @@ among order rank w h = (h.0, h.1, at order h.0 (rank, w) (0, 0) h.1 ∙ h.2)
     at (x ∷ xs) zero d e l = refl
     at (x ∷ xs) (suc k) d e l = at xs k d e (omega (arith, l))
 
-in_order : (wires : List Wire) (edges : List (ℕ × ℕ)) (ranks : List ℕ) (order : List (ℕ × ℕ)) → AreWithin (length wires) edges → AreRanks (length wires) edges ranks
+in_order : (wires : List Wire) (edges : List (ℕ × ℕ)) (ranks : List ℕ) (order : List (ℕ × ℕ)) → AreWithin (length wires) edges → length ranks ≡ length wires → RanksAlong edges ranks
     → ((w : ℕ) → w < length wires → AtReads (λ a. Contains edges (w, a)) (wire_at wires w)) → AreByRank ranks order → AreInOrder wires order
-in_order wires edges ranks order within are reads by = record { within = inside; whole = whole; behind = behind }
+in_order wires edges ranks order within many along reads by = record { within = inside; whole = whole; behind = behind }
   where
-    many : length ranks ≡ length wires
-    many = are.one_each
-
     inside : All (λ (p : ℕ × ℕ). p.1 < length wires) order
     inside k d l = let m : (get_or order k d).1 < length ranks = (by.own k d l).0 in let e = many in omega (arith, m, e)
 
@@ -124,7 +121,7 @@ in_order wires edges ranks order within are reads by = record { within = inside;
     before : (i w : ℕ) → i < length order → w ≡ (get_or order i (0, 0)).1 → (a : ℕ) → Contains edges (w, a) → IsAmong order i a
     before i w l ew a h =
         let ends = All-contains (λ (e : ℕ × ℕ). (e.0 < length wires) × (e.1 < length wires)) edges (w, a) within h in
-        let falls : get_or ranks a 0 < get_or ranks w 0 = All-contains (λ (e : ℕ × ℕ). get_or ranks e.1 0 < get_or ranks e.0 0) edges (w, a) are.falls h in
+        let falls : get_or ranks a 0 < get_or ranks w 0 = All-contains (λ (e : ℕ × ℕ). get_or ranks e.1 0 < get_or ranks e.0 0) edges (w, a) along h in
         let la : a < length wires = ends.1 in
         let found = among order (get_or ranks a 0) a (by.whole a (let e = many in omega (arith, la, e))) in
         let mine : (get_or order i (0, 0)).0 ≡ get_or ranks w 0 = (by.own i (0, 0) l).1 ∙ ap (λ n. get_or ranks n 0) (sym ew) in
@@ -140,11 +137,11 @@ in_order wires edges ranks order within are reads by = record { within = inside;
         let w = (get_or order i (0, 0)).1 in
         reads_of (λ a. Contains edges (w, a)) (IsAmong order i) (before i w l refl) (wire_at wires w) (reads w (inside i (0, 0) l))
 
-pub circuit_order : (c : Circuit) → IsCircuit c → (edges : List (ℕ × ℕ)) (ranks : List ℕ) (order : List (ℕ × ℕ)) → edges ≡ edges_of c.wires.items c.reads.items → AreRanks (length c.wires.items) edges ranks
+pub circuit_order : (c : Circuit) → IsCircuit c → (edges : List (ℕ × ℕ)) (ranks : List ℕ) (order : List (ℕ × ℕ)) → edges ≡ edges_of c.wires.items c.reads.items → length ranks ≡ length c.wires.items → RanksAlong edges ranks
     → AreByRank ranks order → AreInOrder c.wires.items order
-circuit_order c is edges ranks order e are by =
-    in_order c.wires.items (edges_of c.wires.items c.reads.items) ranks order (edges_within c is)
-    (subst (λ (es : List (ℕ × ℕ)). AreRanks (length c.wires.items) es ranks) e are) (wire_reads c.wires.items c.reads.items) by
+circuit_order c is edges ranks order e many along by =
+    in_order c.wires.items (edges_of c.wires.items c.reads.items) ranks order (edges_within c is) many
+    (subst (λ (es : List (ℕ × ℕ)). RanksAlong es ranks) e along) (wire_reads c.wires.items c.reads.items) by
 
 -- ---- there is no circle where there are ranks
 

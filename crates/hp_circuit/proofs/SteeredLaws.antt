@@ -15,7 +15,7 @@ use Rattle.hp_circuit.proofs.NumberLaws.{tests, le_true, le_false}
 
 -- ---- marks
 
-same_number : (a b : ℕ) → (a ≡ b) ⊎ (a ≢ b)
+pub same_number : (a b : ℕ) → (a ≡ b) ⊎ (a ≢ b)
 same_number zero zero = inl refl
 same_number zero (suc b) = inr (λ e. omega (arith, e))
 same_number (suc a) zero = inr (λ e. omega (arith, e))
@@ -133,7 +133,7 @@ grown_more edges first marks i l within read g =
 abbrev pub AreClosed : List (ℕ × ℕ × ℕ) → ℕ → List Bool → Type 0
 AreClosed edges many marks = (ranks : List ℕ) → AreFalling ranks edges → (k : ℕ) (d : ℕ × ℕ × ℕ) → k < many → IsMarked marks (get_or edges k d).2 → IsMarked marks (get_or edges k d).1
 
-same_edge : (edges : List (ℕ × ℕ × ℕ)) (k i : ℕ) (d e : ℕ × ℕ × ℕ) → k ≡ i → i < length edges → get_or edges k d ≡ get_or edges i e
+pub same_edge : (edges : List (ℕ × ℕ × ℕ)) (k i : ℕ) (d e : ℕ × ℕ × ℕ) → k ≡ i → i < length edges → get_or edges k d ≡ get_or edges i e
 same_edge edges k i d e s l = ap (λ n. get_or edges n d) s ∙ free edges i l
   where
     free : (xs : List (ℕ × ℕ × ℕ)) (i : ℕ) → i < length xs → get_or xs i d ≡ get_or xs i e

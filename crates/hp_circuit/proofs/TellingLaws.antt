@@ -11,6 +11,7 @@ use Rattle.hp_circuit.specs.Shapes.{shape_width}
 use Rattle.hp_circuit.specs.Forms.{shape_at, IsCircuit}
 use Rattle.hp_circuit.specs.Meaning.{holds}
 use Rattle.hp_circuit.specs.Adding.{at, Keeps}
+use Rattle.hp_circuit.specs.Building.{IsBuilt}
 use Rattle.hp_circuit.specs.Making.{place_at}
 use Rattle.hp_circuit.specs.Placing.{AreWired}
 use Rattle.hp_circuit.specs.Giving.{given_of, truth_gate, gate_of, IsGateOf, IsAbstractionOf}
@@ -55,8 +56,8 @@ module _ (c : Circuit) (places starts : List ℕ) (old new : List Gate) (wired :
 -- ---- the machine with what is given
 
 pub abstraction_is : (name : List ℕ) (c : Circuit) (wires : List ℕ) (a : Abstraction) (steered : List Bool) (starts : List ℕ) → IsWiredMachine name c steered starts a.machine
-    → a.given.items ≡ given_of steered c.slots.items → a.gates.items ≡ map (gate_of c.shapes.items starts) wires → IsAbstractionOf name c wires a
-abstraction_is name c wires a steered starts wired given gates = record {
+    → a.given.items ≡ given_of steered c.slots.items → a.gates.items ≡ map (gate_of c.shapes.items starts) wires → IsBuilt c starts a.machine → IsAbstractionOf name c wires a
+abstraction_is name c wires a steered starts wired given gates built = record {
   machine = wired.machine;
   given = given ∙ ap (λ (bs : List Bool). given_of bs c.slots.items) (sym wired.are_steered);
   many = ap length gates ∙ length-map wires (gate_of c.shapes.items starts);
@@ -64,4 +65,7 @@ abstraction_is name c wires a steered starts wired given gates = record {
       subst (IsGateOf c wired.machine.places a.machine.gates (slice_index_or wires i 0))
       (sym (ap (λ (gs : List ℕ). slice_index_or gs i 0) gates ∙ get_or-map (gate_of c.shapes.items starts) wires i 0 0 l))
       (wired.tells (slice_index_or wires i 0));
+  starts = starts;
+  built = built;
+  tell = gates;
 }

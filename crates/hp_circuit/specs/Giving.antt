@@ -15,6 +15,7 @@ use Rattle.hp_circuit.specs.declared.kind.Kind.TheVariants.{Registers, Early, Co
 use Rattle.hp_circuit.specs.Forms.{shape_at, Carries}
 use Rattle.hp_circuit.specs.Meaning.{holds, Solves}
 use Rattle.hp_circuit.specs.Adding.{at}
+use Rattle.hp_circuit.specs.Building.{IsBuilt}
 use Rattle.hp_circuit.specs.Making.{place_at, slot_number}
 use Rattle.hp_circuit.specs.Kinds.{kind_of}
 use Rattle.hp_circuit.specs.Machines.{joined, IsMachineOf}
@@ -61,9 +62,12 @@ pub record IsGateOf (c : Circuit) (places : List ℕ) (gates : List Gate) (w gat
   pub there : gate < length gates
   pub value : Carries c.shapes.items w Truth → (v : Bits) (numbers : ℕ → ℕ) → Solves c.wires.items (slot_number c.slots.items places v) numbers → at gates v gate ≡ holds (numbers w)
 
--- It is the machine of a circuit, with what is given to it in the order of slots and a gate for each of some wires.
+-- It is the machine of a circuit, with what is given to it in the order of slots and a gate for each of some wires. The circuit determines all of it.
 pub record IsAbstractionOf (name : List ℕ) (c : Circuit) (wires : List ℕ) (a : Abstraction) : Type 0 where
   pub machine : IsMachineOf name c a.machine
   pub given : a.given.items ≡ given_of machine.steered c.slots.items
   pub many : length a.gates.items ≡ length wires
   pub gates : (i : ℕ) → i < length wires → IsGateOf c machine.places a.machine.gates (slice_index_or wires i 0) (slice_index_or a.gates.items i 0)
+  pub starts : List ℕ
+  pub built : IsBuilt c starts a.machine
+  pub tell : a.gates.items ≡ map (gate_of c.shapes.items starts) wires

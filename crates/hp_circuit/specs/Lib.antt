@@ -6,10 +6,14 @@ pub mod Reading
 pub mod Kinds
 pub mod Adding
 pub mod Making
+pub mod Wiring
 pub mod Ordering
+pub mod Levels
 pub mod Placing
 pub mod Machines
+pub mod Building
 pub mod Finishing
 pub mod Giving
 pub mod Telling
+pub mod One
 pub mod Placed

@@ -9,6 +9,7 @@ mod form;
 mod gates;
 mod given;
 mod kind;
+mod levels;
 mod machine;
 mod order;
 pub mod placed;

@@ -1,8 +1,10 @@
 //! The Boolean machine of a circuit.
 ghost use Rattle.std.specs.Prelude.{◌≡◌, ◌<◌, ℕ, length, map, IfOk, IfErr};
+ghost use Rattle.hp_circuit.specs.Building.{HasGates, IsBuilt};
 ghost use Rattle.hp_circuit.specs.Forms.{IsCircuit};
 ghost use Rattle.hp_circuit.specs.Making.{place_at};
 ghost use Rattle.hp_circuit.specs.Kinds.{place_of};
+ghost use Rattle.hp_circuit.specs.Levels.{IsByLevel};
 ghost use Rattle.hp_circuit.specs.Ordering.{AreInOrder};
 ghost use Rattle.hp_circuit.specs.Placing.{AreCounts, AreWired};
 ghost use Rattle.hp_circuit.specs.Machines.{AssumesControl, HasCircle, HasNoMachine, IsMachineOf};
@@ -17,6 +19,7 @@ use crate::error::CircuitErr;
 use crate::form::is_circuit;
 use crate::gates::first_gates;
 use crate::given::given_of;
+use crate::levels::levels_of;
 use crate::order::{edges_of, order_of, ranks_of};
 use crate::places::{counts_of, places_of};
 use crate::registers::{init_of, next_of, prefer_of, widths_of};
@@ -82,7 +85,8 @@ fn with_gates(
     requires are_steered { AreSteered circuit.now.slots.items (edges_of circuit.now.wires.items circuit.now.reads.items) steered.now }
     requires assume { AssumesControl circuit.now → ⊥ }
     requires acyclic { HasCircle circuit.now → ⊥ }
-    ensures { IfOk result (IsWiredMachine name.now circuit.now steered.now starts.now) }
+    ensures machine { IfOk result (IsWiredMachine name.now circuit.now steered.now starts.now) }
+    ensures has { IfOk result (HasGates circuit.now gates.items starts.now) }
 {
     let _places = places;
     let _steered = steered;
@@ -105,12 +109,14 @@ fn with_starts(
     requires circuit { IsCircuit circuit.now }
     requires steered { length steered.now ≡ length circuit.now.wires.items }
     requires order { AreInOrder circuit.now.wires.items order.now }
+    requires by_level { IsByLevel (edges_of circuit.now.wires.items circuit.now.reads.items) (length circuit.now.wires.items) order.now }
     requires counts { AreCounts circuit.now.slots.items steered.now counts }
     requires are_steered { AreSteered circuit.now.slots.items (edges_of circuit.now.wires.items circuit.now.reads.items) steered.now }
     requires assume { AssumesControl circuit.now → ⊥ }
     requires acyclic { HasCircle circuit.now → ⊥ }
     ensures machine { IfOk result (λ made. IsWiredMachine name.now circuit.now steered.now made.1.items made.0) }
     ensures many { IfOk result (λ made. length made.1.items ≡ length circuit.now.wires.items) }
+    ensures built { IfOk result (λ made. IsBuilt circuit.now made.1.items made.0) }
 {
     let places = places_of(alloc, &circuit.slots, steered, counts)?;
     let mut gates = first_gates(alloc)?;
@@ -166,6 +172,7 @@ fn built(
     requires circuit { IsCircuit circuit.now }
     requires steered { length steered.now ≡ length circuit.now.wires.items }
     requires order { AreInOrder circuit.now.wires.items order.now }
+    requires by_level { IsByLevel (edges_of circuit.now.wires.items circuit.now.reads.items) (length circuit.now.wires.items) order.now }
     requires counts { AreCounts circuit.now.slots.items steered.now counts }
     requires are_steered { AreSteered circuit.now.slots.items (edges_of circuit.now.wires.items circuit.now.reads.items) steered.now }
     requires assume { AssumesControl circuit.now → ⊥ }
@@ -205,7 +212,8 @@ pub fn abstraction_of(
         Ok(counts) => counts,
         Err(limit) => return Err(CircuitErr::Limit(limit)),
     };
-    let order = order_of(alloc, &ranks)?;
+    let levels = levels_of(alloc, &edges, &ranks)?;
+    let order = order_of(alloc, &levels)?;
     let abstraction = built(alloc, name, circuit, wires, &order, &steered, counts)?;
     Ok(abstraction)
 }

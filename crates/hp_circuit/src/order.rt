@@ -2,6 +2,7 @@
 ghost use Rattle.std.specs.Prelude.{◌≡◌, ◌++◌, ◌∷◌, [], length, IfOk, IfErr, OnOk};
 ghost use Rattle.hp_graph.specs.Graphs.{AreRanks, AreWithin};
 ghost use Rattle.hp_circuit.specs.Forms.{IsCircuit};
+ghost use Rattle.hp_circuit.specs.Levels.{AreSorted};
 ghost use Rattle.hp_circuit.specs.Ordering.{AreByRank, IsUnranked};
 ghost use Rattle.hp_circuit.specs.Reading.{operand_edges, edges_of};
 
@@ -74,9 +75,10 @@ pub fn ranks_of(
     }
 }
 
-/// The wires by their ranks.
+/// The wires by their ranks, and at one rank by their numbers.
 pub fn order_of(alloc: Global, ranks: &[usize]) -> Result<Vec<(usize, usize)>, AllocError>
-    ensures { IfOk result (λ order. AreByRank ranks.now order.items) }
+    ensures by_rank { IfOk result (λ order. AreByRank ranks.now order.items) }
+    ensures sorted { IfOk result (λ order. AreSorted ranks.now order.items) }
 {
     let mut order = Vec::new(alloc);
     for i in 0..ranks.len() {

@@ -9,7 +9,7 @@ use crate::circuit::{Role, Slot};
 use std::alloc::{AllocError, Global};
 
 /// The edges by the ranks of the wires that read.
-fn sorted_edges(
+pub fn sorted_edges(
     alloc: Global,
     edges: &[(usize, usize)],
     ranks: &[usize],

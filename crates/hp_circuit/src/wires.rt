@@ -1,11 +1,12 @@
 //! The gates of wires.
-ghost use Rattle.std.specs.Prelude.{◌≡◌, ◌<◌, ◌≤◌, ◌+◌, ℕ, length, slice_index_or, IfOk, Some};
+ghost use Rattle.std.specs.Prelude.{◌≡◌, ◌<◌, ◌≤◌, ◌+◌, ℕ, length, map, replicate, slice_index_or, IfOk, None, Some};
 ghost use Rattle.hp_boolx.specs.Machine.{AreFit};
 ghost use Rattle.hp_circuit.specs.Forms.{shape_at, wire_at, WireFits, AreWires};
 ghost use Rattle.hp_circuit.specs.Numbers.{to_bits, compared};
 ghost use Rattle.hp_circuit.specs.Adding.{at, word, HasFirst, Adds, AddsRow};
 ghost use Rattle.hp_circuit.specs.Making.{start_at, or_zero, moved, AtReads, IsMade, compared_width, wire_bits, named_by, AreThere, ArePlaced, Stands, Makes};
 ghost use Rattle.hp_circuit.specs.Ordering.{AreInOrder};
+ghost use Rattle.hp_circuit.specs.Wiring.{wire_made, with_all, with_compared, with_wire};
 
 use crate::bits::{bits, shape_width};
 use crate::circuit::{Circuit, Shape, Wire};
@@ -71,7 +72,8 @@ fn is_number(
     requires first { HasFirst gates.old.items }
     requires a { a + width ≤ length gates.old.items }
     requires within { width ≤ 64 }
-    ensures { IfOk result (λ r. Adds 0 gates.old.items gates.new.items r (λ v. compared (at gates.old.items v 0) (at gates.old.items v 1) (word gates.old.items v a width) (to_bits width number))) }
+    ensures adds { IfOk result (λ r. Adds 0 gates.old.items gates.new.items r (λ v. compared (at gates.old.items v 0) (at gates.old.items v 1) (word gates.old.items v a width) (to_bits width number))) }
+    ensures made { IfOk result (λ r. (gates.new.items, r) ≡ with_compared gates.old.items a (to_bits width number) 0 1) }
 {
     let bits = bits(alloc, width, number)?;
     compared(gates, a, &bits, 0, 1)
@@ -89,7 +91,8 @@ fn make_placed(
     requires first { HasFirst gates.old.items }
     requires within { width ≤ 64 }
     requires there { AreThere places.now (length gates.old.items) width many wire }
-    ensures { IfOk result (λ r. AddsRow (named_by places.now width wire) gates.old.items gates.new.items r width (λ v. wire_bits places.now gates.old.items v width many wire)) }
+    ensures adds { IfOk result (λ r. AddsRow (named_by places.now width wire) gates.old.items gates.new.items r width (λ v. wire_bits places.now gates.old.items v width many wire)) }
+    ensures made { IfOk result (λ r. (gates.new.items, r) ≡ with_wire places.now gates.old.items width many wire) }
 {
     match wire {
         Wire::Slot(slot) => variables(gates, places[slot], width),
@@ -120,7 +123,8 @@ fn make(
     requires stands { Stands circuit.now.slots.items circuit.now.wires.items circuit.now.shapes.items places.now gates.old.items starts.now }
     requires index { index < length circuit.now.wires.items }
     requires reads { AtReads (IsMade starts.now) (wire_at circuit.now.wires.items index) }
-    ensures { IfOk result (λ r. Makes circuit.now.slots.items circuit.now.wires.items circuit.now.shapes.items places.now starts.now gates.old.items gates.new.items index r) }
+    ensures makes { IfOk result (λ r. Makes circuit.now.slots.items circuit.now.wires.items circuit.now.shapes.items places.now starts.now gates.old.items gates.new.items index r) }
+    ensures made { IfOk result (λ r. (gates.new.items, r) ≡ wire_made circuit.now.wires.items circuit.now.shapes.items places.now (record { gates = gates.old.items; starts = starts.now }) index) }
 {
     let wire = circuit.wires[index];
     let placed = placed(starts, wire);
@@ -146,6 +150,7 @@ pub fn make_all(
     requires order { AreInOrder circuit.now.wires.items order.now }
     ensures stands { IfOk result (λ starts. Stands circuit.now.slots.items circuit.now.wires.items circuit.now.shapes.items places.now gates.new.items starts.items) }
     ensures made { IfOk result (λ starts. (w : ℕ) → w < length circuit.now.wires.items → IsMade starts.items w) }
+    ensures wired { IfOk result (λ starts. record { gates = gates.new.items; starts = starts.items } ≡ with_all circuit.now.wires.items circuit.now.shapes.items places.now (record { gates = gates.old.items; starts = replicate (length circuit.now.wires.items) None }) order.now) }
 {
     let mut starts = vec![in alloc; None; circuit.wires.len()]?;
     for i in 0..order.len() {
@@ -161,6 +166,7 @@ pub fn all_starts(alloc: Global, starts: &[Option<usize>]) -> Result<Vec<usize>,
     requires { (w : ℕ) → w < length starts.now → IsMade starts.now w }
     ensures many { IfOk result (λ all. length all.items ≡ length starts.now) }
     ensures each { IfOk result (λ all. (w : ℕ) → w < length starts.now → start_at starts.now w ≡ Some (slice_index_or all.items w 0)) }
+    ensures are { IfOk result (λ all. all.items ≡ map or_zero starts.now) }
 {
     let mut all = vec![in alloc; 0usize; starts.len()]?;
     for i in 0..starts.len() {

@@ -2,6 +2,7 @@
 ghost use Rattle.std.specs.Prelude.{◌≡◌, ◌≤◌, ◌<◌, ◌+◌, ℕ, Bool, false, not, if◌then◌else◌, length, IfOk};
 ghost use Rattle.hp_circuit.specs.Numbers.{pow2, to_bits, are_same, compared};
 ghost use Rattle.hp_circuit.specs.Adding.{at, row, word, HasFirst, Adds, AddsRow};
+ghost use Rattle.hp_circuit.specs.Wiring.{choice_gates, constant_gates, variable_gates, with_choice, with_compared, with_compared_bit, with_constant, with_gates, with_same, with_same_bit};
 
 use crate::bits::bits;
 use crate::gates::{ite, put, xor};
@@ -11,7 +12,8 @@ use std::alloc::{AllocError, Global};
 /// The variables from a place on, as gates. The answer is the first of these.
 pub fn variables(gates: &mut Vec<Gate>, place: u16, width: usize) -> Result<usize, AllocError>
     requires { place + width ≤ 65535 }
-    ensures { IfOk result (λ r. AddsRow (place + width) gates.old.items gates.new.items r width (λ v. row v place width)) }
+    ensures adds { IfOk result (λ r. AddsRow (place + width) gates.old.items gates.new.items r width (λ v. row v place width)) }
+    ensures made { IfOk result (λ r. (gates.new.items, r) ≡ with_gates gates.old.items (variable_gates place width)) }
 {
     let start = gates.len();
     for i in 0..width {
@@ -22,7 +24,8 @@ pub fn variables(gates: &mut Vec<Gate>, place: u16, width: usize) -> Result<usiz
 
 /// Bits as gates. The answer is the first of these.
 fn constants(gates: &mut Vec<Gate>, bits: &[bool]) -> Result<usize, AllocError>
-    ensures { IfOk result (λ r. AddsRow 0 gates.old.items gates.new.items r (length bits.now) (λ v. bits.now)) }
+    ensures adds { IfOk result (λ r. AddsRow 0 gates.old.items gates.new.items r (length bits.now) (λ v. bits.now)) }
+    ensures made { IfOk result (λ r. (gates.new.items, r) ≡ with_gates gates.old.items (constant_gates bits.now)) }
 {
     let start = gates.len();
     for i in 0..bits.len() {
@@ -41,7 +44,8 @@ pub fn constant(
     requires first { HasFirst gates.old.items }
     requires within { width ≤ 64 }
     requires number { number < pow2 width }
-    ensures { IfOk result (λ r. AddsRow 0 gates.old.items gates.new.items r width (λ v. to_bits width number)) }
+    ensures adds { IfOk result (λ r. AddsRow 0 gates.old.items gates.new.items r width (λ v. to_bits width number)) }
+    ensures made { IfOk result (λ r. (gates.new.items, r) ≡ with_constant gates.old.items width number) }
 {
     if width <= 1 {
         return Ok(number);
@@ -61,7 +65,8 @@ fn choices(
     requires test { test < length gates.old.items }
     requires a { a + width ≤ length gates.old.items }
     requires b { b + width ≤ length gates.old.items }
-    ensures { IfOk result (λ r. AddsRow 0 gates.old.items gates.new.items r width (λ v. if at gates.old.items v test then word gates.old.items v a width else word gates.old.items v b width)) }
+    ensures adds { IfOk result (λ r. AddsRow 0 gates.old.items gates.new.items r width (λ v. if at gates.old.items v test then word gates.old.items v a width else word gates.old.items v b width)) }
+    ensures made { IfOk result (λ r. (gates.new.items, r) ≡ with_gates gates.old.items (choice_gates test a b width)) }
 {
     let start = gates.len();
     for i in 0..width {
@@ -82,7 +87,8 @@ pub fn choice(
     requires test { test < length gates.old.items }
     requires a { a + width ≤ length gates.old.items }
     requires b { b + width ≤ length gates.old.items }
-    ensures { IfOk result (λ r. AddsRow 0 gates.old.items gates.new.items r width (λ v. if at gates.old.items v test then word gates.old.items v a width else word gates.old.items v b width)) }
+    ensures adds { IfOk result (λ r. AddsRow 0 gates.old.items gates.new.items r width (λ v. if at gates.old.items v test then word gates.old.items v a width else word gates.old.items v b width)) }
+    ensures made { IfOk result (λ r. (gates.new.items, r) ≡ with_choice gates.old.items test a b width) }
 {
     match test {
         0 => Ok(b),
@@ -97,7 +103,8 @@ fn same_bit(gates: &mut Vec<Gate>, a: usize, b: usize, found: usize) -> Result<u
     requires a { a < length gates.old.items }
     requires b { b < length gates.old.items }
     requires found { found < length gates.old.items }
-    ensures { IfOk result (λ r. Adds 0 gates.old.items gates.new.items r (λ v. if (if at gates.old.items v a then not (at gates.old.items v b) else at gates.old.items v b) then false else at gates.old.items v found)) }
+    ensures adds { IfOk result (λ r. Adds 0 gates.old.items gates.new.items r (λ v. if (if at gates.old.items v a then not (at gates.old.items v b) else at gates.old.items v b) then false else at gates.old.items v found)) }
+    ensures made { IfOk result (λ r. (gates.new.items, r) ≡ with_same_bit a b (gates.old.items, found)) }
 {
     let differs = xor(gates, a, b)?;
     ite(gates, differs, 0, found)
@@ -108,7 +115,8 @@ pub fn same(gates: &mut Vec<Gate>, a: usize, b: usize, width: usize) -> Result<u
     requires first { HasFirst gates.old.items }
     requires a { a + width ≤ length gates.old.items }
     requires b { b + width ≤ length gates.old.items }
-    ensures { IfOk result (λ r. Adds 0 gates.old.items gates.new.items r (λ v. are_same (word gates.old.items v a width) (word gates.old.items v b width))) }
+    ensures adds { IfOk result (λ r. Adds 0 gates.old.items gates.new.items r (λ v. are_same (word gates.old.items v a width) (word gates.old.items v b width))) }
+    ensures made { IfOk result (λ r. (gates.new.items, r) ≡ with_same gates.old.items a b width) }
 {
     let mut found = 1;
     for i in (0..width).rev() {
@@ -129,7 +137,8 @@ fn compared_bit(
     requires a { a < length gates.old.items }
     requires less { less < length gates.old.items }
     requires found { found < length gates.old.items }
-    ensures { IfOk result (λ r. Adds 0 gates.old.items gates.new.items r (λ v. if bit then (if at gates.old.items v a then at gates.old.items v found else at gates.old.items v less) else (if at gates.old.items v a then false else at gates.old.items v found))) }
+    ensures adds { IfOk result (λ r. Adds 0 gates.old.items gates.new.items r (λ v. if bit then (if at gates.old.items v a then at gates.old.items v found else at gates.old.items v less) else (if at gates.old.items v a then false else at gates.old.items v found))) }
+    ensures made { IfOk result (λ r. (gates.new.items, r) ≡ with_compared_bit a bit less (gates.old.items, found)) }
 {
     if bit {
         ite(gates, a, found, less)
@@ -150,7 +159,8 @@ pub fn compared(
     requires a { a + length bits.now ≤ length gates.old.items }
     requires less { less < length gates.old.items }
     requires equal { equal < length gates.old.items }
-    ensures { IfOk result (λ r. Adds 0 gates.old.items gates.new.items r (λ v. compared (at gates.old.items v less) (at gates.old.items v equal) (word gates.old.items v a (length bits.now)) bits.now)) }
+    ensures adds { IfOk result (λ r. Adds 0 gates.old.items gates.new.items r (λ v. compared (at gates.old.items v less) (at gates.old.items v equal) (word gates.old.items v a (length bits.now)) bits.now)) }
+    ensures made { IfOk result (λ r. (gates.new.items, r) ≡ with_compared gates.old.items a bits.now less equal) }
 {
     let mut found = equal;
     for i in (0..bits.len()).rev() {

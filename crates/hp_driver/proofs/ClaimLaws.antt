@@ -124,7 +124,7 @@ module _ (words : List (List ℕ)) (files left : Files) where
 -- ---- traces
 
 same_inputs_answer : (s : System) (xs ys : List (List ℕ)) (bytes : List ℕ) → inputs_until (inputs_of s) 1 ys ≡ inputs_until (inputs_of s) 1 xs → IsAnswer s xs bytes → IsAnswer s ys bytes
-same_inputs_answer s xs ys bytes e a = record { outputs = a.outputs; run = subst (λ inputs. Gives s inputs a.outputs) (sym e) a.run; said = a.said }
+same_inputs_answer s xs ys bytes e a = record { outputs = a.outputs; run = subst (λ inputs. Gives s inputs a.outputs) (sym e) a.run; kinds = a.kinds; said = a.said }
 
 -- what was heard of an input, and what is left of it, which is nothing where it has ended
 pub record IsHeard (input : List ℕ) (log : List Event) : Type 0 where

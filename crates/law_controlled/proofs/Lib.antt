@@ -1,5 +1,7 @@
 pub mod AddedLaws
+pub mod AlikeLaws
 pub mod AllowedLaws
+pub mod BareLaws
 pub mod DepthLaws
 pub mod DutyLaws
 pub mod GreatestLaws

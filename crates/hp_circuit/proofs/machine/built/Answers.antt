@@ -12,3 +12,4 @@ returns c =
     abstraction_is c.args.name.now c.args.circuit.now wires (record { machine = c.in_ok-machine.machine; given = c.in_ok-given.given; gates = c.in_ok-gates.gates }) steered starts c.in_ok-machine.ensures.machine
     (c.in_ok-given.ensures ∙ ap (given_of steered) c.deref.ensures.value)
     (c.in_ok-gates.ensures ∙ ap₂ (λ (shapes : List Shape) (ss : List ℕ). map (gate_of shapes ss) wires) c.deref-2.ensures.value c.deref-3.ensures.value)
+    c.in_ok-machine.ensures.built

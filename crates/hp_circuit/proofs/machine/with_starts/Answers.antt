@@ -1,10 +1,14 @@
-use Rattle.std.proofs.Common.{◌≡◌, ◌<◌, ℕ, List, length, sym, ap, subst, ◌∙◌, arith}
-use Rattle.std.specs.Prelude.{Option, Some}
+use Rattle.std.proofs.Common.{◌≡◌, ◌<◌, ℕ, List, length, map, replicate, sym, ap, ap₂, subst, ◌∙◌, arith}
+use Rattle.std.specs.Prelude.{None, Option, Some}
+use Rattle.hp_boolx.specs.declared.gate.Gate.{Gate}
 use Rattle.hp_circuit.specs.declared.circuit.Slot.{Slot}
-use Rattle.hp_circuit.specs.Making.{start_at, place_at, IsMade, ArePlaced, Stands}
+use Rattle.hp_circuit.specs.Building.{HasGates, places_of}
+use Rattle.hp_circuit.specs.Making.{or_zero, start_at, place_at, IsMade, ArePlaced, Stands}
 use Rattle.hp_circuit.specs.Kinds.{place_of}
 use Rattle.hp_circuit.specs.Placing.{AreWired}
+use Rattle.hp_circuit.specs.Wiring.{Wired, starts_of, wired, with_all}
 use Rattle.hp_circuit.proofs.EndLaws.{placed_all, wired_of}
+use Rattle.hp_circuit.proofs.WiringLaws.{places_are}
 use Rattle.hp_circuit.proofs.machine.with_starts.Goals as goal
 
 pub make_all-requires-clause-placed : goal.make_all-requires-clause-placed
@@ -43,3 +47,30 @@ all_starts-requires c =
     let wires = c.args.circuit.now.wires.items in
     let many : length made ≡ length wires = c.in_ok-made.ensures.stands.many in
     subst (λ (ms : List (Option ℕ)). (w : ℕ) → w < length ms → IsMade ms w) (sym c.deref-3.ensures.value) (λ w l. c.in_ok-made.ensures.made w (omega (arith, l, many)))
+
+pub returns-clause-built : goal.returns-clause-built
+returns-clause-built c =
+    let circuit = c.args.circuit.now in
+    let slots = circuit.slots.items in
+    let wires = circuit.wires.items in
+    let shapes = circuit.shapes.items in
+    let steered = c.args.steered.now in
+    let order = c.args.order.now in
+    let places = c.in_ok-places.places.items in
+    let made = c.in_ok-made.made.items in
+    let starts = c.in_ok-starts.starts.items in
+    let gates = c.make_all.new.gates.items in
+    let many : length places ≡ length slots = c.in_ok-places.ensures.many ∙ ap length c.deref.ensures.value in
+    let each : (i : ℕ) → i < length slots → place_at places i ≡ place_of steered slots i =
+    subst (λ (ss : List Slot). (i : ℕ) → i < length ss → place_at places i ≡ place_of steered ss i) c.deref.ensures.value c.in_ok-places.ensures.each in
+    let all : ◌≡◌ {A = Wired} (record { gates = gates; starts = made }) (wired circuit (places_of steered slots) order) =
+    c.in_ok-made.ensures.wired
+    ∙ ap₂ (λ (ps : List ℕ) (gs : List Gate). with_all wires shapes ps (record { gates = gs; starts = replicate (length wires) None }) order) (c.deref-2.ensures.value ∙ places_are steered slots places many each) c.in_ok-gates.ensures.are in
+    record {
+      steered = steered;
+      are_steered = c.requires.are_steered;
+      order = order;
+      by_level = c.requires.by_level;
+      starts_are = c.in_ok-starts.ensures.are ∙ ap (map or_zero) c.deref-3.ensures.value ∙ ap starts_of all;
+      has = subst (λ (w : Wired). HasGates circuit w.gates starts c.in_ok-machine.machine) all (subst (λ (ss : List ℕ). HasGates circuit gates ss c.in_ok-machine.machine) c.deref-5.ensures.value c.in_ok-machine.ensures.has);
+    }
