@@ -4,8 +4,10 @@
     bench/edits/run.py [near] [LANES [CRATE ..]]      the edits of these crates, or of all, of so many crates at once (as many as there are processors)
 
 With `near` each edit is tried on the functions alone whose text it changes, which takes half a minute; where these are all proved, or it changes what stands in no function, on the whole crate.
+What refused an edit is kept in the machine's folder for temporary files, by the checksums of the edit, of the crate and of all libraries below it: a later run, in any clone, says it again and tries the others. The last line says how many were kept.
 The libraries below a crate are built first where they are not there (or taken: `bench/gate/kept.py CRATE`, `bench/gate/libraries.py take CLONE`). An edit costs a check of its crate from nothing, the next ones of
 that crate less. The last line has the numbers; the status is 0 where each edit was refused."""
+import hashlib
 import importlib.machinery
 import importlib.util
 import os
@@ -13,6 +15,7 @@ import re
 import shutil
 import subprocess
 import sys
+import tempfile
 from concurrent.futures import ThreadPoolExecutor
 
 sys.dont_write_bytecode = True
@@ -31,6 +34,38 @@ def edits_of(name):
     return [f'{EDITS}/{name}/{it}' for it in sorted(os.listdir(f'{EDITS}/{name}')) if it.endswith('.edit')]
 
 
+class Results:
+    """What refused the edits of a crate, as earlier runs on this machine found it."""
+
+    FOLDER = f'{tempfile.gettempdir()}/hept-edits'
+
+    def __init__(self, rt, crates):
+        self.kept, self.count = rt.Kept(crates), 0
+
+    def path(self, crate, edit):
+        for below in crate.below():
+            if below.name not in self.kept.rlibs:
+                self.kept.is_built(below)
+        with open(edit, 'rb') as file:
+            sums = [self.kept.key(crate), hashlib.sha256(file.read()).hexdigest()]
+        return f'{self.FOLDER}/{hashlib.sha256(repr(sums).encode()).hexdigest()}'
+
+    def of(self, crate, edit):
+        """What an earlier run said of an edit that was refused; nothing where there was none."""
+        try:
+            with open(self.path(crate, edit), encoding='utf-8') as file:
+                text = file.read()
+        except OSError:
+            return ''
+        self.count += 1
+        return text
+
+    def keep(self, crate, edit, text):
+        os.makedirs(self.FOLDER, exist_ok=True)
+        with open(self.path(crate, edit), 'w', encoding='utf-8') as file:
+            file.write(text)
+
+
 def changed_functions(edit, folder):
     """The functions in whose text an edit changes something; none where it also changes what stands in no function."""
     found, path = [], ''
@@ -47,40 +82,60 @@ def changed_functions(edit, folder):
     return sorted(set(found))
 
 
-def tries_near(rt, crate):
-    """What each edit of a crate comes to, tried on the functions that it changes, and on the whole crate where that shows nothing."""
-    rt.adopt(crate, is_alone=False)
-    found = []
-    for edit in edits_of(crate.name):
-        for name in changed_functions(edit, crate.folder):
-            kind, text = rt.must_fail(crate, edit, ['--jobs', '1', '--only', name])
-            if kind == rt.REFUSED:
-                break
-        else:
-            kind, text = rt.must_fail(crate, edit, ['--jobs', '1'])
-            text += ' (whole crate)'
-        print(text, flush=True)
-        found.append(kind in (rt.REFUSED, rt.AT_LIMIT))
-    return found
+def near(rt, crate, edit):
+    """What an edit comes to, tried on the functions that it changes, and on the whole crate where that shows nothing."""
+    for name in changed_functions(edit, crate.folder):
+        kind, text = rt.must_fail(crate, edit, ['--jobs', '1', '--only', name])
+        if kind == rt.REFUSED:
+            return kind, text
+    kind, text = rt.must_fail(crate, edit, ['--jobs', '1'])
+    return kind, text + ' (whole crate)'
 
 
-def tries(rt, crate):
-    """What each edit of a crate comes to, over what a check of the crate as it stands proved, and from nothing where that fails: whether it is refused, and what is said."""
-    flags, found = ['--jobs', '1'], []
-    rt.adopt(crate, is_alone=False)
-    start = f'{crate.folder}/out/incremental'
-    room = rt.seeded(crate, flags, start if os.path.isdir(start) else None)
-    for edit in edits_of(crate.name):
-        kept = room and f'{room}/edit'
+class Whole:
+    """Tries edits on a whole crate, over what a check of the crate as it stands proved, and from nothing where that fails."""
+
+    def __init__(self, rt, crate):
+        start = f'{crate.folder}/out/incremental'
+        self.rt, self.crate = rt, crate
+        self.room = rt.seeded(crate, ['--jobs', '1'], start if os.path.isdir(start) else None)
+
+    def tries(self, edit):
+        kept = self.room and f'{self.room}/edit'
         if kept:
-            rt.linked(f'{room}/seed', kept)
-        kind, text = rt.must_fail(crate, edit, flags, kept)
-        print(text, flush=True)
-        found.append(kind in (rt.REFUSED, rt.AT_LIMIT))
+            self.rt.linked(f'{self.room}/seed', kept)
+        found = self.rt.must_fail(self.crate, edit, ['--jobs', '1'], kept)
         if kept:
             shutil.rmtree(kept)
-    if room:
-        shutil.rmtree(room)
+        return found
+
+    def end(self):
+        if self.room:
+            shutil.rmtree(self.room)
+
+
+def tries(rt, crate, results, is_near):
+    """Whether each edit of a crate is refused, and says it."""
+    found, left = [], []
+    for edit in edits_of(crate.name):
+        text = results.of(crate, edit)
+        if text:
+            print(text, flush=True)
+            found.append(True)
+        else:
+            left.append(edit)
+    if not left:
+        return found
+    rt.adopt(crate, is_alone=False)
+    whole = None if is_near else Whole(rt, crate)
+    for edit in left:
+        kind, text = near(rt, crate, edit) if is_near else whole.tries(edit)
+        print(text, flush=True)
+        found.append(kind in (rt.REFUSED, rt.AT_LIMIT))
+        if kind == rt.REFUSED:
+            results.keep(crate, edit, text)
+    if whole:
+        whole.end()
     return found
 
 
@@ -101,9 +156,10 @@ def main(words):
         print(f'to be built first: {" ".join(lacking)}', flush=True)
         if subprocess.run([sys.executable, f'{TOP}/bench/gate/libraries.py', 'build', str(lanes), *lacking]).returncode:
             return 1
+    results = Results(rt, list({it.name: it for crate in crates for it in [*crate.below(), crate]}.values()))
     with ThreadPoolExecutor(lanes) as pool:
-        found = [well for of_crate in pool.map(lambda crate: (tries_near if is_near else tries)(rt, crate), crates) for well in of_crate]
-    print(f'{sum(found)} of {len(found)} wrong bodies are refused, in {len(crates)} crates')
+        found = [well for of_crate in pool.map(lambda crate: tries(rt, crate, results, is_near), crates) for well in of_crate]
+    print(f'{sum(found)} of {len(found)} wrong bodies are refused, in {len(crates)} crates; {results.count} of them by earlier runs of the same files')
     return 0 if all(found) else 1
 
 

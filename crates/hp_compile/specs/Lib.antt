@@ -1,3 +1,4 @@
 pub mod Judged
 pub mod Arranged
 pub mod Refusals
+pub mod OneCause

@@ -1,12 +1,15 @@
-ghost use Rattle.std.specs.Prelude.{◌≡◌, ℕ, List, IfOk, IfErr};
+ghost use Rattle.std.specs.Prelude.{◌≡◌, ℕ, List, IfOk, IfErr, MatchResult};
 ghost use Rattle.hp_tree.specs.declared.program.Item.{Item};
 ghost use Rattle.hp_cause.specs.Answers.{lists};
 ghost use Rattle.hp_compile.specs.Arranged.{IsArrangeable, IsArranged};
 ghost use Rattle.hp_compile.specs.Judged.{IsJudged};
-ghost use Rattle.hp_compile.specs.Refusals.{IsRefused};
+ghost use Rattle.hp_compile.specs.OneCause.{Names};
+ghost use Rattle.hp_compile.specs.Refusals.{Causes, IsRefused};
+ghost use Rattle.hp_compile.specs.declared.refusal.Refusal.{Refusal};
 ghost use Rattle.hp_compile.specs.declared.refusal.Refusal.TheVariants.{OutOfMemory};
 
 use crate::judging::judge;
+use crate::laws::one_cause;
 use crate::refusal::Refusal;
 use hp_cause::{Ordered, order};
 use hp_clocks::clocks;
@@ -33,7 +36,7 @@ pub fn arrange(alloc: Global, program: &Program) -> Result<Ordered, Refusal>
 }
 
 /// The one program of a text, judged and arranged, or the first reason why it has none.
-pub fn front(alloc: Global, text: &[u8]) -> Result<Ordered, Refusal>
+fn program_or_refusal(alloc: Global, text: &[u8]) -> Result<Ordered, Refusal>
     ensures arranged { IfOk result (λ o. (program : List Item) × IsJudged text.now program × ((other : List Item) → IsJudged text.now other → other ≡ program)
         × IsArranged program o.program (lists o.ranks.items)) }
     ensures refused { IfErr result (IsRefused text.now) }
@@ -41,4 +44,17 @@ pub fn front(alloc: Global, text: &[u8]) -> Result<Ordered, Refusal>
 {
     let program = judge(alloc, text)?;
     arrange(alloc, &program)
+}
+
+/// The same; and no other reason is one.
+pub fn front(alloc: Global, text: &[u8]) -> Result<Ordered, Refusal>
+    ensures arranged { IfOk result (λ o. (program : List Item) × IsJudged text.now program × ((other : List Item) → IsJudged text.now other → other ≡ program)
+        × IsArranged program o.program (lists o.ranks.items)) }
+    ensures refused { IfErr result (IsRefused text.now) }
+    ensures accepted { (program : List Item) → IsJudged text.now program → IsArrangeable program → IfErr result (λ e. e ≡ OutOfMemory) }
+    // Of a text that has a cause this very one is named.
+    ensures exact { (cause : Refusal) → Causes text.now cause → MatchResult result (λ o. ⊥) (Names cause) }
+{
+    one_cause();
+    program_or_refusal(alloc, text)
 }

@@ -41,7 +41,7 @@ of_the_reset_memory is = let byte : ◌≡◌ {A = ℕ} 102 116 = ap (λ text. g
 
 -- from its memory behind the line it says this to the next one
 pub says : IsAnswer (from_memory delays (codes "f") (keeps true)) one_line (codes "true\n")
-says = record { outputs = (B true ∷ []) ∷ []; run = refl; said = refl }
+says = record { outputs = (B true ∷ []) ∷ []; run = refl; kinds = ((tt, tt), tt); said = refl }
 
 -- and not what it says from the memory after a reset on
 pub from_the_reset_memory : IsAnswer (from_memory delays (codes "f") (keeps true)) one_line (codes "false\n") → ⊥

@@ -1,7 +1,7 @@
 -- What an executor says to lines is what the run of its machine says.
 use Rattle.std.proofs.Common.{◌≡◌, ℕ, suc, Bool, true, false, if◌then◌else◌, List, [], ◌∷◌, ◌++◌, length, take, drop, None, Some, refl, sym, ap, subst, ◌∙◌, arith}
 use Rattle.std.proofs.Math.Seq.{take-append_seam}
-use Rattle.std.specs.List.{flat_map, All}
+use Rattle.std.specs.List.{flat_map, All, AllByRecursion}
 use Rattle.std.specs.Option.{unwrap_or}
 use Rattle.std.specs.Prelude.{Ok, Err}
 use Rattle.std.specs.Str.{bytes_eq}
@@ -15,10 +15,10 @@ use Rattle.hp_lines.specs.Values.{HasFewConstructors, HaveFewConstructors, value
 use Rattle.hp_lines.specs.Words.{words}
 use Rattle.hp_lines.proofs.LineLaws.{as_many_values}
 use Rattle.hp_obc.specs.Form.{HasConstructors, TypesForm}
-use Rattle.hp_obc.specs.Kinded.{MemoryKinds, HasKinds, kinds_in}
+use Rattle.hp_obc.specs.Kinded.{MemoryKinds, HasKinds, StepsInKind, kinds_in, machine_keeps}
 use Rattle.hp_obc.specs.Form.{machine_named}
 use Rattle.hp_obc.specs.Machines.{ObcType, Machine, Obc}
-use Rattle.hp_obc.specs.Steps.{Behaviour, outputs_from, machine_behaviour, run}
+use Rattle.hp_obc.specs.Steps.{Behaviour, Memory, outputs_from, machine_behaviour, run}
 use Rattle.hp_obc.specs.Values.{enum_from}
 use Rattle.hp_obc.specs.declared.machine.Var.{Var}
 use Rattle.hp_exec.specs.Answers.{Executes}
@@ -119,6 +119,13 @@ module _ (b : Behaviour) where
       let has : HasKinds keeps (kept (stepped e values)) = subst (HasKinds keeps) (sym (kept_on b e values h long)) (k.steps.kept_is (kept e) values k.has fit.0) in
       kinds_through keeps (stepped e values) more (runs_on b e values h long) (record { has = has; steps = k.steps }) fit.1
 
+-- the outputs of steps are of their kinds
+outputs_kinded : (ins outs : List KindData) (keeps : MemoryKinds) (b : Behaviour) (memory : Memory) (inputs : List (List Value)) → StepsInKind ins outs keeps b → HasKinds keeps memory → AllOfKinds ins inputs →
+    AllByRecursion (AreOfKinds outs) (outputs_from b memory inputs)
+outputs_kinded ins outs keeps b memory [] h has fit = tt
+outputs_kinded ins outs keeps b memory (values ∷ more) h has fit =
+    (h.outputs_are memory values has fit.0, outputs_kinded ins outs keeps b (b.step memory values).kept more h (h.kept_is memory values has fit.0) fit.1)
+
 pub signature_through : (e : Executor) (inputs : List (List Value)) → (steps_through step_of e inputs).signature ≡ e.signature
 signature_through e [] = refl
 signature_through e (values ∷ more) = signature_through (stepped e values) more
@@ -181,13 +188,29 @@ module _ (o : Obc) (node : List ℕ) (e : Executor) (m : Machine) (named : machi
         ∙ reactions b e (inputs_until ins 1 lines) runs (all_of_kinds ins 1 lines)
         ∙ (λ i. flat_map (line_of (outs_are i)) (outputs_from b (kept e) (inputs_until (ins_are i) 1 lines)))
 
+    -- and what it says is of its kinds
+    pub says_kinded : (keeps : MemoryKinds) → IsKindedBy keeps e b → (lines : List (List ℕ)) →
+        AllByRecursion (AreOfKinds (outputs_of (of_machine o node))) (outputs_from b (kept e) (inputs_until (inputs_of (of_machine o node)) 1 lines))
+    says_kinded keeps k lines =
+        let ins = inputs_of (of_machine o node) in
+        let outs = outputs_of (of_machine o node) in
+        let steps : StepsInKind ins outs keeps b = subst (λ ks. StepsInKind ks outs keeps b) ins_are (subst (λ ks. StepsInKind (kinds_of e.signature.inputs) ks keeps b) outs_are k.steps) in
+        outputs_kinded ins outs keeps b (kept e) (inputs_until ins 1 lines) steps k.has (all_of_kinds ins 1 lines)
+
 module _ (o : Obc) (node : List ℕ) (e : Executor) (h : Executes o node e) where
+  run_kinded : (lines : List (List ℕ)) → AllByRecursion (AreOfKinds (outputs_of (of_machine o node))) (run (machine_behaviour o node) (inputs_until (inputs_of (of_machine o node)) 1 lines))
+  run_kinded lines =
+      let b = machine_behaviour o node in
+      subst (λ memory. AllByRecursion (AreOfKinds (outputs_of (of_machine o node))) (outputs_from b memory (inputs_until (inputs_of (of_machine o node)) 1 lines))) h.fresh
+      (says_kinded o node e h.machine h.named h.signature b h.runs (machine_keeps o node) h.kinds lines)
+
   pub machine_says : (lines : List (List ℕ)) → IsAnswer (of_machine o node) lines (said_to executing e 1 lines)
   machine_says lines =
       let b = machine_behaviour o node in
       record {
         outputs = run b (inputs_until (inputs_of (of_machine o node)) 1 lines);
         run = refl;
+        kinds = run_kinded lines;
         said = says_outputs o node e h.machine h.named h.signature b h.runs lines
             ∙ ap (λ kept. flat_map (line_of (outputs_of (of_machine o node))) (outputs_from b kept (inputs_until (inputs_of (of_machine o node)) 1 lines))) h.fresh;
       }
@@ -205,6 +228,7 @@ module _ (o : Obc) (node : List ℕ) (e : Executor) (h : Executes o node e) wher
         record {
           outputs = run b (inputs_until (inputs_of (of_machine o node)) 1 lines);
           run = refl;
+          kinds = run_kinded lines;
           said = says_inputs telling ins told_of (λ d. (d.executor.signature ≡ e.signature) × (d.ending ≡ ending)) (told_reads ending e.signature) (told_stays ending e.signature) 1 lines (teller e ending) (refl, refl)
               ∙ told_reactions ending b e (inputs_until ins 1 lines) h.runs (all_of_kinds ins 1 lines)
               ∙ (λ i. flat_map (told_line ending (outs i)) (outputs_from b (h.fresh i) (inputs_until (inputs i) 1 lines)));

@@ -9,6 +9,7 @@ use Rattle.hp_controlled.specs.Chosen.{AreControlledMachines}
 use Rattle.law_controlled.specs.Greatest.{AllSayGreatest}
 use Rattle.law_controlled.specs.Said.{GreatestSaidLaw}
 use Rattle.law_decided.specs.Laws.{IsAcceptedText}
+use Rattle.law_decided.specs.Mirrored.{MachinesLaw}
 use Rattle.law_decided.specs.Outcomes.{AreSaid, OutcomesLaw}
 use Rattle.hp_compile.specs.Arranged.{IsArranged}
 use Rattle.hp_compile.specs.Judged.{IsJudged}
@@ -17,6 +18,7 @@ use Rattle.hp_verdicts.specs.Decided.{Refuses, RefusesMachine, RefusesProof}
 use Rattle.hp_verdicts.specs.declared.error.ContractErr.{ContractErr}
 use Rattle.hp_verdicts.specs.declared.error.ContractErr.TheVariants as contract
 use Rattle.hp_driver.specs.Follows.{IsArrangedText, IsNodeOfText}
+use Rattle.hp_driver.specs.Mirrored.{MirrorLaw}
 use Rattle.hp_driver.specs.Outcome.{IsHeld}
 
 accepted_by : (text : List ℕ) (program clocked : List Item) (ranks : List (List ℕ)) (judged : IsJudged text program) → IsArranged program clocked ranks → IsAcceptedText text judged.program_of.tokens program clocked ranks
@@ -35,6 +37,12 @@ accepted_by text program clocked ranks judged arranged =
 
 pub are_said : OutcomesLaw → (files : Option Files) (file : List ℕ) (program : List Item) (held : IsHeld files file program) → AreSaid held.clocked
 are_said law files file program held = law held.text held.judged.program_of.tokens program held.clocked held.ranks (accepted_by held.text program held.clocked held.ranks held.judged held.arranged)
+
+-- the machine of a contract mirrors the node
+pub mirrored : MachinesLaw → MirrorLaw
+mirrored law files file name c has =
+    let held = c.held in
+    law held.text held.judged.program_of.tokens c.program held.clocked held.ranks (accepted_by held.text c.program held.clocked held.ranks held.judged held.arranged) name c.node c.named has.machine has.is_machine
 
 -- what machines say that choose, the program allows, with the greatest permitted values where nothing is free but the inputs
 pub all_greatest : GreatestSaidLaw → (files : Option Files) (file : List ℕ) (program : List Item) (held : IsHeld files file program) (o : Obc) → AllSafe held.clocked (reverse held.clocked) → AreControlledMachines held.clocked o

@@ -128,6 +128,7 @@ module _ (program : List Item) (o : Obc) (node : List ℕ) (m : Machine) (named 
       record {
         outputs = a.outputs;
         run = subst (λ ks. Gives (of_node program node) (inputs_until ks 1 lines) a.outputs) inputs_same (subst (λ outs. Gives (of_node program node) inputs outs) (sym a.run) (runs, keeps inputs outputs runs));
+        kinds = subst (λ ks. AllByRecursion (AreOfKinds ks) a.outputs) outputs_same a.kinds;
         said = a.said ∙ ap (λ ks. flat_map (line_of ks) a.outputs) outputs_same;
       }
 

@@ -3,8 +3,8 @@ use Rattle.std.proofs.Common.{◌≡◌, ◌≤◌, ℕ, suc, ◌+◌, nat_lt, L
 use Rattle.std.specs.Prelude.{Option, Result, Ok, Err}
 use Rattle.std.proofs.lemmas.Bool.{le-ltb}
 use Rattle.std.proofs.lemmas.Grind.{flat_map-append}
-use Rattle.std.specs.List.{flat_map}
-use Rattle.hp_base.specs.Kinds.{KindData}
+use Rattle.std.specs.List.{AllByRecursion, flat_map}
+use Rattle.hp_base.specs.Kinds.{KindData, AreOfKinds}
 use Rattle.hp_base.specs.declared.value.Value.{Value}
 use Rattle.hp_io.specs.Files.{Files}
 use Rattle.hp_lines.specs.Lines.{line_of}
@@ -105,6 +105,10 @@ module _ (kinds : List KindData) where
 
 -- ---- answers in two parts
 
+all_both : {A : Type 0} (P : A → Type 0) (xs ys : List A) → AllByRecursion P xs → AllByRecursion P ys → AllByRecursion P (xs ++ ys)
+all_both P [] ys h k = k
+all_both P (x ∷ xs) ys h k = (h.0, all_both P xs ys h.1 k)
+
 pub joined : JoinedLaw
 joined o node memory first second bytes more good a d =
     let b = machine_behaviour o node in
@@ -117,6 +121,7 @@ joined o node memory first second bytes more good a d =
       said = record {
         outputs = a.outputs ++ d.outputs;
         run = (λ i. a.run i ++ d.run i) ∙ sym (outputs_both b memory xs ys) ∙ ap (outputs_from b memory) (sym all);
+        kinds = all_both (AreOfKinds (outputs_of (of_machine o node))) a.outputs d.outputs a.kinds d.kinds;
         said = (λ i. a.said i ++ d.said i) ∙ sym (flat_map-append (line_of (outputs_of (of_machine o node))) a.outputs d.outputs);
       };
       kept = ap (memory_behind b memory) all ∙ memory_both b memory xs ys;
@@ -126,8 +131,8 @@ joined o node memory first second bytes more good a d =
 of_machine_joined : (o : Obc) (node : List ℕ) (first second : List (List ℕ)) (bytes more : List ℕ) → AreGoodLines (inputs_of (of_machine o node)) first second → IsAnswer (of_machine o node) first bytes →
     IsAnswer (from_memory o node (memory_past o node (machine_behaviour o node).reset first)) second more → IsAnswer (of_machine o node) (first ++ second) (bytes ++ more)
 of_machine_joined o node first second bytes more good a d =
-    let said = (joined o node (machine_behaviour o node).reset first second bytes more good (record { outputs = a.outputs; run = a.run; said = a.said }) d).said in
-    record { outputs = said.outputs; run = said.run; said = said.said }
+    let said = (joined o node (machine_behaviour o node).reset first second bytes more good (record { outputs = a.outputs; run = a.run; kinds = a.kinds; said = a.said }) d).said in
+    record { outputs = said.outputs; run = said.run; kinds = said.kinds; said = said.said }
 
 pub joined_run : TextLaw → RunLaw → JoinedRunLaw
 joined_run text_law run_law files file node o s first second bytes more (AreRun.of_program compiled) is good a d =

@@ -36,5 +36,6 @@ pub mod SegmentWords
 pub mod RunnableLaws
 pub mod SegmentCalls
 pub mod ResumedLaws
+pub mod AnswerExamples
 pub mod CheckpointExamples
 pub mod ClaimLaws

@@ -44,7 +44,7 @@ use Rattle.hp_driver.specs.Trace.{Machine}
 use Rattle.hp_driver.specs.Values.{inputs_until}
 use Rattle.hp_driver.specs.WrittenText.{WritesText}
 use Rattle.hp_driver.proofs.CheckpointLaws.{has_flat, keeps_found}
-use Rattle.hp_driver.proofs.ExecutionLaws.{few_of_signature, ins_are, kept_through, kinds_through, left_by_lines, refuses_lines, runs_through, says_outputs, signature_through}
+use Rattle.hp_driver.proofs.ExecutionLaws.{few_of_signature, ins_are, kept_through, kinds_through, left_by_lines, refuses_lines, runs_through, says_kinded, says_outputs, signature_through}
 use Rattle.hp_driver.proofs.HistoryLaws.{inputs_same, keeping, node_mirrors, runs_node}
 use Rattle.hp_driver.proofs.MachineLaws.{machine_mirrors, not_done_or_not}
 use Rattle.hp_driver.proofs.OutcomeLaws.{Mirrors, answers, in_lockstep, refuses, told_or_not}
@@ -94,6 +94,7 @@ module _ (o : Obc) (node : List ℕ) (e : Executor) (h : StandsFor o node e) whe
     says = λ lines. record {
       outputs = outputs_from (machine_behaviour o node) (kept e) (inputs_until (inputs_of (of_machine o node)) 1 lines);
       run = refl;
+      kinds = says_kinded o node e h.is.machine h.is.named h.signature (machine_behaviour o node) h.runs (machine_keeps o node) h.kinds lines;
       said = says_outputs o node e h.is.machine h.is.named h.signature (machine_behaviour o node) h.runs lines;
     };
     refuses = refuses_lines o node e h.is.machine h.is.named h.signature;

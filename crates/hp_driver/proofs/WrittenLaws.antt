@@ -1,7 +1,8 @@
 -- The text which `compile` writes does what its program does.
 use Rattle.std.proofs.Common.{◌≡◌, ◌⊎◌, ℕ, Bool, true, false, List, [], None, Some, inl, inr, refl, sym, ap, subst, ◌∙◌}
 use Rattle.std.specs.Prelude.{Option, IsTrue}
-use Rattle.std.specs.List.{flat_map}
+use Rattle.std.specs.List.{AllByRecursion, flat_map}
+use Rattle.hp_base.specs.Kinds.{AreOfKinds}
 use Rattle.hp_base.specs.declared.value.Value.{Value}
 use Rattle.hp_lines.specs.Lines.{line_of}
 use Rattle.hp_io.specs.Files.{Files}
@@ -38,6 +39,7 @@ module _ (program : List Item) (o : Obc) (node : List ℕ) (m : Machine) (named 
       record {
         outputs = a.outputs;
         run = one_run program node inputs a.outputs (run (machine_behaviour o node) inputs) runs (r.runs inputs (fitting program o node m named r lines));
+        kinds = subst (λ ks. AllByRecursion (AreOfKinds ks) a.outputs) (sym (outputs_same program o node m named r)) a.kinds;
         said = a.said ∙ ap (λ ks. flat_map (line_of ks) a.outputs) (sym (outputs_same program o node m named r));
       }
 
@@ -60,6 +62,7 @@ module _ (a b : Obc) (node : List ℕ) (types : a.types ≡ b.types) (named : ma
   same_answer lines bytes x = record {
     outputs = x.outputs;
     run = x.run ∙ (λ j. run (does j) (inputs_until (same_inputs j) 1 lines));
+    kinds = subst (λ ks. AllByRecursion (AreOfKinds ks) x.outputs) same_outputs x.kinds;
     said = x.said ∙ ap (λ ks. flat_map (line_of ks) x.outputs) same_outputs;
   }
 

@@ -43,3 +43,4 @@ pub mod ExecutionView
 pub mod Telling
 pub mod Teller
 pub mod TellingView
+pub mod Mirrored

@@ -27,13 +27,13 @@ mod trace_limits;
 mod words;
 
 pub use laws::{
-    checkpoints_are_memories, plain_programs_are_good, stopped_runs_are_joined,
-    written_certificates_are_good, written_machines_agree_with_nodes,
+    checkpoints_are_memories, machines_of_contracts_mirror_nodes, plain_programs_are_good,
+    stopped_runs_are_joined, written_certificates_are_good, written_machines_agree_with_nodes,
 };
 pub use memory::{Answer, run_in_memory};
 pub use ordering::run_tool_with_order;
 pub use resources::Extras;
 pub use status::Status;
 pub use system::run_on_system;
-pub use tool::{run_tool, run_tool_with};
+pub use tool::run_tool;
 pub use trace_limits::MAX_LINES;

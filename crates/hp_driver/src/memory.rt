@@ -10,6 +10,7 @@ ghost use Rattle.hp_driver.specs.Status.{code_of};
 ghost use Rattle.hp_driver.specs.declared.status.Status.TheVariants.{ReadFailed, NoMemory};
 
 use crate::laws::written_machines_agree_with_nodes;
+use crate::resources::Extras;
 use crate::status::Status;
 use crate::tool::run_tool;
 use crate::words::{Command, Segment, command_of, segment_of};
@@ -119,7 +120,8 @@ pub fn run_in_memory(
     written_machines_agree_with_nodes();
     let mut console = MemConsole::new(input, Vec::new(alloc), Vec::new(alloc));
     let mut diag = MemSink::new(Vec::new(alloc));
-    let status = run_tool(alloc, words, files, &mut console, &mut diag);
+    let extras = Extras::none(alloc);
+    let status = run_tool(&extras, words, files, &mut console, &mut diag);
     // A read or a take failed.
     if status == 4 {
         return Answer::nothing(alloc, why_unread(alloc, words, files));

@@ -8,13 +8,13 @@ ghost use Rattle.hp_driver.specs.Calls.{IsCall, moment};
 
 use crate::resources::Extras;
 use crate::status::Status;
-use crate::tool::run_tool_with;
+use crate::tool::run_tool;
 use hp_base::Value;
 use hp_io::{Console, Folder, Sink};
 use hp_native::{Native, give_greater, give_lesser, max_machine, min_machine};
 use std::alloc::Global;
 
-/// Does what the words say, as `run_tool_with`, with natives for `min` and `max`. Where there is no memory for these the status is 6, and nothing is done.
+/// Does what the words say, as `run_tool`, with natives for `min` and `max`. Where there is no memory for these the status is 6, and nothing is done.
 pub fn run_tool_with_order<F: Folder, C: Console, E: Sink>(
     alloc: Global,
     words: &[String],
@@ -56,5 +56,6 @@ pub fn run_tool_with_order<F: Folder, C: Console, E: Sink>(
     let Ok(natives) = Vec::from_array(alloc, order) else {
         return Status::NoMemory.code();
     };
-    run_tool_with(alloc, words, files, console, diag, &Extras { natives })
+    let extras = Extras { alloc, natives };
+    run_tool(&extras, words, files, console, diag)
 }

@@ -155,14 +155,13 @@ fn perform<N: Answers, F: Folder, C: Console, E: Sink>(
 }
 
 /// Does what the words say, over these files, this console and these diagnostics, and gives the status of the call. In `run` and `exec` the natives of the extras
-/// answer calls of their machines. What is said and what is left is, whatever extras there are, what `run_tool` says and leaves.
-pub fn run_tool_with<F: Folder, C: Console, E: Sink>(
-    alloc: Global,
+/// answer calls of their machines: what is said and what is left is the same, whatever extras there are.
+pub fn run_tool<F: Folder, C: Console, E: Sink>(
+    extras: &Extras,
     words: &[String],
     files: &mut F,
     console: &mut C,
     diag: &mut E,
-    extras: &Extras,
 ) -> u8
     // What happened on the console and on the diagnostics, and why the call ended so; of a run that leaves a checkpoint also which memory that stands for.
     ensures outcome { (log : List Event) × (line : List ℕ) × Grows (C.events console.old) (C.events console.new) log
@@ -223,80 +222,8 @@ pub fn run_tool_with<F: Folder, C: Console, E: Sink>(
     ensures complete_verify { IsGoodVerify (map string_bytes words.now) (F.files files.old) → result ≢ 4 → result ≢ 5 → (result ≡ 0) ⊎ (result ≡ 6) }
 {
     let resources = Resources {
-        alloc,
+        alloc: extras.alloc,
         natives: extras.natives.as_slice(),
     };
     perform(&resources, words, files, console, diag).code()
-}
-
-/// The call without extras.
-pub fn run_tool<F: Folder, C: Console, E: Sink>(
-    alloc: Global,
-    words: &[String],
-    files: &mut F,
-    console: &mut C,
-    diag: &mut E,
-) -> u8
-    // What happened on the console and on the diagnostics, and why the call ended so; of a run that leaves a checkpoint also which memory that stands for.
-    ensures outcome { (log : List Event) × (line : List ℕ) × Grows (C.events console.old) (C.events console.new) log
-        × HeardFrom (C.left console.old) (C.left console.new) log
-        × Grows (E.took diag.old) (E.took diag.new) line
-        × CallOutcome (map string_bytes words.now) (F.files files.old) (F.files files.new) log line result }
-
-    // No file is changed but the one that is to be written, which then holds the machines of the program, its text without the formulas of its contracts, a certificate, or a checkpoint.
-    ensures leaves { Leaves (map string_bytes words.now) (F.files files.old) (F.files files.new) result }
-
-    // What is read are the file, with the limit of its kind of text, and behind it, with its limit, the certificate of `verify` or the checkpoint of `resume`.
-    ensures readings { (gave : List Reading) × Grows (F.reads files.old).gave (F.reads files.new).gave gave × AreReadings (map string_bytes words.now) gave }
-
-    // Where the status is 4 or 5 one call failed of those that the words ask for, and it was the last on its object. On each other object none failed, and where the status is another one none failed at all.
-    ensures read_fault { result ≡ 4 → (ReadRose (map string_bytes words.now) (F.reads files.old).faults (F.reads files.new).faults × Same (C.take_faults console.old) (C.take_faults console.new))
-        ⊎ (AllSame (F.reads files.old).faults (F.reads files.new).faults × Rose (C.take_faults console.old) (C.take_faults console.new)) }
-    ensures write_fault { result ≡ 5 → (WriteRose (map string_bytes words.now) (F.write_faults files.old) (F.write_faults files.new)
-        × Same (C.put_faults console.old) (C.put_faults console.new) × Same (E.faults diag.old) (E.faults diag.new))
-        ⊎ (AllSame (F.write_faults files.old) (F.write_faults files.new) × OnePutFailed (C.put_faults console.old) (C.put_faults console.new) (E.faults diag.old) (E.faults diag.new)) }
-    ensures no_read_fault { result ≢ 4 → AllSame (F.reads files.old).faults (F.reads files.new).faults
-        × Same (C.take_faults console.old) (C.take_faults console.new) }
-    ensures no_write_fault { result ≢ 5 → AllSame (F.write_faults files.old) (F.write_faults files.new)
-        × Same (C.put_faults console.old) (C.put_faults console.new) × Same (E.faults diag.old) (E.faults diag.new) }
-
-    // Over objects of which the calls that the words ask for never fail, nothing fails.
-    ensures calm { AreCalm (map string_bytes words.now) (F.reads files.old).faults (F.write_faults files.old) (C.take_faults console.old) (C.put_faults console.old) (E.faults diag.old) →
-        (result ≢ 4) × (result ≢ 5) }
-
-    // A machine that is there is run over an input of good lines to its end, where nothing fails and there is memory.
-    ensures complete { IsGood (map string_bytes words.now) (F.files files.old) (C.left console.old) → result ≢ 4 → result ≢ 5 → (result ≡ 0) ⊎ (result ≡ 6) }
-
-    // A program that breaks no rule and of which no contract is refused is accepted, where nothing fails and there is memory.
-    ensures complete_check { IsGoodCheck (map string_bytes words.now) (F.files files.old) → result ≢ 4 → result ≢ 5 → (result ≡ 0) ⊎ (result ≡ 6) }
-
-    // Where it has no controllable variables, its machines are written,
-    ensures complete_compile { IsGoodCompile (map string_bytes words.now) (F.files files.old) → result ≢ 4 → result ≢ 5 → (result ≡ 0) ⊎ (result ≡ 6) }
-
-    // and each of its nodes is run over an input of good lines to its end.
-    ensures complete_run { IsGoodRun (map string_bytes words.now) (F.files files.old) (C.left console.old) → result ≢ 4 → result ≢ 5 → (result ≡ 0) ⊎ (result ≡ 6) }
-
-    // A run that leaves a checkpoint does so, too, behind the end of such an input: from the memory after a reset,
-    ensures complete_save { IsGoodSave (map string_bytes words.now) (F.files files.old) (C.left console.old) → result ≢ 4 → result ≢ 5 → (result ≡ 0) ⊎ (result ≡ 6) }
-
-    // and from a checkpoint of each machine that may be run for the node.
-    ensures complete_resume { IsGoodResume (map string_bytes words.now) (F.files files.old) (C.left console.old) → result ≢ 4 → result ≢ 5 → (result ≡ 0) ⊎ (result ≡ 6) }
-
-    // From any text that is not too long it ends so, or with 9, and then such a machine refuses it.
-    ensures refused_resume { (r : IsResume (map string_bytes words.now) (F.files files.old) (C.left console.old)) → result ≢ 4 → result ≢ 5 →
-        ((result ≡ 0) ⊎ (result ≡ 6)) ⊎ ((result ≡ 9) × IsRefused (F.files files.old) r.segment.file r.segment.node r.text) }
-
-    // The text of a program without the formulas of its contracts is written, where it is no longer than a text may be, nothing fails and there is memory.
-    ensures complete_past { IsGoodPast (map string_bytes words.now) (F.files files.old) → result ≢ 4 → result ≢ 5 → (result ≡ 0) ⊎ (result ≡ 6) }
-
-    // The certificate of a contract that can be decided is written, where its text is no longer than it may be, nothing fails and there is memory,
-    ensures complete_prove { IsGoodProve (map string_bytes words.now) (F.files files.old) → result ≢ 4 → result ≢ 5 → (result ≡ 0) ⊎ (result ≡ 6) }
-
-    // and a text that proves something of it is verified, whoever wrote it.
-    ensures complete_verify { IsGoodVerify (map string_bytes words.now) (F.files files.old) → result ≢ 4 → result ≢ 5 → (result ≡ 0) ⊎ (result ≡ 6) }
-{
-    let none = Extras {
-        natives: Vec::new(alloc),
-    };
-    run_tool_with(alloc, words, files, console, diag, &none)
 }

@@ -4,3 +4,4 @@ mod HeadingLaws
 mod NotBuiltLaws
 mod OneLaws
 mod ApartLaws
+mod CopiesLaws

@@ -25,9 +25,9 @@ use Rattle.hp_complete.specs.Declaring.{known_of}
 use Rattle.hp_complete.specs.Made.{IsMadeOf, AreMadeOf}
 use Rattle.hp_complete.specs.Ranges.{AtomWithin, EqnWithin, IsInRange, RightWithin}
 use Rattle.hp_complete.specs.Signatures.{AreFlat, places_of}
-use Rattle.hp_order.specs.ByClock.{IsByClock}
-use Rattle.hp_order.proofs.ReadLaws.{reads-below, reads-within}
-use Rattle.hp_order.proofs.UniqueLaws.{one_by_clock}
+use Rattle.hp_schedule.specs.ByClock.{IsByClock}
+use Rattle.hp_schedule.proofs.ReadLaws.{reads-below, reads-within}
+use Rattle.hp_schedule.proofs.UniqueLaws.{one_by_clock}
 use Rattle.hp_machines.specs.Machined.{AreMachinesOf}
 use Rattle.hp_machines.specs.Making.{AreMade, IsMachineOf, defines_some, giving}
 use Rattle.hp_machines.specs.One.{OneMachinesLaw}

@@ -4,3 +4,4 @@ pub mod Flattened
 pub mod NotBuilt
 pub mod One
 pub mod Apart
+pub mod Copies

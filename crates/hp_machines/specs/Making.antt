@@ -5,10 +5,9 @@ use Rattle.std.specs.List.Sorted.{IsPermutation}
 use Rattle.hp_flat.specs.Equations.{FlatEqn}
 use Rattle.hp_flat.specs.Nodes.{FlatNode}
 use Rattle.hp_obc.specs.Machines.{ObcType, Machine}
-use Rattle.hp_schedule.specs.Order.{IsInOrder}
 use Rattle.law_equations.specs.Made.Laws.{unplaced}
-use Rattle.law_equations.specs.Meaning.Scheduling.{reads, AreBelow, IsRanked}
-use Rattle.hp_order.specs.ByClock.{IsByClock}
+use Rattle.law_equations.specs.Meaning.Scheduling.{IsInOrder, reads, AreBelow, IsRanked}
+use Rattle.hp_schedule.specs.ByClock.{IsByClock}
 use Rattle.hp_normal.specs.Retargeting.{with_eqns}
 use Rattle.hp_normal.specs.Normal.{normal}
 use Rattle.hp_toobc.specs.Making.{machine_of}

@@ -1,5 +1,6 @@
 //! Laws of machines that are made. The functions do nothing.
 ghost use Rattle.hp_machines.specs.Apart.{ApartLaw};
+ghost use Rattle.hp_machines.specs.Copies.{NoneNeedlessLaw};
 ghost use Rattle.hp_machines.specs.One.{OneMachinesLaw};
 
 /// A program has one list of machines.
@@ -10,4 +11,9 @@ pub fn programs_have_one_list_of_machines()
 /// In each machine whose neighbouring cases were joined, none are left to be joined.
 pub fn no_neighbours_are_left_to_be_joined()
     ensures { ApartLaw }
+{}
+
+/// Among equations that stand behind those that define what they read, no needless copies are left.
+pub fn no_needless_copies_are_left()
+    ensures { NoneNeedlessLaw }
 {}

@@ -16,7 +16,10 @@ use hp_complete::flatten;
 use hp_form::formed;
 use hp_obc::Obc;
 use hp_tree::Program;
-pub use laws::{no_neighbours_are_left_to_be_joined, programs_have_one_list_of_machines};
+pub use laws::{
+    no_needless_copies_are_left, no_neighbours_are_left_to_be_joined,
+    programs_have_one_list_of_machines,
+};
 use node::machines_of;
 pub use node::regular_machine_of;
 use std::alloc::Global;

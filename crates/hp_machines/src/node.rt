@@ -12,7 +12,7 @@ use hp_form::regular::{is_regular, is_small};
 use hp_fuse::fuse;
 use hp_normal::normalise;
 use hp_obc::{Machine, ObcType};
-use hp_order::schedule_by_clock;
+use hp_schedule::schedule;
 use hp_toobc::to_machine;
 use std::alloc::{AllocError, Global};
 
@@ -20,7 +20,7 @@ use std::alloc::{AllocError, Global};
 fn machine_of(alloc: Global, node: FlatNode, types: &[ObcType]) -> Result<Machine, AllocError>
     ensures { IfOk result (IsArrangedAs types.now node) }
 {
-    let scheduled = schedule_by_clock(alloc, node)?;
+    let scheduled = schedule(alloc, node)?;
     let plain = normalise(alloc, scheduled)?;
     let machine = to_machine(alloc, &plain, types)?;
     match fuse(alloc, machine) {

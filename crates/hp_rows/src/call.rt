@@ -3,7 +3,7 @@ use crate::bytes::add_text;
 use crate::fields::{has_only, is_set, numbers_in, object_in, strings_in, text_in};
 use crate::malformed::Malformed;
 use crate::stream::Stream;
-use hp_driver::{Answer, run_in_memory, run_on_system, run_tool, run_tool_with_order};
+use hp_driver::{Answer, Extras, run_in_memory, run_on_system, run_tool, run_tool_with_order};
 use hp_io::{MemConsole, MemFolder, MemSink};
 use serde_json::Value;
 use std::alloc::Global;
@@ -63,7 +63,8 @@ fn call_over_objects(
     let status = if is_set(step, "natives") {
         run_tool_with_order(alloc, words, files, &mut console, &mut sink)
     } else {
-        run_tool(alloc, words, files, &mut console, &mut sink)
+        let extras = Extras::none(alloc);
+        run_tool(&extras, words, files, &mut console, &mut sink)
     };
     Ok(Answer {
         said: console.said(alloc)?,

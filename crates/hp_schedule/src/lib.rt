@@ -1,6 +1,9 @@
-//! Clocked equations in the order of their places. Invariant: the equations are the same ones, in an order that respects what they read. Used by `hp_machines`; its specs by `hp_form`, `law_equations`.
+//! Clocked equations in one order, which their node alone determines: by clock, as late as their readers let them. Invariant: each stands behind those that it reads. Used by `hp_machines`; its laws by `law_history`.
 #![tactic(auto)]
 
+mod laws;
 mod order;
+mod reach;
 
+pub use laws::order_by_clock_is_one;
 pub use order::schedule;

@@ -6,3 +6,10 @@ pub mod Held
 pub mod Watching
 pub mod Plants
 pub mod Named
+pub mod Quiet
+pub mod Defined
+pub mod Ordered
+pub mod Listed
+pub mod PlantRuns
+pub mod Compared
+pub mod ComparedPrograms

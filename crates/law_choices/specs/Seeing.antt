@@ -6,3 +6,5 @@ pub mod Greatest
 pub mod Plants
 pub mod Named
 pub mod Telling
+pub mod Comparing
+pub mod Compared

@@ -3,6 +3,7 @@
 //! The functions here do nothing: each is a law, which its contract states.
 #![tactic(auto)]
 
+ghost use Rattle.law_choices.specs.Seeing.Compared.{ComparedLaw};
 ghost use Rattle.law_choices.specs.Seeing.Found.{FilledFoundLaw};
 ghost use Rattle.law_choices.specs.Seeing.Greatest.{SeenGreatestLaw};
 ghost use Rattle.law_choices.specs.Seeing.Held.{HeldCodesLaw};
@@ -16,8 +17,12 @@ use crate::adding::{
     watched_nodes_choose,
 };
 use crate::answered::extended_nodes_close;
+use crate::choosing::{
+    chosen_nodes_have_one_reaction, programs_have_one_meaning_under_each_choice,
+};
 use crate::in_turn::a_node_tells_each_contract;
 use crate::playing::machines_that_are_asked_owe;
+use crate::streams::meanings_give_the_chosen_reactions;
 use hp_controller::{
     added_equations_give_inputs, controlled_nodes_follow_their_controller,
     controllers_answer_with_the_choice, gates_have_their_values,
@@ -94,6 +99,32 @@ pub fn contracts_that_are_seen_are_told()
     a_node_tells_each_contract();
     machines_that_are_asked_owe();
     gates_have_their_values();
+    callees_may_differ_elsewhere();
+    equations_may_be_added();
+    made_nodes_may_be_added_to();
+    watched_nodes_choose();
+    extended_nodes_close();
+    targets_differ();
+    calls_are_kept();
+    nodes_have_one_reaction();
+    added_equations_give_inputs();
+    controlled_nodes_follow_their_controller();
+    controllers_answer_with_the_choice();
+    codes_of_values();
+    choices_are_values();
+    reactions_are_instants_of_the_game();
+    permitted_is_fitting();
+    machines_go_along();
+    machine_choices_are_kept();
+}
+
+/// In these nodes, if nothing is free in a node but its inputs and comparisons of integers by their order that have names on the base clock, the equations hold values of the free places: of their types, and the reaction's own wherever an instant looks at them.
+pub fn named_comparisons_are_seen()
+    ensures { ComparedLaw }
+{
+    meanings_give_the_chosen_reactions();
+    programs_have_one_meaning_under_each_choice();
+    chosen_nodes_have_one_reaction();
     callees_may_differ_elsewhere();
     equations_may_be_added();
     made_nodes_may_be_added_to();

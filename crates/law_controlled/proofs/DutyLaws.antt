@@ -26,6 +26,9 @@ use Rattle.law_wellmade.proofs.TimelyLemmas.KindLaws.{are_of}
 use Rattle.law_choices.specs.Playing.Greatest.{ChoosesGreatest, GreatestLaw}
 use Rattle.law_choices.specs.Playing.Telling.{ContractToldLaw}
 use Rattle.law_choices.specs.Runs.Chosen.{ChosenReaction}
+use Rattle.law_choices.specs.Seeing.Compared.{ComparedLaw}
+use Rattle.law_choices.specs.Seeing.Greatest.{SeenGreatestLaw}
+use Rattle.law_choices.specs.Seeing.Telling.{SeenToldLaw}
 use Rattle.law_choices.specs.Runs.Laws.{ChoosesValues, OfProgramLaw}
 use Rattle.law_choices.proofs.PlayingLemmas.Holding.{runs-of}
 use Rattle.law_choices.proofs.RunsLemmas.Wholes.{typed-through}
@@ -49,6 +52,9 @@ pub record SteeringLaws : Type 0 where
   pub instances : InstancesLaw
   pub tells : TellsForLaw
   pub told : ContractToldLaw
+  pub compares : ComparedLaw
+  pub seen : SeenGreatestLaw
+  pub seen_told : SeenToldLaw
 
 drop_front : (P : Node → Type 0) (later items : List Item) → EachNode P (later ++ items) → EachNode P items
 drop_front P [] items v = v

@@ -1,5 +1,5 @@
--- The machines of a program that chooses say runs of the greatest permitted values, where nothing is free in a node but its inputs.
-use Rattle.std.proofs.Common.{◌≡◌, ℕ, inr, List, reverse, Some}
+-- The machines of a program that chooses say runs of the greatest permitted values, where nothing is free in a node but its inputs and named comparisons.
+use Rattle.std.proofs.Common.{◌≡◌, ℕ, inl, inr, List, [], reverse, Some}
 use Rattle.std.specs.List.{AllByRecursion}
 use Rattle.hp_base.specs.Kinds.{AreOfKinds}
 use Rattle.hp_base.specs.declared.value.Value.{Value}
@@ -7,16 +7,20 @@ use Rattle.hp_obc.specs.Machines.{Obc}
 use Rattle.hp_obc.specs.Steps.{run}
 use Rattle.hp_tree.specs.declared.program.Item.{Item}
 use Rattle.hp_tree.specs.Meaning.{types_of, node_among}
+use Rattle.hp_tree.specs.Instant.{Past}
 use Rattle.hp_tree.specs.Programs.{Node}
-use Rattle.hp_meaning.specs.Contract.Guarantee.{AllSafe, Through}
+use Rattle.hp_meaning.specs.Contract.FreePlaces.{calls_of}
+use Rattle.hp_meaning.specs.Contract.Guarantee.{AllSafe, HasContract, Through}
 use Rattle.law_equations.specs.Followed.Programs.{all_answers}
 use Rattle.law_games.specs.ReadyGames.Laws.{IsInOrder}
 use Rattle.law_wellmade.specs.Timely.Kinds.{kinds_of_decls}
 use Rattle.law_choices.specs.InTurn.AllowedRuns.{IsAllowedRun}
 use Rattle.law_choices.specs.InTurn.Nodes.{contract_name}
-use Rattle.law_choices.specs.Playing.Greatest.{ChoosesGreatest, KnowsAll}
+use Rattle.law_choices.specs.Playing.Greatest.{ChoosesGreatest}
+use Rattle.law_choices.specs.Playing.Telling.{AreToldOf}
+use Rattle.law_choices.specs.Runs.Chosen.{ChosenReaction}
 use Rattle.law_controlled.specs.Allowed.{RunsAllowed}
-use Rattle.law_controlled.specs.Greatest.{IsSteeredRun}
+use Rattle.law_controlled.specs.Greatest.{IsSeen, IsSteeredRun, SeesAll}
 use Rattle.law_controlled.proofs.KeepingLaws.{keeps_contract}
 use Rattle.law_controlled.proofs.ToldLaws.{told_kept}
 use Rattle.law_controlled.proofs.RunLaws.{chosen_run}
@@ -24,6 +28,29 @@ use Rattle.law_controlled.proofs.DutyLaws.{SteeringLaws, keeps, rows_of}
 use Rattle.law_controlled.proofs.DepthLaws.{at_depth}
 
 module _ (laws : SteeringLaws) (program after : List Item) (ranks : List (List ℕ)) (order : IsInOrder program after ranks) (safe : AllSafe after (reverse after)) (o : Obc) (r : RunsAllowed program after o) where
+  -- the inputs of a node, and a reaction of it over them
+  abbrev Kinds : Node → List (List Value) → Type 0
+  Kinds n inputs = AllByRecursion (AreOfKinds (kinds_of_decls (types_of after) n.inputs)) inputs
+
+  abbrev Reacts : List ℕ → List (List Value) → Past → Type 0
+  Reacts f inputs past = ChosenReaction ((r.allowed).allowed).choices after f inputs past
+
+  -- the greatest permitted values, in each kind of node
+  greatest_of : (f : List ℕ) (n : Node) (inputs : List (List Value)) (past : Past) → node_among (reverse after) f ≡ Some n → Kinds n inputs → Reacts f inputs past → SeesAll after n → Through (ChoosesGreatest after n) past
+  greatest_of f n inputs past e kinds reacts (inl none) = laws.greatest program after ranks r.observers r.all order r.chooses r.mirrored r.allowed f n inputs past e (inl none) kinds reacts
+  greatest_of f n inputs past e kinds reacts (inr (inl alone)) = laws.greatest program after ranks r.observers r.all order r.chooses r.mirrored r.allowed f n inputs past e (inr alone) kinds reacts
+  greatest_of f n inputs past e kinds reacts (inr (inr compares)) =
+      laws.seen program after ranks r.observers r.all order r.chooses r.mirrored r.allowed f n inputs past e kinds reacts
+      (laws.compares program after ranks r.observers r.all order r.chooses r.allowed f n inputs past e compares kinds reacts)
+
+  -- and what is told
+  told_of : (f : List ℕ) (n : Node) (inputs : List (List Value)) (past : Past) → node_among (reverse after) f ≡ Some n → Kinds n inputs → Reacts f inputs past → HasContract n → IsSeen after n → calls_of n ≡ []
+      → AreToldOf past (all_answers (((r.allowed).one).answers f) inputs) (all_answers (((r.allowed).one).answers (contract_name f)) inputs)
+  told_of f n inputs past e kinds reacts has (inl alone) none = laws.told program after ranks r.observers r.all order r.chooses r.mirrored r.allowed f n inputs past e has alone none kinds reacts
+  told_of f n inputs past e kinds reacts has (inr compares) none =
+      laws.seen_told program after ranks r.observers r.all order r.chooses r.mirrored r.allowed f n inputs past e has none kinds reacts
+      (laws.compares program after ranks r.observers r.all order r.chooses r.allowed f n inputs past e compares kinds reacts)
+
   pub steered : (f : List ℕ) (n : Node) (inputs : List (List Value)) → node_among (reverse after) f ≡ Some n → AllByRecursion (AreOfKinds (kinds_of_decls (types_of after) n.inputs)) inputs → IsSteeredRun after f n inputs (all_answers (((r.allowed).one).answers f) inputs) (all_answers (((r.allowed).one).answers (contract_name f)) inputs)
   steered f n inputs e kinds =
       let answers = (r.allowed).allowed in
@@ -40,8 +67,7 @@ module _ (laws : SteeringLaws) (program after : List Item) (ranks : List (List �
         reaction = laws.of_program choices after f inputs before.past before.is_one;
         outputs = it.outputs;
       } in
-      let are_greatest : KnowsAll after n → Through (ChoosesGreatest after n) before.past =
-      (λ knows. laws.greatest program after ranks r.observers r.all order r.chooses r.mirrored r.allowed f n inputs before.past e knows kinds before.is_one) in
+      let are_greatest : SeesAll after n → Through (ChoosesGreatest after n) before.past = greatest_of f n inputs before.past e kinds before.is_one in
       record {
         allowed = run;
         greatest = λ knows.
@@ -49,9 +75,9 @@ module _ (laws : SteeringLaws) (program after : List Item) (ranks : List (List �
             let duty = keeps laws program after ranks order safe choices are.values f n inputs before.past e rows before.is_one greatest in
             record { greatest = greatest; duty = duty; contract = λ has none. keeps_contract n none before.past (duty has) };
         is_chosen = λ knows none. chosen_run after f n none laws.of_types inputs (all_answers (((r.allowed).one).answers f) inputs) e rows run (are_greatest knows);
-        tells = λ has alone none.
-            let duty = keeps laws program after ranks order safe choices are.values f n inputs before.past e rows before.is_one (are_greatest (inr alone)) has in
-            let values = laws.told program after ranks r.observers r.all order r.chooses r.mirrored r.allowed f n inputs before.past e has alone none kinds before.is_one in
+        tells = λ has seen none.
+            let duty = keeps laws program after ranks order safe choices are.values f n inputs before.past e rows before.is_one (are_greatest (inr seen)) has in
+            let values = told_of f n inputs before.past e kinds before.is_one has seen none in
             record {
               values = values;
               kept = told_kept before.past (all_answers (((r.allowed).one).answers f) inputs) (all_answers (((r.allowed).one).answers (contract_name f)) inputs) values (keeps_contract n none before.past duty);

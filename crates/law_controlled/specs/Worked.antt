@@ -1,12 +1,12 @@
--- A node with a controllable variable of which nothing is free but the inputs: a heater with three modes, one of which is chosen. It is off where it is hot, and never goes from full to off at once, if a warning comes before it gets hot. A house calls it.
+-- Nodes with a controllable variable of which nothing is free but the inputs, and named comparisons of integers. A heater has three modes, one of which is chosen: it is off where it is hot, and never goes from full to off at once, if a warning comes before it gets hot. A house calls it. A cooler is told a temperature, and is off where that is low.
 -- Source: own.
-use Rattle.std.specs.Prelude.{◌≡◌, codes, false, ℕ, IsTrue, List, [], ◌∷◌, ◌++◌, None, Some, reverse}
+use Rattle.std.specs.Prelude.{◌≡◌, codes, false, ℕ, pos, IsTrue, List, [], ◌∷◌, ◌++◌, None, Some, reverse}
 use Rattle.hp_base.specs.declared.span.Span.{Span}
 use Rattle.hp_base.specs.declared.ty.Const.TheVariants as const
 use Rattle.hp_base.specs.declared.ty.Ty.{Ty}
 use Rattle.hp_base.specs.declared.ty.Ty.TheVariants as ty
 use Rattle.hp_tree.specs.declared.expr.Op1.TheVariants.{Not}
-use Rattle.hp_tree.specs.declared.expr.Op2.TheVariants.{And, Eq, Imp}
+use Rattle.hp_tree.specs.declared.expr.Op2.TheVariants.{And, Eq, Imp, Lt}
 use Rattle.hp_tree.specs.declared.program.Item.{Item}
 use Rattle.hp_tree.specs.declared.program.Item.TheVariants.{NodeItem, TypeItem}
 use Rattle.hp_tree.specs.Blocks.{Block, Decl, Eqn, block, define, eqns_of}
@@ -20,6 +20,7 @@ use Rattle.hp_meaning.specs.Contract.ChosenRuns.{own_past}
 use Rattle.hp_meaning.specs.Contract.FreePlaces.{calls_of, instance_at}
 use Rattle.hp_meaning.specs.Contract.Guarantee.{HasContract}
 use Rattle.law_choices.specs.Playing.Inputs.{HasInputsAlone}
+use Rattle.law_choices.specs.Seeing.Comparing.{ComparesByName}
 use Rattle.law_controlled.specs.AtDepth.{InEach, IsGreatestAt, IsGreatestIfKnown, KnowsAllCalled}
 
 abbrev somewhere : Span
@@ -101,3 +102,31 @@ HouseLaw =
     KnowsAllCalled housing heater
     × ((past : Past) (now : Instant) → InEach (IsGreatestIfKnown housing) (reverse housing) house.name past now → IsTrue (is_there (instance_at its_call now (Fresh ∷ [])))
     → IsGreatestAt housing heater (own_past (its_call.place ++ (Instance ∷ [])) past now) (instance_at its_call now))
+
+-- ---- a cooler that compares a temperature
+
+abbrev pub cool_promise : Contract
+cool_promise = record {
+  span = somewhere;
+  body = block [] (eqns_of []);
+  assume = None;
+  enforce = Some (two somewhere Imp (read (codes "cold")) (at_mode (codes "Off")));
+  controls = declared (codes "m") (ty.Enum (codes "mode")) ∷ [];
+}
+
+abbrev pub cooler : Node
+cooler = record {
+  name = codes "cooler";
+  inputs = declared (codes "temperature") ty.Int ∷ [];
+  outputs = declared (codes "cold") ty.Bool ∷ declared (codes "level") (ty.Enum (codes "mode")) ∷ [];
+  contract = Some cool_promise;
+  body = block [] (eqns_of (equals (codes "cold") (two somewhere Lt (read (codes "temperature")) (constant somewhere (const.I (pos 5)))) ∷ equals (codes "level") (read (codes "m")) ∷ []));
+  span = somewhere;
+}
+
+abbrev pub cooling : List Item
+cooling = TypeItem mode ∷ NodeItem cooler ∷ []
+
+-- It has a contract, its one comparison of integers has a name, and it calls nothing.
+abbrev pub CoolerLaw : Type 0
+CoolerLaw = HasContract cooler × ComparesByName cooling cooler × (calls_of cooler ≡ [])

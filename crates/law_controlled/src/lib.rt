@@ -1,4 +1,4 @@
-//! Laws: each line that the machines of a program say whose nodes choose the values of their controllable variables is one that the program allows; where nothing is free in a node but its inputs, it is one of a run of the greatest permitted values. `hp_driver` uses it for `run` and `compile`.
+//! Laws: each line that the machines of a program say whose nodes choose the values of their controllable variables is one that the program allows; where nothing is free in a node but its inputs, and comparisons of integers that have names, it is one of a run of the greatest permitted values. `hp_driver` uses it for `run` and `compile`.
 //!
 //! The functions here do nothing: each is a law, which its contract states.
 #![tactic(auto)]
@@ -12,7 +12,7 @@ ghost use Rattle.law_controlled.specs.One.{OneListLaw, OneTextListLaw};
 ghost use Rattle.law_controlled.specs.Parts.{MadePartLaw};
 ghost use Rattle.law_controlled.specs.Said.{GreatestSaidLaw, SaidLaw};
 ghost use Rattle.law_controlled.specs.Program.{ChoosingNamesLaw, MadeNamesLaw, MadeNodesLaw};
-ghost use Rattle.law_controlled.specs.Worked.{HeaterLaw, HouseLaw};
+ghost use Rattle.law_controlled.specs.Worked.{CoolerLaw, HeaterLaw, HouseLaw};
 
 use hp_abstract::nodes_have_one_abstraction;
 use hp_form::regular::regular_equations_have_form;
@@ -35,6 +35,10 @@ use law_choices::playing::{
     nodes_that_know_all_choose_the_greatest,
 };
 use law_choices::runs::chosen_values_make_one_reaction;
+use law_choices::seeing::{
+    contracts_that_are_seen_are_told, named_comparisons_are_seen,
+    nodes_that_see_values_choose_the_greatest,
+};
 use law_choices::undisturbed::controls_are_apart;
 use law_equations::fewer::nodes_are_compiled;
 use law_equations::fitting::{larger_names_are_free, names_fit};
@@ -128,7 +132,7 @@ pub fn machines_of_texts_say_what_is_allowed()
     contracts_of_texts_can_be_observed();
 }
 
-/// And if nothing is free in such a node but its inputs, the controllable variables have the greatest permitted values in that reaction; so it keeps its contract. So it is of each instance in the reaction, at every depth, if none of its inputs is an integer either. The machine of a contract says what the machine of its node says, with two truth values behind; if nothing is free in the node but its inputs, and it calls nothing, these are the values of the assumption and of the guarantee in that reaction.
+/// And if nothing is free in such a node but its inputs, and comparisons of integers by their order that have names on the base clock, the controllable variables have the greatest permitted values in that reaction; so it keeps its contract. So it is of each instance in the reaction, at every depth, if nothing is free in it but its inputs, of which none is an integer. The machine of a contract says what the machine of its node says, with two truth values behind; if the node is such a node, and it calls nothing, these are the values of the assumption and of the guarantee in that reaction.
 pub fn machines_of_texts_choose_the_greatest()
     ensures { GreatestSaidLaw }
 {
@@ -137,6 +141,9 @@ pub fn machines_of_texts_choose_the_greatest()
     instances_react_as_callees();
     a_node_tells_each_contract();
     contracts_are_told();
+    named_comparisons_are_seen();
+    nodes_that_see_values_choose_the_greatest();
+    contracts_that_are_seen_are_told();
     chosen_values_make_one_reaction();
     choice_is_permitted();
     choices_are_values();
@@ -182,4 +189,9 @@ pub fn a_worked_heater()
 /// The heater has the greatest permitted values in a house that calls it, and keeps its contract there.
 pub fn a_worked_house()
     ensures { HouseLaw }
+{}
+
+/// In a cooler with three modes, which is told a temperature, nothing is free but the inputs and the comparison of the temperature, which has a name.
+pub fn a_worked_cooler()
+    ensures { CoolerLaw }
 {}

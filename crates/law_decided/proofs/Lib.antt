@@ -1,3 +1,4 @@
 pub mod Decided
 pub mod Outcomes
 pub mod Promised
+pub mod Mirrored

@@ -41,7 +41,7 @@ stands : (after front back : List Item) (n : Node) → after ≡ front ++ NodeIt
 stands after front back n e = (reverse back, ap reverse e ∙ turned front back (NodeItem n))
 
 -- where it is found by its name
-named : (after : List Item) (f : List ℕ) (n : Node) → node_among after f ≡ Some n → (earlier : List Item) × Stands after earlier n
+pub named : (after : List Item) (f : List ℕ) (n : Node) → node_among after f ≡ Some n → (earlier : List Item) × Stands after earlier n
 named after f n e =
     let s = all_stand (reverse after) f n (ap (λ items. node_among items f) (reverse-reverse after) ∙ e) in
     (reverse s.1.0, stands after s.1.0 s.0 n (sym (reverse-reverse after) ∙ s.1.1))

@@ -4,12 +4,14 @@
 #![tactic(auto)]
 
 ghost use Rattle.law_decided.specs.Laws.{AllKeptLaw, AllSafeLaw, ForcedLaw, KeptLaw, ProofLaw, TextLaw, VerifiedLaw};
+ghost use Rattle.law_decided.specs.Mirrored.{MachinesLaw};
 ghost use Rattle.law_decided.specs.Outcomes.{OutcomesLaw};
 ghost use Rattle.law_decided.specs.Promised.{MachineLaw, RunLaw};
 
 use law_drawing::form::drawn_circuits_are_circuits;
 use law_drawing::mirrors::{
-    assumptions_read_controls, drawn_games_are_kept, limits_are_passed_by_nodes,
+    assumptions_read_controls, drawn_games_are_kept, drawn_nodes_are_mirrored,
+    limits_are_passed_by_nodes,
 };
 use law_drawing::no_circle::ready_nodes_have_no_circle;
 use law_games::guaranteed::runs_keep_contracts;
@@ -44,6 +46,13 @@ pub fn outcomes_are_so()
     ready_nodes_have_no_circle();
     assumptions_read_controls();
     limits_are_passed_by_nodes();
+}
+
+/// The machine of each contract of the program of an accepted text mirrors its node.
+pub fn machines_mirror_contracts()
+    ensures { MachinesLaw }
+{
+    drawn_nodes_are_mirrored();
 }
 
 /// Where all contracts of an accepted program without controllable variables are found to be kept, each instance in each reaction of a node keeps its contract, at every depth; and the machine of the node gives the outputs of its run.

@@ -47,7 +47,7 @@ number_below [] k x e = absurd cc
 number_below (y ∷ xs) zero x e = omega arith
 number_below (y ∷ xs) (suc k) x e = let l = number_below xs k x e in omega (arith, l)
 
-get_front : {A : Type 0} (xs ys : List A) (k : ℕ) → k < length xs → slice_get (xs ++ ys) k ≡ slice_get xs k
+pub get_front : {A : Type 0} (xs ys : List A) (k : ℕ) → k < length xs → slice_get (xs ++ ys) k ≡ slice_get xs k
 get_front [] ys k l = absurd (omega (arith, l))
 get_front (x ∷ xs) ys zero l = refl
 get_front (x ∷ xs) ys (suc k) l = get_front xs ys k (omega (arith, l))

@@ -145,13 +145,13 @@ module _ (types : List ObcType) (callees : Callees) (clock : ℕ → Clock) (pla
   extra_new =
       each_other (λ (e : FlatEqn). AllByRecursion (λ x. length asking.variables ≤ x) e.targets) New (λ e h. each_other (λ x. length asking.variables ≤ x) IsNew (λ x l. let g = longer in inr (omega (arith, l, g))) e.targets h) extra copies.fresh
 
-  abbrev more : List FlatEqn
+  abbrev pub more : List FlatEqn
   more = (steps ++ decoding) ++ extra
 
   closed_inputs : n.inputs ≡ closed.inputs + count
   closed_inputs = let g = copies.grows in let i = g.inputs in let f = few in omega (arith, i, f)
 
-  extends : Extends n closed count more
+  pub extends : Extends n closed count more
   extends = record {
     inputs = closed_inputs;
     variables = can.variables;
@@ -177,7 +177,7 @@ module _ (types : List ObcType) (callees : Callees) (clock : ℕ → Clock) (pla
       }
 
   module _ (b : IsBased types callees clock plant) where
-    abbrev first : List FlatEqn
+    abbrev pub first : List FlatEqn
     first = (k.grows.eqns).0
 
     within_plant : plant.inputs ≤ length plant.variables
@@ -189,7 +189,7 @@ module _ (types : List ObcType) (callees : Callees) (clock : ℕ → Clock) (pla
     first_loop : IsLoop 0 (record { plant = plant; closed = n })
     first_loop = let g = k.grows in record { name = g.name; inputs = first_inputs; within = within_plant; variables = g.variables; defined = λ now. tt }
 
-    first_extends : Extends plant n 0 first
+    pub first_extends : Extends plant n 0 first
     first_extends = record {
       inputs = first_inputs;
       variables = within_plant;

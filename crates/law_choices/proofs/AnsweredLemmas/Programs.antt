@@ -180,7 +180,7 @@ closed_program_law laws loops program after ranks r ok fall form short ls made a
     let fs = plants ls in
     let nodes = ready_nodes laws.targets laws.calls program after r ok form short fs made in
     let c = loops types (callees_of after) all (controls_in after) ls ns (in_turn types (known_of low) [] low fs nodes.turned) (controls_some types low fs nodes.turned) turn there one closed in
-    record { choices = c.choices; theirs = c.theirs; allowed = allowed_law laws program after ranks r ok fall form short fs made c.choices c.typed one.answers c.gives }
+    record { choices = c.choices; typed = c.typed; gives = c.gives; theirs = c.theirs; allowed = allowed_law laws program after ranks r ok fall form short fs made c.choices c.typed one.answers c.gives }
 
 pub closed_text_law : ProgramLaws → LoopsLaw → ClosedTextLaw
 closed_text_law laws loops text tokens program after ranks a p n t d f i c fall ls made all ns turn there one closed =

@@ -10,9 +10,10 @@ use Rattle.hp_tree.specs.Blocks.{Decl, Block, block, Eqns}
 use Rattle.hp_tree.specs.Programs.{Node}
 use Rattle.hp_tree.specs.Meaning.{controls_of}
 use Rattle.hp_flat.specs.declared.equation.Atom.TheVariants.{Variable}
-use Rattle.hp_flat.specs.Equations.{FlatEqn, Right, operator}
+use Rattle.hp_flat.specs.Equations.{Clock, FlatEqn, Right, operator}
 use Rattle.law_automata.specs.Lowered.Standing.{Along}
 use Rattle.law_equations.specs.Flattened.Flatten.{obc_two}
+use Rattle.law_equations.specs.Made.Blocks.{locals_of}
 use Rattle.law_equations.specs.Made.Laws.{unplaced}
 use Rattle.law_equations.specs.Made.Making.{Known, Sketch, Site, Sight, Seen, Body, base_site, bind, block_layer, copy_of, each_once, enter_path, names_of_eqns, next, no_entry, nothing_made, over, path_for, remember_all, signed, sketch_block, sketch_eqn, sketch_eqns, sketch_expr, sketch_node, type_two, unknown, value_of}
 use Rattle.law_equations.specs.Meaning.Instants.{Instant}
@@ -58,13 +59,13 @@ more-copies es fs w e t x h = record { copy = h.copy; is_in = w h.copy h.is_in; 
 
 -- ---- from one sketch to another
 
-module _ (see : Sight) where
-  -- an event whose target one of some equations copies to the variable of a name
+module _ (see : Sight) (on : Clock) (ds : List Decl) where
+  -- an event whose target one of some equations copies to the variable of a name; it is on this clock, if nothing is written of that of the name
   abbrev CopiedBy : List FlatEqn → FlatEqn → List ℕ → Type 0
-  CopiedBy es e y = (t : ℕ) × (e.targets ≡ t ∷ []) × ((x : ℕ) → (see y).value ≡ Some x → HasCopy es e t x)
+  CopiedBy es e y = (t : ℕ) × (e.targets ≡ t ∷ []) × ((x : ℕ) → (see y).value ≡ Some x → HasCopy es e t x) × (path_of ds y ≡ [] → e.clock ≡ on)
 
   copied-more : (es fs : List FlatEqn) → ((c : FlatEqn) → IsIn es c → IsIn fs c) → (e : FlatEqn) (y : List ℕ) → CopiedBy es e y → CopiedBy fs e y
-  copied-more es fs w e y h = (h.0, h.1, λ x v. more-copies es fs w e h.0 x (h.2 x v))
+  copied-more es fs w e y h = (h.0, h.1, λ x v. more-copies es fs w e h.0 x (h.2 x v), h.3)
 
   -- more equations stand behind, whose events are copied to these names
   abbrev Copies : Sketch → Sketch → List (List ℕ) → Type 0
@@ -88,9 +89,9 @@ module _ (see : Sight) where
     quiet-copies e at d q = copies-none d (sketch_expr k see at e d).0 (subst (Adds d (sketch_expr k see at e d).0) (q (λ p. p)) (expr-adds outputs k knows e see at (λ p. p) d))
 
     -- the equation of a comparison, and that of its name
-    event-copies : (at : Site) (y : List ℕ) (o : Op2) (a b : ℕ) (d : Sketch) → compares o ≡ true
+    event-copies : (at : Site) (y : List ℕ) (o : Op2) (a b : ℕ) (d : Sketch) → compares o ≡ true → (path_of ds y ≡ [] → at.clock ≡ on)
         → (let z = value_of at (type_two o) (operator (obc_two o) (Variable a ∷ Variable b ∷ [])) d in Copies d (bind at (see y).value (Some z.1) z.0) (y ∷ []))
-    event-copies at y o a b d c = by (see y).value refl
+    event-copies at y o a b d c based = by (see y).value refl
       where
         right : Right
         right = operator (obc_two o) (Variable a ∷ Variable b ∷ [])
@@ -104,7 +105,7 @@ module _ (see : Sight) where
             let e : FlatEqn = record { targets = next d ∷ []; clock = at.clock; right = operator (obc_two o) (Variable a ∷ Variable b ∷ []); restart = at.restart; at = 0 } in (
               e ∷ [],
               refl,
-              subst (λ (f : Bool). Along (CopiedBy (e ∷ [])) (if f then e ∷ [] else []) (y ∷ [])) (sym is) ((next d, refl, λ x v. absurd (let n : None ≡ Some x = sym h ∙ v in cc)), tt),
+              subst (λ (f : Bool). Along (CopiedBy (e ∷ [])) (if f then e ∷ [] else []) (y ∷ [])) (sym is) ((next d, refl, λ x v. absurd (let n : None ≡ Some x = sym h ∙ v in cc), based), tt),
             )
         by (Some w) h =
             let e : FlatEqn = record { targets = next d ∷ []; clock = at.clock; right = operator (obc_two o) (Variable a ∷ Variable b ∷ []); restart = at.restart; at = 0 } in
@@ -118,27 +119,29 @@ module _ (see : Sight) where
                   λ x v.
                       let same : w ≡ x = (let s : Some w ≡ Some x = sym h ∙ v in cc) in
                       record { copy = copy; is_in = inr (inl refl); targets = ap (λ i. i ∷ []) same; clock = refl; restart = refl; right = refl },
+                  based,
                 ),
                 tt,
               ),
             )
 
-    eqns-copies : (es : Eqns) (ys : List (List ℕ)) → AreNamed outputs es ys → (at : Site) (ds : List Decl) (d : Sketch) → Copies d (sketch_eqns k see at ds es d) ys
-    eqns-copies all names nothing at ds d = ([], sym (append-nil d.eqns), tt)
-    eqns-copies all names (quiet e es ys q r) at ds d =
+    eqns-copies : (es : Eqns) (ys : List (List ℕ)) → AreNamed outputs es ys → (at : Site) → at.clock ≡ on → (d : Sketch) → Copies d (sketch_eqns k see at ds es d) ys
+    eqns-copies all names nothing at here d = ([], sym (append-nil d.eqns), tt)
+    eqns-copies all names (quiet e es ys q r) at here d =
         let x = sketch_eqn k see at ds e d in
-        copies-two d x (sketch_eqns k see at ds es x) [] ys (copies-none d x (subst (Adds d x) (q (λ p. p)) (eqn-adds outputs k knows e see at ds (λ p. p) d))) (eqns-copies es ys r at ds x)
-    eqns-copies all names (named s t u y o a b es ys c qa qb r) at ds d =
+        copies-two d x (sketch_eqns k see at ds es x) [] ys (copies-none d x (subst (Adds d x) (q (λ p. p)) (eqn-adds outputs k knows e see at ds (λ p. p) d))) (eqns-copies es ys r at here x)
+    eqns-copies all names (named s t u y o a b es ys c qa qb r) at here d =
         let e = two u o a b in
         let p = enter_path k see (path_for ds ((y, t) ∷ []) e) at d in
         let i = sketch_expr k see p.0 a p.1 in
         let j = sketch_expr k see p.0 b i.0 in
         let z = value_of p.0 (type_two o) (operator (obc_two o) (Variable i.1 ∷ Variable j.1 ∷ [])) j.0 in
         let f = bind p.0 (see y).value (Some z.1) z.0 in
+        let based : path_of ds y ≡ [] → (p.0).clock ≡ on = λ q. ap (λ path. ((enter_path k see path at d).0).clock) q ∙ here in
         copies-two d f (sketch_eqns k see at ds es f) (y ∷ []) ys
         (copies-two d p.1 f [] (y ∷ []) (copies-none d p.1 (adds-path k see (path_for ds ((y, t) ∷ []) e) at d))
-        (copies-two p.1 i.0 f [] (y ∷ []) (quiet-copies a p.0 p.1 qa) (copies-two i.0 j.0 f [] (y ∷ []) (quiet-copies b p.0 i.0 qb) (event-copies p.0 y o i.1 j.1 j.0 c))))
-        (eqns-copies es ys r at ds f)
+        (copies-two p.1 i.0 f [] (y ∷ []) (quiet-copies a p.0 p.1 qa) (copies-two i.0 j.0 f [] (y ∷ []) (quiet-copies b p.0 i.0 qb) (event-copies p.0 y o i.1 j.1 j.0 c based))))
+        (eqns-copies es ys r at here f)
 
 -- ---- a node
 
@@ -152,21 +155,21 @@ module _ (outputs : List ℕ → List (List ℕ)) (k : Known) (knows : KnowsOutp
   abbrev sight : Block → Sight
   sight b = over (sketch_block k Body out base_site b before.1).0 out
 
-  body-copies : (b : Block) → b ≡ block ds body → Copies (sight b) before.1 (sketch_block k Body out base_site b before.1).1 ys
+  body-copies : (b : Block) → b ≡ block ds body → Copies (sight b) [] ds before.1 (sketch_block k Body out base_site b before.1).1 ys
   body-copies b e =
-      subst (λ (b : Block). Copies (sight b) before.1 (sketch_block k Body out base_site b before.1).1 ys) (sym e)
+      subst (λ (b : Block). Copies (sight b) [] ds before.1 (sketch_block k Body out base_site b before.1).1 ys) (sym e)
       (let names = each_once [] (names_of_eqns body) in
       let s = block_layer k Body out base_site ds names before.1 in
-      copies-two (over s.0 out) before.1 s.1 (sketch_eqns k (over s.0 out) base_site ds body s.1) [] ys (copies-none (over s.0 out) before.1 s.1 (layer-adds outputs k knows Body out base_site ds names before.1))
-      (eqns-copies (over s.0 out) outputs k knows body ys is_named base_site ds s.1))
+      copies-two (over s.0 out) [] ds before.1 s.1 (sketch_eqns k (over s.0 out) base_site ds body s.1) [] ys (copies-none (over s.0 out) [] ds before.1 s.1 (layer-adds outputs k knows Body out base_site ds names before.1))
+      (eqns-copies (over s.0 out) [] ds outputs k knows body ys is_named base_site refl s.1))
 
-  node-copies : n.body ≡ block ds body → Copies (sight n.body) nothing_made (sketch_node k n) ys
+  node-copies : n.body ≡ block ds body → Copies (sight n.body) [] ds nothing_made (sketch_node k n) ys
   node-copies e =
       let a = signed k n.inputs (no_entry, nothing_made) in
       let b = signed k (controls_of n.contract) a in
       let c = signed k n.outputs b in
-      copies-two (sight n.body) nothing_made before.1 (sketch_node k n) [] ys
-      (copies-none (sight n.body) nothing_made before.1
+      copies-two (sight n.body) [] ds nothing_made before.1 (sketch_node k n) [] ys
+      (copies-none (sight n.body) [] ds nothing_made before.1
       (adds-more nothing_made c.1 before.1 []
       (adds-more nothing_made b.1 c.1 [] (adds-more nothing_made a.1 b.1 [] (adds-signed k n.inputs (no_entry, nothing_made)) (adds-signed k (controls_of n.contract) a)) (adds-signed k n.outputs b))
       (adds-lasts k base_site unknown n.outputs c)))
@@ -217,8 +220,13 @@ named_law outputs k n ds body ys es knows are e is_named =
     let h = node-copies outputs k knows n ds body ys is_named e in
     let see = sight outputs k knows n ds body ys is_named n.body in
     let xs = (sketch_node k n).eqns in
-    let all = subst (λ zs. Along (CopiedBy see zs) (events zs) ys) (sym h.1) h.2 in
-    events-alike (CopiedBy see xs) (IsCopied k n es) (λ e x y s c. record { target = c.0; targets = ap (λ (d : FlatEqn). d.targets) s ∙ c.1; copied = λ v u. copy-alike es xs are e x s c.0 v (c.2 v u) }) es xs ys are all
+    let all = subst (λ zs. Along (CopiedBy see [] ds zs) (events zs) ys) (sym h.1) h.2 in
+    events-alike (CopiedBy see [] ds xs) (IsCopied k n es) (λ e' x y s c. record {
+      target = c.0;
+      targets = ap (λ (d : FlatEqn). d.targets) s ∙ c.1;
+      copied = λ v u. copy-alike es xs are e' x s c.0 v (c.2 v u);
+      based = λ q. ap (λ (d : FlatEqn). d.clock) s ∙ c.3 (sym (ap (λ (b : Block). path_of (locals_of b) y) e) ∙ q);
+    }) es xs ys are all
 
 holds-in : (answers : Answers) (past : List Instant) (now : Instant) (es : List FlatEqn) (c : FlatEqn) → AllByRecursion (Holds answers past now) es → IsIn es c → Holds answers past now c
 holds-in answers past now [] c h i = absurd i

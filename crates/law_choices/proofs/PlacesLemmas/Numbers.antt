@@ -22,33 +22,37 @@ get-behind : (front : List FlatEqn) (e : FlatEqn) (es : List FlatEqn) → slice_
 get-behind [] e es = refl
 get-behind (f ∷ front) e es = get-behind front e es
 
--- behind some equations, the events have their numbers
-numbered : (front es : List FlatEqn) (ss : List Spot) → Along IsEventOf (events es) ss → Along (IsNumberOf (front ++ es)) (events_from (length front) es) ss
-numbered front [] ss h = nothing ss h
-  where
-    nothing : (ss : List Spot) → Along IsEventOf [] ss → Along (IsNumberOf (front ++ [])) [] ss
-    nothing [] h = tt
-    nothing (s ∷ ss) h = absurd h
-numbered front (e ∷ es) ss h = by (is_event e.right) ss h (λ ss h. later ss (numbered (front ++ e ∷ []) es ss h))
-  where
-    later : (ss : List Spot) → Along (IsNumberOf ((front ++ e ∷ []) ++ es)) (events_from (length (front ++ e ∷ [])) es) ss → Along (IsNumberOf (front ++ e ∷ es)) (events_from (suc (length front)) es) ss
-    later ss h =
-        let one_more : length (front ++ e ∷ []) ≡ suc (length front) = length-append front (e ∷ []) ∙ (omega arith) in
-        subst (λ all. Along (IsNumberOf all) (events_from (suc (length front)) es) ss) (append_assoc front (e ∷ []) es)
-        (subst (λ i. Along (IsNumberOf ((front ++ e ∷ []) ++ es)) (events_from i es) ss) one_more h)
+-- What is so of the events of some equations is so of the equations of their numbers.
+module _ {A : Type 0} (R : FlatEqn → A → Type 0) where
+  abbrev pub AtNumber : List FlatEqn → ℕ → A → Type 0
+  AtNumber es i x = (e : FlatEqn) × (slice_get es i ≡ Some e) × R e x
 
-    by : (b : Bool) (ss : List Spot) → Along IsEventOf (if b then e ∷ events es else events es) ss → ((ss : List Spot) → Along IsEventOf (events es) ss → Along (IsNumberOf (front ++ e ∷ es)) (events_from (suc (length front)) es) ss)
-        → Along (IsNumberOf (front ++ e ∷ es)) (if b then length front ∷ events_from (suc (length front)) es else events_from (suc (length front)) es) ss
-    by true [] h rest = absurd h
-    by true (s ∷ ss) h rest = ((e, get-behind front e es, h.0), rest ss h.1)
-    by false ss h rest = rest ss h
+  pub numbered : (front es : List FlatEqn) (xs : List A) → Along R (events es) xs → Along (AtNumber (front ++ es)) (events_from (length front) es) xs
+  numbered front [] xs h = nothing xs h
+    where
+      nothing : (xs : List A) → Along R [] xs → Along (AtNumber (front ++ [])) [] xs
+      nothing [] h = tt
+      nothing (x ∷ xs) h = absurd h
+  numbered front (e ∷ es) xs h = by (is_event e.right) xs h (λ xs h. later xs (numbered (front ++ e ∷ []) es xs h))
+    where
+      later : (xs : List A) → Along (AtNumber ((front ++ e ∷ []) ++ es)) (events_from (length (front ++ e ∷ [])) es) xs → Along (AtNumber (front ++ e ∷ es)) (events_from (suc (length front)) es) xs
+      later xs h =
+          let one_more : length (front ++ e ∷ []) ≡ suc (length front) = length-append front (e ∷ []) ∙ (omega arith) in
+          subst (λ all. Along (AtNumber all) (events_from (suc (length front)) es) xs) (append_assoc front (e ∷ []) es)
+          (subst (λ i. Along (AtNumber ((front ++ e ∷ []) ++ es)) (events_from i es) xs) one_more h)
+
+      by : (b : Bool) (xs : List A) → Along R (if b then e ∷ events es else events es) xs → ((xs : List A) → Along R (events es) xs → Along (AtNumber (front ++ e ∷ es)) (events_from (suc (length front)) es) xs)
+          → Along (AtNumber (front ++ e ∷ es)) (if b then length front ∷ events_from (suc (length front)) es else events_from (suc (length front)) es) xs
+      by true [] h rest = absurd h
+      by true (x ∷ xs) h rest = ((e, get-behind front e es, h.0), rest xs h.1)
+      by false xs h rest = rest xs h
 
 module _ (outputs : List ℕ → List (List ℕ)) (k : Known) (enums : Enumerations) (n : Node) (es : List FlatEqn) (knows : KnowsOutputs outputs k) (are : AreMadeOf k (lowered_node enums n) es) where
   abbrev ss : List Spot
   ss = spots_of_node outputs (lowered_node enums n)
 
   numbers : Along (IsNumberOf es) (events_from 0 es) ss
-  numbers = numbered [] es ss (events-are outputs k (lowered_node enums n) es knows are)
+  numbers = numbered IsEventOf [] es ss (events-are outputs k (lowered_node enums n) es knows are)
 
   nothing_left : (xs : List ℕ) (ys : List Spot) → ys ≡ [] → Along (IsNumberOf es) xs ys → xs ≡ []
   nothing_left [] ys e h = refl

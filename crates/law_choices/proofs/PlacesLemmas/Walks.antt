@@ -103,7 +103,7 @@ module _ (outputs : List ℕ → List (List ℕ)) (enums : Enumerations) where
           eqns-take es to' (declaring types ds) (f.depth + 1) (below Equations w) at,
         )
 
-    eqn-takes : (e : Eqn) → AtEqn e
+    pub eqn-takes : (e : Eqn) → AtEqn e
     eqn-takes (define s ys e) to types d w here rest = expr-takes outputs to e (below Right w) (below Right here) rest
     eqn-takes (switch s e arms) to types d w here rest =
         let P = found outputs e (below Test w) (below Test here) in

@@ -99,7 +99,7 @@ module _ (laws : NodeLaws) (types : List ObcType) (all : Callees) (observers : O
   same_watched : is.watched ≡ made
   same_watched = let w = is.is_watched in w.is
 
-  whole : IsWhole made.node machine name made.early made.late controls chosen
+  pub whole : IsWhole made.node machine name made.early made.late controls chosen
   whole = subst (λ (w : Watched). IsWhole w.node machine name w.early w.late controls chosen) same_watched is.whole
 
   -- ---- what may be asked
@@ -150,7 +150,7 @@ module _ (laws : NodeLaws) (types : List ObcType) (all : Callees) (observers : O
       (kinds-more types all survey.node.variables v.0 t controls (omega (arith, few, r, q))
       (subst (λ vs. HaveControlKinds types vs t controls) (sym u.1) (kinds-more types all c.plant.variables u.0 t controls (omega (arith, few, l)) (kinds laws types all observers node c g)))))
 
-  may : MayChoose types all (bits.keeps).clocks made.node machine name made.early made.late controls
+  pub may : MayChoose types all (bits.keeps).clocks made.node machine name made.early made.late controls
   may = record {
     controllable = can;
     asked = asked_for laws types all observers node c g;
@@ -217,7 +217,7 @@ module _ (laws : NodeLaws) (types : List ObcType) (all : Callees) (observers : O
   chosen_typed now p =
       typed_at_law types all clocks chosen now (other_based types all (seen.keeps).clocks survey.node made.node chosen machine name made.early made.late controls bits.keeps may whole) whole.ranked p
 
-  survey_typed : (now : Instant) → IsPossible types chosen now → IsTypedAt types survey.node (seen.keeps).clocks now
+  pub survey_typed : (now : Instant) → IsPossible types chosen now → IsTypedAt types survey.node (seen.keeps).clocks now
   survey_typed now p x l h =
       let m = all_variables in
       let long = length-append survey.node.variables m.0 in

@@ -77,7 +77,7 @@ flags-inputs program n early alone = flags-by early (slots_of_node program n) _ 
 
 -- ---- what is watched
 
-declared-cons : (t : ℕ) (ds : List TypeDecl) (x : List ℕ) → (u : ℕ) × (cs : List (List ℕ)) × (declared_kind t ds x ≡ Constructors u cs)
+pub declared-cons : (t : ℕ) (ds : List TypeDecl) (x : List ℕ) → (u : ℕ) × (cs : List (List ℕ)) × (declared_kind t ds x ≡ Constructors u cs)
 declared-cons t [] x = (t, [], refl)
 declared-cons t (d ∷ ds) x = by (bytes_eq d.name x) (declared-cons (suc t) ds x)
   where
@@ -98,7 +98,7 @@ one-long types decls a p (flat.Enum y) ty.Int e = absurd cc
 one-long types decls a p (flat.Enum y) (ty.Enum x) e = refl
 
 -- there are as many free variables among variables of the kinds of declarations as there are free places
-free-long : (types : List ObcType) (decls : List TypeDecl) (n : FlatNode) (ds : List Decl) (first : ℕ) (w : Place → Place) → map (variable_kind types n.variables) (range_with_len first (length ds)) ≡ kinds_of_decls decls ds
+pub free-long : (types : List ObcType) (decls : List TypeDecl) (n : FlatNode) (ds : List Decl) (first : ℕ) (w : Place → Place) → map (variable_kind types n.variables) (range_with_len first (length ds)) ≡ kinds_of_decls decls ds
     → length (flat_map (free_input n) (range_with_len first (length ds))) ≡ length (places_in_row ds w)
 free-long types decls n [] first w h = refl
 free-long types decls n (d ∷ ds) first w h =

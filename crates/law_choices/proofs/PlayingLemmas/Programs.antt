@@ -25,7 +25,7 @@ use Rattle.hp_meaning.specs.Contract.Guarantee.{Through, Typed}
 use Rattle.law_judged.specs.Named.Scoped.{EachNode}
 use Rattle.law_values.specs.Filled.Firsts.{NodeHasFirsts}
 use Rattle.law_values.proofs.FilledLemmas.Ready.{ready_firsts}
-use Rattle.hp_automata.specs.Lowering.{Enumerations, enumerations, lowered_item, lowered_program}
+use Rattle.hp_automata.specs.Lowering.{Enumerations, enumerations, lowered_item, lowered_node, lowered_program}
 use Rattle.law_automata.proofs.LowerableLemmas.Texts.{each_reverse}
 use Rattle.hp_flat.specs.Nodes.{FlatNode}
 use Rattle.law_equations.specs.Followed.Programs.{Answered, all_answers}
@@ -35,7 +35,7 @@ use Rattle.law_equations.specs.Meaning.Kinding.{Callees, kind_of_type, kinds_at,
 use Rattle.law_equations.specs.Meaning.Instants as flat
 use Rattle.law_equations.specs.Meaning.Reactions.{Answers, Reaction}
 use Rattle.hp_complete.specs.Declaring.{known_of}
-use Rattle.hp_complete.specs.Made.{AreMadeOf}
+use Rattle.hp_complete.specs.Made.{AreMadeOf, IsMadeOf as IsMadeEqns}
 use Rattle.law_games.specs.ReadyGames.Laws.{IsInOrder, Stands}
 use Rattle.law_games.proofs.GuaranteedLemmas.Apart.{ready_apart}
 use Rattle.law_games.proofs.ReadyGamesLemmas.Settled.{ready_contracts, ready_settled}
@@ -186,27 +186,37 @@ module _ (laws : GreatestLaws) (program after : List Item) (ranks : List (List �
   abbrev choices : Choices
   choices = (allowed.allowed).choices
 
-  abbrev HasOwn : Node → Type 0
+  abbrev pub HasOwn : Node → Type 0
   HasOwn n = node_among (reverse after) n.name ≡ Some n
 
   -- what is known of a node with a contract
-  record FoundMade (n : Node) : Type 0 where
-    earlier : List Item
-    stands : Stands after earlier n
-    made : Contracted
-    ground : Ground types all observers n made
-    mirrored : IsMirrored types observers after earlier n made
-    kinds : kinds_of_decls types k n.inputs ++ kinds_of_decls types k (controls_of n.contract) ≡ kinds_at types made.plant (range_with_len 0 made.plant.inputs)
-    count : length (controls_in after made.plant.name) ≡ length (controls_of n.contract)
-    controller : Answered answers all.takes made.controller
-    its : IsItsChoice answers ((callees_of after).takes made.plant.name) (length (controls_in after made.plant.name)) made.own (choices made.plant.name)
-    teller : Answered answers all.takes (telling made.chosen)
-    among : IsMadeOf after ms n made
+  pub record FoundMade (n : Node) : Type 0 where
+    pub earlier : List Item
+    pub stands : Stands after earlier n
+    pub made : Contracted
+    pub ground : Ground types all observers n made
+    pub mirrored : IsMirrored types observers after earlier n made
+    pub kinds : kinds_of_decls types k n.inputs ++ kinds_of_decls types k (controls_of n.contract) ≡ kinds_at types made.plant (range_with_len 0 made.plant.inputs)
+    pub count : length (controls_in after made.plant.name) ≡ length (controls_of n.contract)
+    pub controller : Answered answers all.takes made.controller
+    pub its : IsItsChoice answers ((callees_of after).takes made.plant.name) (length (controls_in after made.plant.name)) made.own (choices made.plant.name)
+    pub teller : Answered answers all.takes (telling made.chosen)
+    pub among : IsMadeOf after ms n made
+
+  -- and of one, and of what is made of it
+  pub record FoundOf (n : Node) (c : Contracted) : Type 0 where
+    pub ground : Ground types all observers n c
+    pub kinds : kinds_of_decls types k n.inputs ++ kinds_of_decls types k (controls_of n.contract) ≡ kinds_at types c.plant (range_with_len 0 c.plant.inputs)
+    pub count : length (controls_in after c.plant.name) ≡ length (controls_of n.contract)
+    pub controller : Answered answers all.takes c.controller
+    pub its : IsItsChoice answers ((callees_of after).takes c.plant.name) (length (controls_in after c.plant.name)) c.own (choices c.plant.name)
+    pub teller : Answered answers all.takes (telling c.chosen)
+    pub equations : IsMadeEqns k (lowered_node enums n) c.plant
 
   abbrev Found : Node → Type 0
   Found n = (n.contract ≡ None) ⊎ FoundMade n
 
-  abbrev GroundedHere : Made → Type 0
+  abbrev pub GroundedHere : Made → Type 0
   GroundedHere m = Grounded laws.turn types k enums observers all (have_bytes laws.turn program after observers ms h) h.suit h.alone (all_old laws.turn program after observers ms h) HasOwn m
 
   find : (items earlier : List Item) (made : List Made) → ((k : Node) (x : Contracted) → IsMadeOf items made k x → IsMadeOf after ms k x) → reverse after ≡ reverse items ++ earlier → AreAllMade types observers items made → AreMadeOf k (map (lowered_item enums) items) (loop.plants (loops made)) → AreMirrored types observers after earlier items made
@@ -244,9 +254,34 @@ module _ (laws : GreatestLaws) (program after : List Item) (ranks : List (List �
         find items (NodeItem n ∷ earlier) made (λ k x i. one k x (inr i)) behind is.1 of.1 mirrored.1 own.1 grounded.1 given.1.1.1 their.1,
       )
 
+  -- So it is of one of them; and what is so of all clocked equations is so of its own.
+  pub find-of : (Q : FlatNode → Type 0) (n : Node) (c : Contracted) (items : List Item) (made : List Made) → AreAllMade types observers items made → AreMadeOf k (map (lowered_item enums) items) (loop.plants (loops made)) → EachNode HasOwn items → AllByRecursion GroundedHere made
+      → AllByRecursion (Answered answers all.takes) (all_nodes made) → AreTheirChoices answers (callees_of after).takes (controls_in after) choices (loops made) → AllByRecursion Q (loop.plants (loops made)) → IsMadeOf items made n c → FoundOf n c × Q c.plant
+  find-of Q n c [] made is of own grounded given their qs among = absurd among
+  find-of Q n c (TypeItem t ∷ items) made is of own grounded given their qs among = find-of Q n c items made is of own grounded given their qs among
+  find-of Q n c (NodeItem m ∷ items) [] is of own grounded given their qs among = absurd among
+  find-of Q n c (NodeItem m ∷ items) (plain f ∷ made) is of own grounded given their qs (inl e) = absurd (let q : plain f ≡ contracted c = e.1 in cc)
+  find-of Q n c (NodeItem m ∷ items) (plain f ∷ made) is of own grounded given their qs (inr among) = find-of Q n c items made is.1 of.1 own.1 grounded.1 given.1 their.1 qs.1 among
+  find-of Q n c (NodeItem m ∷ items) (contracted d ∷ made) is of own grounded given their qs (inl e) =
+      let it = grounded.0 in
+      let named : (it.0).name ≡ m.name = sym (it.1).named ∙ (of.0).name in
+      let node : it.0 ≡ m = let both : Some it.0 ≡ Some m = sym it.5 ∙ ap (node_among (reverse after)) named ∙ own.0 in cc in
+      let same : d ≡ c = let q : contracted d ≡ contracted c = e.1 in cc in
+      let found : FoundOf m d = record {
+        ground = subst (λ z. Ground types all observers z d) node it.1;
+        kinds = subst (λ (z : Node). kinds_of_decls types k z.inputs ++ kinds_of_decls types k (controls_of z.contract) ≡ kinds_at types d.plant (range_with_len 0 d.plant.inputs)) node it.3;
+        count = subst (λ (z : Node). length (controls_in after d.plant.name) ≡ length (controls_of z.contract)) node it.4;
+        controller = given.0;
+        its = their.0;
+        teller = given.1.1.0;
+        equations = of.0;
+      } in
+      (subst (λ z. FoundOf z c) e.0 (subst (FoundOf m) same found), subst (λ (z : Contracted). Q z.plant) same qs.0)
+  find-of Q n c (NodeItem m ∷ items) (contracted d ∷ made) is of own grounded given their qs (inr among) = find-of Q n c items made is.1 of.1 own.1 grounded.1 given.1.1.1 their.1 qs.1 among
+
   -- ---- a node
 
-  differ : ConstructorsDiffer decls
+  pub differ : ConstructorsDiffer decls
   differ = subst ConstructorsDiffer (types_low enums after) (differ_law program after h.ready)
 
   values : EachNode (ChoosesValues decls choices) (reverse after)
@@ -281,7 +316,7 @@ module _ (laws : GreatestLaws) (program after : List Item) (ranks : List (List �
     controls-long : length (kinds_of_decls types k (controls_of n.contract)) ≡ length (controls_of n.contract)
     controls-long = length-map (controls_of n.contract) (λ (d : Decl). kind_of_type types (flat_type k.types d.ty))
 
-    kinds-in : kinds_at types c.plant (range_with_len 0 (length n.inputs)) ≡ timely.kinds_of_decls decls n.inputs
+    pub kinds-in : kinds_at types c.plant (range_with_len 0 (length n.inputs)) ≡ timely.kinds_of_decls decls n.inputs
     kinds-in =
         ap (λ i. kinds_at types c.plant (range_with_len 0 i)) (sym inputs-long)
         ∙ front-row (variable_kind types c.plant.variables) 0 c.plant.inputs (kinds_of_decls types k n.inputs) (kinds_of_decls types k (controls_of n.contract)) found.kinds
@@ -297,7 +332,7 @@ module _ (laws : GreatestLaws) (program after : List Item) (ranks : List (List �
     own-values : ChoosesValues decls choices n
     own-values = each_found (ChoosesValues decls choices) (reverse after) n.name n values own
 
-    its-choice : IsItsChoice answers (timely.kinds_of_decls decls n.inputs) (length (mirror.is).controls) c.chosen.node (choices n.name)
+    pub its-choice : IsItsChoice answers (timely.kinds_of_decls decls n.inputs) (length (mirror.is).controls) c.chosen.node (choices n.name)
     its-choice =
         by (mirror.is).controls refl (mirror.is).own
         (subst (λ f. IsItsChoice answers (timely.kinds_of_decls decls n.inputs) (length (mirror.is).controls) c.own (choices f)) g.named
@@ -321,7 +356,7 @@ module _ (laws : GreatestLaws) (program after : List Item) (ranks : List (List �
     gives : GivesAnswers answers all.takes c.controller
     gives args earlier a b = let y = found.controller args earlier a b in record { now = y.now; past = y.past; reaction = y.reaction; answer = y.answer }
 
-    apart-here : NamesApart (reverse after)
+    pub apart-here : NamesApart (reverse after)
     apart-here = ready_apart program after h.ready
 
     known-here : KnownNode types all observers after found.earlier n c g
@@ -343,7 +378,7 @@ module _ (laws : GreatestLaws) (program after : List Item) (ranks : List (List �
           quiet = ready_contracts program after h.ready order.conditions;
         }
 
-    typed-here : (rows : List (List Value)) (past : Past) → AllByRecursion (AreOf decls n.inputs) rows → Runs choices decls found.earlier n rows past → Through (λ older now. Typed after n now) past
+    pub typed-here : (rows : List (List Value)) (past : Past) → AllByRecursion (AreOf decls n.inputs) rows → Runs choices decls found.earlier n rows past → Through (λ older now. Typed after n now) past
     typed-here =
         let settled = ready_settled program after ranks order found.earlier n found.stands in
         let s = settled.1 in
@@ -421,14 +456,14 @@ module _ (laws : GreatestLaws) (program after : List Item) (ranks : List (List �
         seen-before laws.choice program after ranks order found.earlier n found.stands types all observers c g known-here choices own-values answers gives its-choice typed-here (allowed.one).typed row rs now p k s)
         (λ row rs now p k r s.
         node-seen-tells laws.choice program after ranks order found.earlier n found.stands types all observers c g known-here choices own-values answers gives its-choice typed-here owe gates
-        (allowed.one).typed none mirror.assume mirror.enforce (mirror.told none) mirror.assume_copied mirror.enforce_copied row rs now p k r s) rows past kinds (runs-here rows past reaction) (sees found.earlier c mirror found.among)
+        (allowed.one).typed none mirror.assume mirror.enforce (mirror.told none) mirror.assume_copied mirror.enforce_copied row rs now p k r s) rows past kinds (runs-here rows past reaction) (sees found.earlier found.stands c mirror found.among)
 
     -- so it is where the equations hold values of the reaction
     seen-of : (rows : List (List Value)) (past : Past) → AllByRecursion (AreOfKinds (timely.kinds_of_decls decls n.inputs)) rows → ChosenReaction choices after n.name rows past → SeesOwn types observers after ms n answers rows past
         → Through (ChoosesGreatest after n) past
     seen-of rows past kinds reaction sees =
         node-seen laws.choice program after ranks order found.earlier n found.stands types all observers c g known-here choices own-values answers gives its-choice typed-here
-        (allowed.one).typed rows past kinds (runs-of choices after found.earlier n found.stands apart-here rows _ past reaction) (sees found.earlier c mirror found.among)
+        (allowed.one).typed rows past kinds (runs-of choices after found.earlier n found.stands apart-here rows _ past reaction) (sees found.earlier found.stands c mirror found.among)
 
 pub greatest_law : GreatestLaws → GreatestLaw
 greatest_law laws program after ranks observers ms order h mirrored allowed f n inputs past e knows kinds reaction =

@@ -25,7 +25,7 @@ use Rattle.law_choices.proofs.ClosedLemmas.ClosedLaws.{each_other}
 use Rattle.law_choices.proofs.ClosedLemmas.Clocking.{is_there_on, kind_of}
 
 -- no inputs are added to rows
-no-more : (answers : Answers) (n : FlatNode) (from : ℕ) (rows : List (List Value)) (instants : List Instant) → Reaction answers n rows instants → rows_with from 0 rows instants ≡ rows
+pub no-more : (answers : Answers) (n : FlatNode) (from : ℕ) (rows : List (List Value)) (instants : List Instant) → Reaction answers n rows instants → rows_with from 0 rows instants ≡ rows
 no-more answers n from [] [] r = refl
 no-more answers n from [] (now ∷ past) r = absurd r
 no-more answers n from (row ∷ rows) [] r = absurd r

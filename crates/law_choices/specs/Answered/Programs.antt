@@ -57,9 +57,11 @@ AllowedLaw =
     → (fs : List FlatNode) → AreMadeOf (known_of (lowered_program after)) (lowered_program after) fs → (choices : Choices) → AlwaysOfKinds after choices
     → (answers : Answers) → AllByRecursion (GivesAnswers choices answers (callees_of after).takes) fs → AreAllowed after choices answers
 
--- The answers are allowed, and what is chosen are the values that the controllable variables have in the closed nodes.
+-- The answers are allowed, and what is chosen are the values that the controllable variables have in the closed nodes: values of their kinds, under which the plants give these answers.
 pub record AnswersAllowed (after : List Item) (answers : Answers) (ls : List Loop) : Type 0 where
   pub choices : Choices
+  pub typed : AlwaysOfKinds after choices
+  pub gives : AllByRecursion (GivesAnswers choices answers (callees_of after).takes) (plants ls)
   pub theirs : AreTheirChoices answers (callees_of after).takes (controls_in after) choices ls
   pub allowed : AreAllowed after choices answers
 

@@ -11,7 +11,8 @@ use Rattle.hp_flat.specs.declared.equation.Atom.TheVariants.{Variable}
 use Rattle.hp_flat.specs.Equations.{FlatEqn}
 use Rattle.law_automata.specs.Lowered.Standing.{Along}
 use Rattle.law_equations.specs.Flattened.Flatten.{Prefix}
-use Rattle.law_equations.specs.Made.Making.{Known, copy_of}
+use Rattle.law_equations.specs.Made.Blocks.{locals_of}
+use Rattle.law_equations.specs.Made.Making.{Known, copy_of, path_of}
 use Rattle.law_equations.specs.Meaning.Instants.{Instant, holds}
 use Rattle.law_equations.specs.Meaning.Reactions.{Answers, Holds}
 use Rattle.hp_watch.specs.Walk.{compares}
@@ -51,11 +52,12 @@ pub record HasCopy (es : List FlatEqn) (e : FlatEqn) (target variable : ℕ) : T
   pub restart : copy.restart ≡ e.restart
   pub right : copy.right ≡ copy_of (Variable target)
 
--- An event has one target, which is copied to the variable of a name of the body.
+-- An event has one target, which is copied to the variable of a name of the body. If the name is on the base clock, so is the event.
 pub record IsCopied (k : Known) (n : Node) (es : List FlatEqn) (e : FlatEqn) (y : List ℕ) : Type 0 where
   pub target : ℕ
   pub targets : e.targets ≡ target ∷ []
   pub copied : (x : ℕ) → variable_of k n y ≡ Some x → HasCopy es e target x
+  pub based : path_of (locals_of n.body) y ≡ [] → e.clock ≡ []
 
 -- So it is of the events that are made of a node whose comparisons have names, in turn.
 abbrev pub NamedLaw : Type 0

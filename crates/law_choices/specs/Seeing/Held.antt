@@ -16,6 +16,7 @@ use Rattle.hp_meaning.specs.Contract.Slots.{Slot, register, free, input, control
 use Rattle.law_equations.specs.Meaning.Instants as flat
 use Rattle.law_equations.specs.Meaning.Reactions.{Answers, Reaction}
 use Rattle.law_games.specs.Mirror.Memories.{SlotsFit}
+use Rattle.law_games.specs.ReadyGames.Laws.{Stands}
 use Rattle.law_games.specs.Mirror.Mirrored.{codes_at, early_among, given_with, late_among}
 use Rattle.hp_watch.specs.declared.watching.Free.{Free}
 use Rattle.hp_watch.specs.Watching.{Observing, Surveyed, surveyed, walked}
@@ -67,5 +68,5 @@ survey_of types observers n c is = let fits = (is.is_watched).fits in surveyed o
 -- In each reaction of the equations that choose, over some inputs, they hold so the values of a reaction of the node.
 abbrev pub SeesOwn : List ObcType → Observing → List Item → List Made → Node → Answers → List (List Value) → Past → Type 0
 SeesOwn types observers program ms n answers rows past =
-    (earlier : List Item) (c : Contracted) (x : IsMirrored types observers program earlier n c) → IsMadeOf program ms n c → (instants : List flat.Instant) → Reaction answers c.chosen.node rows instants
+    (earlier : List Item) → Stands program earlier n → (c : Contracted) (x : IsMirrored types observers program earlier n c) → IsMadeOf program ms n c → (instants : List flat.Instant) → Reaction answers c.chosen.node rows instants
     → HoldThroughout types program n (survey_of types observers n c x.is) instants past

@@ -18,5 +18,8 @@ returns c =
       instances = c.instances_react_as_callees.ensures;
       tells = c.a_node_tells_each_contract.ensures;
       told = c.contracts_are_told.ensures;
+      compares = c.named_comparisons_are_seen.ensures;
+      seen = c.nodes_that_see_values_choose_the_greatest.ensures.greatest;
+      seen_told = c.contracts_that_are_seen_are_told.ensures;
     })
     c.machines_say_what_is_allowed.ensures c.programs_of_texts_may_choose.ensures.sign order.order c.contracts_of_texts_can_be_observed.ensures

@@ -12,7 +12,7 @@ use Rattle.hp_flat.specs.Nodes.{FlatNode}
 use Rattle.law_equations.specs.Meaning.Instants.{Instant}
 use Rattle.law_equations.specs.Meaning.Reactions.{Answers, Reaction, outputs_at}
 use Rattle.law_equations.specs.Meaning.Fitting.{Fits}
-use Rattle.hp_schedule.specs.Order.{IsInOrder}
+use Rattle.law_equations.specs.Meaning.Scheduling.{IsInOrder}
 use Rattle.hp_normal.specs.Retargeting.{with_eqns, retargeted}
 use Rattle.hp_normal.specs.Substituting.{substituted}
 use Rattle.hp_normal.specs.Normal.{normal}

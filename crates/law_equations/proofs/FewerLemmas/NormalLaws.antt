@@ -9,8 +9,7 @@ use Rattle.hp_flat.specs.Equations.{FlatEqn}
 use Rattle.hp_flat.specs.Nodes.{FlatNode}
 use Rattle.law_equations.specs.Meaning.Reactions.{has, inputs_of}
 use Rattle.law_equations.specs.Meaning.Fitting.{Fits}
-use Rattle.law_equations.specs.Meaning.Scheduling.{reads, IsDefinedBelow, IsRanked, EqnWithin}
-use Rattle.hp_schedule.specs.Order.{IsInOrder}
+use Rattle.law_equations.specs.Meaning.Scheduling.{IsInOrder, reads, IsDefinedBelow, IsRanked, EqnWithin}
 use Rattle.hp_normal.specs.Reading.{copy_of}
 use Rattle.hp_normal.specs.Retargeting.{ends, is_moved, with_targets, with_eqns, retargeted}
 use Rattle.hp_normal.specs.Substituting.{meanings, is_replaced, read_eqn, substituted}

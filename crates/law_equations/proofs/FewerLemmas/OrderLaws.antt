@@ -12,8 +12,7 @@ use Rattle.hp_flat.specs.Nodes.{FlatNode}
 use Rattle.law_equations.specs.Meaning.Instants.{Instant, holds}
 use Rattle.law_equations.specs.Meaning.Reactions.{Answers, has, is_set, Holds, Continues, Reaction}
 use Rattle.law_equations.specs.Meaning.Fitting.{EqnFits, Fits}
-use Rattle.law_equations.specs.Meaning.Scheduling.{reads, IsUndefined, IsScheduled, IsDefinedBelow, IsRanked}
-use Rattle.hp_schedule.specs.Order.{IsInOrder}
+use Rattle.law_equations.specs.Meaning.Scheduling.{IsInOrder, reads, IsUndefined, IsScheduled, IsDefinedBelow, IsRanked}
 use Rattle.hp_normal.specs.Retargeting.{with_eqns}
 use Rattle.law_equations.specs.Fewer.Keeping.{OrderLaw, IsReordered, ReorderedLaw}
 use Rattle.law_equations.proofs.FewerLemmas.Members.{each_map, each_both}

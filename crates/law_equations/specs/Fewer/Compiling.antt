@@ -14,9 +14,8 @@ use Rattle.hp_flat.specs.declared.node.Variable.{Variable}
 use Rattle.hp_flat.specs.Equations.{FlatEqn}
 use Rattle.hp_flat.specs.Nodes.{FlatNode}
 use Rattle.law_equations.specs.Meaning.Reactions.{Answers}
-use Rattle.law_equations.specs.Meaning.Scheduling.{IsRanked, IsWithin, DefinesNoInput}
+use Rattle.law_equations.specs.Meaning.Scheduling.{IsInOrder, IsRanked, IsWithin, DefinesNoInput}
 use Rattle.law_equations.specs.Meaning.Kinding.{Callees, EqnKinds}
-use Rattle.hp_schedule.specs.Order.{IsInOrder}
 use Rattle.hp_normal.specs.Reading.{copy_of}
 use Rattle.hp_normal.specs.Retargeting.{with_eqns}
 use Rattle.hp_normal.specs.Normal.{normal}

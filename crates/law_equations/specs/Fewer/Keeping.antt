@@ -10,8 +10,7 @@ use Rattle.hp_flat.specs.Nodes.{FlatNode}
 use Rattle.law_equations.specs.Meaning.Instants.{Instant}
 use Rattle.law_equations.specs.Meaning.Reactions.{Answers, Reaction, outputs_at}
 use Rattle.law_equations.specs.Meaning.Fitting.{Fits}
-use Rattle.law_equations.specs.Meaning.Scheduling.{IsRanked, IsScheduled, IsWithin, DefinesNoInput}
-use Rattle.hp_schedule.specs.Order.{IsInOrder}
+use Rattle.law_equations.specs.Meaning.Scheduling.{IsInOrder, IsRanked, IsScheduled, IsWithin, DefinesNoInput}
 use Rattle.hp_normal.specs.Normal.{normal}
 
 -- There is a reaction of a node over the same inputs, in which clocks fit, with the same outputs.

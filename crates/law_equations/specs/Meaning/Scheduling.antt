@@ -1,6 +1,7 @@
 -- Clocked equations in an order in which they can be done one after the other.
 use Rattle.std.specs.Prelude.{◌≡◌, ◌<◌, ◌≤◌, ℕ, true, false, List, [], ◌∷◌, ◌++◌, length, map}
 use Rattle.std.specs.List.{AllByRecursion, flat_map}
+use Rattle.std.specs.List.Sorted.{IsNonDecreasingBy}
 use Rattle.hp_flat.specs.Equations.{Clock, Right, operator, register, called, FlatEqn}
 use Rattle.hp_flat.specs.Nodes.{FlatNode}
 use Rattle.law_equations.specs.Meaning.Reactions.{has}
@@ -28,7 +29,11 @@ abbrev pub IsScheduled : List FlatEqn → Type 0
 IsScheduled [] = Unit {0}
 IsScheduled (e ∷ es) = AllByRecursion (IsUndefined (e ∷ es)) (reads e) × IsScheduled es
 
--- ---- ranks
+-- ---- places and ranks
+
+-- No equation has a lesser place than one before it.
+abbrev pub IsInOrder : List FlatEqn → Type 0
+IsInOrder es = IsNonDecreasingBy (λ (e : FlatEqn). e.at) es
 
 -- the equations that define a variable have less rank than an equation
 abbrev pub IsDefinedBelow : List FlatEqn → FlatEqn → ℕ → Type 0

@@ -12,9 +12,9 @@ use Rattle.hp_obc.specs.Machines.{ObcType, Machine}
 use Rattle.hp_obc.specs.Steps.{Names, machine_behaviour, run}
 use Rattle.hp_form.specs.Regular.Regular.{IsRegular}
 use Rattle.hp_normal.specs.Retargeting.{with_eqns}
-use Rattle.hp_order.proofs.PlacedLaws.{Placed, placed-back, ranked-moved, form-alike, calls-alike, answered-alike}
-use Rattle.hp_order.proofs.ReadLaws.{reads-within}
-use Rattle.hp_order.proofs.UniqueLaws.{ranked-by_clock}
+use Rattle.hp_schedule.proofs.PlacedLaws.{Placed, placed-back, ranked-moved, form-alike, calls-alike, answered-alike}
+use Rattle.hp_schedule.proofs.ReadLaws.{reads-within}
+use Rattle.hp_schedule.proofs.UniqueLaws.{ranked-by_clock}
 use Rattle.law_equations.specs.Meaning.Reactions.{Answers}
 use Rattle.law_equations.specs.Meaning.Scheduling.{AreBelow, EqnWithin, reads, IsRanked}
 use Rattle.law_equations.specs.Followed.Programs.{Answered, CallsOnly, file_of, all_answers}

@@ -19,10 +19,10 @@ use Rattle.law_equations.specs.Shaped.Shaped.{AreApart, AreShaped, DefineApart, 
 use Rattle.law_equations.proofs.FewerLemmas.Members.{each_map}
 use Rattle.law_equations.proofs.FewerLemmas.OrderLaws.{each_moved}
 use Rattle.hp_complete.specs.Made.{AreMadeOf}
-use Rattle.hp_order.specs.ByClock.{IsByClock, numbered}
-use Rattle.hp_order.proofs.PlacedLaws.{all-alike, calls-alike, same-count, within-alike}
-use Rattle.hp_order.proofs.ReadLaws.{reads-within}
-use Rattle.hp_order.proofs.UniqueLaws.{ranked-by_clock}
+use Rattle.hp_schedule.specs.ByClock.{IsByClock, numbered}
+use Rattle.hp_schedule.proofs.PlacedLaws.{all-alike, calls-alike, same-count, within-alike}
+use Rattle.hp_schedule.proofs.ReadLaws.{reads-within}
+use Rattle.hp_schedule.proofs.UniqueLaws.{ranked-by_clock}
 use Rattle.hp_machines.specs.Making.{AreMade, IsMachineOf, defines_some, giving}
 use Rattle.law_history.proofs.StreamsLemmas.MadeMachines.{placed_of, placed_node, placed_nodes, placed_ranked}
 

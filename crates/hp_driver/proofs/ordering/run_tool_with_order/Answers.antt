@@ -17,5 +17,5 @@ returns-in_default-from_array g c = numbered c.code-in_default-from_array.ensure
 
 pub returns : goal.returns
 returns g c =
-    let done = c.run_tool_with.ensures in
+    let done = c.run_tool.ensures in
     record { outcome = done.outcome; leaves = done.leaves; readings = done.readings; reads = (done.read_fault, done.no_read_fault); writes = (done.write_fault, done.no_write_fault) }

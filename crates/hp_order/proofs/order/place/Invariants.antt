@@ -1,6 +1,0 @@
-use Rattle.std.proofs.Common.{◌≡◌, map}
-use Rattle.hp_order.specs.ByClock.{numbered}
-use Rattle.hp_order.proofs.order.place.Given as goal
-
-abbrev pub invariant-loop-one : goal.invariant-loop-one
-invariant-loop-one l = l.placed.items ≡ numbered 0 (map (λ w. w.eqn) l.yielded)

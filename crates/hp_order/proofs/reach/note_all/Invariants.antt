@@ -1,6 +1,0 @@
-use Rattle.std.proofs.Common.{◌≡◌, drop}
-use Rattle.hp_order.specs.Reaching.{noted_all}
-use Rattle.hp_order.proofs.reach.note_all.Given as goal
-
-abbrev pub invariant-loop-variable : goal.invariant-loop-variable
-invariant-loop-variable l = noted_all l.weight (drop l.variable-index l.variables) l.table ≡ noted_all l.weight l.variables l.initial.table

@@ -1,4 +1,0 @@
-pub mod ByClock
-pub mod Reaching
-pub mod Laws
-pub mod Turning
