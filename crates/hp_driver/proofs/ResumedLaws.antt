@@ -31,7 +31,7 @@ use Rattle.hp_driver.specs.Answers.{IsAnswer}
 use Rattle.hp_driver.specs.Checkpoints.{IsCheckpointOf}
 use Rattle.hp_driver.specs.Controls.{has_controls}
 use Rattle.hp_driver.specs.Given.{Gives}
-use Rattle.hp_driver.specs.Joined.{AreGoodLines, IsOneRun, IsResumed, ResumedLaw, TakenAgainLaw, memory_past}
+use Rattle.hp_driver.specs.Joined.{AreGoodLines, IsOneRun, ResumedLaw, TakenAgainLaw, memory_past}
 use Rattle.hp_driver.specs.Lines.{lines_of}
 use Rattle.hp_driver.specs.Log.{heard, said}
 use Rattle.hp_driver.specs.Outcome.{AreChosen, AreCompiled, IsHeld}

@@ -40,5 +40,5 @@ pub mod CalledLaws
 pub mod WholeLaws
 mod FlatKinds
 pub mod KindedLaws
-pub mod InKind
+mod InKind
 mod UnchangedLaws

@@ -1,9 +1,7 @@
 -- The machines of two controllers of one machine do the same: they give the choice, which is one, and keep nothing.
-use Rattle.std.proofs.Common.{◌≡◌, ◌≢◌, ℕ, zero, suc, ◌+◌, ◌<◌, ◌≤◌, Bool, true, false, List, [], ◌∷◌, ◌++◌, ◌⊎◌, inl, inr, length, map, take, drop, filter, cond, reverse, get_or, Option, None, Some, refl, sym, ap, ap₂, subst, ◌∙◌, if◌then◌else◌, arith}
+use Rattle.std.proofs.Common.{◌≡◌, ◌≢◌, ℕ, zero, suc, ◌+◌, ◌<◌, ◌≤◌, Bool, true, false, List, [], ◌∷◌, ◌++◌, ◌⊎◌, inl, inr, length, map, take, drop, filter, cond, get_or, refl, sym, ap, ap₂, subst, ◌∙◌, if◌then◌else◌, arith}
 use Rattle.std.specs.Prelude.{not, unwrap_or}
 use Rattle.std.specs.List.{AllByRecursion, range_with_len}
-use Rattle.std.specs.List.Sorted.{IsPermutation}
-use Rattle.std.specs.Str.{bytes_eq}
 use Rattle.std.proofs.lemmas.List.{length-append, length-drop, length-map, length-take-le, take-append-drop}
 use Rattle.std.proofs.lemmas.List.FromFn.{length-range_with_len}
 use Rattle.std.proofs.lemmas.Slice.Eq.{bytes_eq-Decides}
@@ -15,13 +13,12 @@ use Rattle.hp_boolx.specs.Machine.{Machine as BoolMachine, game}
 use Rattle.hp_boolx.specs.Search.{Bits}
 use Rattle.hp_boolx.specs.Solved.{IsChoice}
 use Rattle.hp_obc.specs.Form.{TypesForm, mem_vars}
-use Rattle.hp_obc.specs.Kinded.{HasKinds, HaveKinds, MemoryKinds, inner_kinds, kinds_in, kinds_of_kept, memory_kinds, no_kinds}
+use Rattle.hp_obc.specs.Kinded.{HasKinds, MemoryKinds, inner_kinds, kinds_in, kinds_of_kept, memory_kinds, no_kinds}
 use Rattle.hp_obc.specs.Machines.{Machine, ObcType}
-use Rattle.hp_obc.specs.Steps.{Behaviour, Known, Memory, Names, Stepped, after, before, behaviour, empty, inst_names, machine_behaviour, mem_names, memories_of, memory, more_memories, no_memory, of_instance, run, stepped_to, unknown}
+use Rattle.hp_obc.specs.Steps.{Behaviour, Known, Memory, Names, after, before, behaviour, empty, inst_names, machine_behaviour, mem_names, memories_of, memory, more_memories, no_memory, of_instance, run, stepped_to, unknown}
 use Rattle.hp_obc.specs.Values.{constant_of, kind_of, or_absent}
 use Rattle.hp_obc.specs.declared.machine.Mem.{Mem}
 use Rattle.hp_obc.specs.declared.machine.Var.{Var}
-use Rattle.hp_exec.specs.Hooked.{AgreeInKind}
 use Rattle.hp_flat.specs.declared.node.FlatTy.{FlatTy}
 use Rattle.hp_flat.specs.declared.node.FlatTy.TheVariants as ty
 use Rattle.hp_flat.specs.declared.node.Variable.{Variable}
@@ -34,17 +31,18 @@ use Rattle.hp_normal.specs.Substituting.{Meanings, is_replaced, meanings, read_e
 use Rattle.hp_flat.specs.declared.equation.Atom.TheVariants.{Variable as Read}
 use Rattle.hp_toobc.specs.Making.{declared, inst_of, insts, machine_of, mem_of, mems}
 use Rattle.hp_toobc.specs.Tables.{type_of}
-use Rattle.hp_machines.specs.Making.{AreMade, IsMachineOf, defines_some, giving}
+use Rattle.hp_machines.specs.Making.{IsMachineOf, defines_some, giving}
 use Rattle.law_equations.specs.Followed.Premises.{OwnNamesLaw}
-use Rattle.law_equations.specs.Followed.Programs.{CallsAmong, CallsOnly, all_answers, file_of}
+use Rattle.law_equations.specs.Followed.Programs.{CallsAmong, CallsOnly, file_of}
 use Rattle.law_equations.specs.Made.Laws.{unplaced}
 use Rattle.law_equations.specs.Meaning.Kinding.{Callees, kinds_at, kind_of_type, variable_kind}
-use Rattle.law_equations.specs.Meaning.Reactions.{Answers, inputs_of, outputs_at}
+use Rattle.law_equations.specs.Meaning.Reactions.{inputs_of}
 use Rattle.law_equations.specs.Meaning.Scheduling.{AreBelow}
 use Rattle.law_equations.proofs.FewerLemmas.OrderLaws.{each_moved}
 use Rattle.hp_controller.specs.Controlling.{IsController, IsOperator}
 use Rattle.law_choices.specs.OnClocks.Meaning.{AreInTurn, HasOneMeaning, HasSome, MeaningLaw}
-use Rattle.law_controlled.specs.Machines.{AnswerAsWhole, HasShape, IsMadeFrom, IsWritable, TurnMachinesLaw}
+use Rattle.law_controlled.specs.Alike.{DoTheSame}
+use Rattle.law_controlled.specs.Machines.{AnswerAsWhole, IsWritable, TurnMachinesLaw}
 use Rattle.law_controlled.specs.Machines.IsMadeFrom.{itself}
 use Rattle.law_controlled.proofs.MadeNamesLaws.{controller_names}
 
@@ -362,7 +360,7 @@ module _ (l : ControlLaws) (types : List ObcType) (form : TypesForm types) (bm :
       let same : there.0 ≡ here.0 = one_preferred (game bm).prefer (Permitted (game bm) r u) there.0 here.0 there.1 here.1 in
       subst (λ (bs : Bits). ((behaviour types others o).step empty (bits_row bs)).outputs ≡ ((behaviour types known m).step empty (bits_row bs)).outputs) (take-append-drop bm.registers bits) (there.2 ∙ ap bits_row same ∙ sym here.2)
 
-  pub controllers_agree : (known others : Known) (keeps : Names MemoryKinds) → AgreeInKind (kinds_in types m.inputs) (kinds_of_kept types keeps m) (behaviour types others o) (behaviour types known m)
+  pub controllers_agree : (known others : Known) (keeps : Names MemoryKinds) → DoTheSame (kinds_in types m.inputs) (kinds_of_kept types keeps m) (behaviour types others o) (behaviour types known m)
   controllers_agree known others keeps =
       let none = mems_none l types form bm n first m made in
       let alone = insts_none l types form bm n first m made in

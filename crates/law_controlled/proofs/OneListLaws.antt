@@ -1,7 +1,7 @@
 -- A program whose nodes choose has one list of machines, but for the commands of controllers.
-use Rattle.std.proofs.Common.{◌≡◌, ℕ, false, List, [], ◌∷◌, map, sym, ap, subst, ◌∙◌}
+use Rattle.std.proofs.Common.{◌≡◌, ℕ, false, List, [], ◌∷◌, sym, ap, subst, ◌∙◌}
 use Rattle.std.specs.List.{AllByRecursion}
-use Rattle.hp_obc.specs.Form.{MachinesForm, TypesForm}
+use Rattle.hp_obc.specs.Form.{TypesForm}
 use Rattle.hp_obc.specs.Machines.{Machine, Obc, ObcType}
 use Rattle.hp_tree.specs.declared.program.Item.{Item}
 use Rattle.hp_tree.specs.Meaning.{types_of}
@@ -14,7 +14,6 @@ use Rattle.hp_complete.specs.Made.{AreMadeOf}
 use Rattle.hp_flat.specs.Nodes.{FlatNode}
 use Rattle.hp_form.specs.Regular.Regular.{RegularLaw}
 use Rattle.hp_machines.specs.Making.{AreMade}
-use Rattle.hp_machines.proofs.OneLaws.{one_within}
 use Rattle.hp_watch.specs.Observing as observing
 use Rattle.law_automata.specs.Lowered.Removable.{IsRemovable}
 use Rattle.law_choices.specs.InTurn.Laws as turn
@@ -25,7 +24,6 @@ use Rattle.law_choices.specs.Observed.Texts.{ObservableTextsLaw}
 use Rattle.law_choices.specs.InTurn.Texts.{SignLaw}
 use Rattle.law_choices.proofs.OnClocksLemmas.Texts.{when_accepted}
 use Rattle.law_equations.specs.Made.Types.{obc_types, obc_types_of}
-use Rattle.law_equations.specs.Meaning.Scheduling.{IsWithin}
 use Rattle.law_games.specs.ReadyGames.Laws.{IsInOrder, ReadyContractsLaw, TextOrderLaw}
 use Rattle.law_history.proofs.StreamsLemmas.MadeMachines.{have_few}
 use Rattle.law_judged.specs.Named.Scoped.{EachNode}
@@ -35,7 +33,7 @@ use Rattle.hp_controlled.specs.Compiled.{AreNodes, contracts_of, names_with_cont
 use Rattle.law_controlled.specs.Alike.{AreAlike, AreNearly, AreOneList, IsAlike, IsNearly}
 use Rattle.law_controlled.specs.Alike.IsAlike.{the_same, both_control}
 use Rattle.law_controlled.specs.Alike.IsNearly.{one, control}
-use Rattle.law_controlled.specs.Machines.{AreMadeFrom, AreShapedInTurn, HasShape, IsWritable}
+use Rattle.law_controlled.specs.Machines.{AreMadeFrom, AreShapedInTurn, HasShape}
 use Rattle.law_controlled.specs.Observers.{ObserversSuitLaw}
 use Rattle.law_controlled.specs.One.{AreOne, OneListLaw, OneTextListLaw}
 use Rattle.law_controlled.specs.Program.{MadeNamesLaw, MadeNodesLaw}
@@ -44,6 +42,7 @@ use Rattle.law_controlled.proofs.AllowedLaws.{writable}
 use Rattle.law_controlled.proofs.BareLaws.{bare_observing}
 use Rattle.law_controlled.proofs.ControlLaws.{ControlLaws}
 use Rattle.law_controlled.proofs.MachineLaws.{PartLaws, one_shaped, shaped_in_turn}
+use Rattle.law_controlled.proofs.MadeOnceLaws.{one_within}
 use Rattle.law_controlled.proofs.NearlyLaws.{nearly_one}
 
 -- ---- machines that are made

@@ -25,10 +25,10 @@ use law_choices::in_turn::{
     observers_of_contracts_suit, programs_of_texts_may_choose, well_built_observers_suit,
 };
 use law_choices::instances::instances_react_as_callees;
-use law_choices::on_clocks::programs_have_one_meaning;
 use law_choices::observed::{
     contracts_of_texts_can_be_observed, observers_can_be_compiled, tests_of_observers_are_typed,
 };
+use law_choices::on_clocks::programs_have_one_meaning;
 use law_choices::part::{parts_keep_form, parts_keep_reactions};
 use law_choices::playing::{
     contracts_are_told, copied_gates_tell_what_is_owed, drawn_machines_mirror,
