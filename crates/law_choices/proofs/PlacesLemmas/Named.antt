@@ -15,7 +15,7 @@ use Rattle.law_automata.specs.Lowered.Standing.{Along}
 use Rattle.law_equations.specs.Flattened.Flatten.{obc_two}
 use Rattle.law_equations.specs.Made.Blocks.{locals_of}
 use Rattle.law_equations.specs.Made.Laws.{unplaced}
-use Rattle.law_equations.specs.Made.Making.{Known, Sketch, Site, Sight, Seen, Body, base_site, bind, block_layer, copy_of, each_once, enter_path, names_of_eqns, next, no_entry, nothing_made, over, path_for, remember_all, signed, sketch_block, sketch_eqn, sketch_eqns, sketch_expr, sketch_node, type_two, unknown, value_of}
+use Rattle.law_equations.specs.Made.Making.{Known, Sketch, Site, Sight, Seen, Body, base_site, bind, block_layer, copy_of, each_once, enter_path, names_of_eqns, next, no_entry, nothing_made, over, path_for, path_of, remember_all, signed, sketch_block, sketch_eqn, sketch_eqns, sketch_expr, sketch_node, type_two, unknown, value_of}
 use Rattle.law_equations.specs.Meaning.Instants.{Instant}
 use Rattle.law_equations.specs.Meaning.Reactions.{Answers, Holds}
 use Rattle.hp_watch.specs.Walk.{compares, is_event}
