@@ -1,7 +1,7 @@
 -- What one machine resumes, another one resumes that does the same.
 use Rattle.std.proofs.Common.{◌≡◌, ℕ, List, [], ◌∷◌, None, Some, refl, sym, ap, subst, ◌∙◌}
-use Rattle.std.specs.List.{flat_map}
-use Rattle.hp_base.specs.Kinds.{KindData}
+use Rattle.std.specs.List.{AllByRecursion, flat_map}
+use Rattle.hp_base.specs.Kinds.{AreOfKinds, KindData}
 use Rattle.hp_base.specs.declared.value.Value.{Value}
 use Rattle.hp_exec.specs.Layouts.{AreAlike, flattened}
 use Rattle.hp_lines.specs.Lines.{line_of}
@@ -76,6 +76,7 @@ module _ (o p : Obc) (node : List ℕ) (m l : Machine) (form : HasObcForm o.type
             a.run
             ∙ ap (λ ks. outputs_from (machine_behaviour p node) kept (inputs_until ks 1 lines)) (sym inputs_same)
             ∙ same_outputs (kinds_in o.types m.inputs) (kinds_in o.types m.outputs) (machine_keeps o node) (machine_behaviour o node) (machine_behaviour p node) does.does kinded kept (inputs_until ins 1 lines) has fits;
+        kinds = subst (λ ks. AllByRecursion (AreOfKinds ks) a.outputs) (sym (kinds_same (λ (x : Machine). x.outputs) outputs)) a.kinds;
         said = a.said ∙ ap (λ ks. flat_map (line_of ks) a.outputs) (sym (kinds_same (λ (x : Machine). x.outputs) outputs));
       }
 
