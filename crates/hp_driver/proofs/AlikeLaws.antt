@@ -3,6 +3,7 @@ use Rattle.std.proofs.Common.{◌≡◌, ℕ, List, [], ◌∷◌, None, Some, r
 use Rattle.std.specs.List.{AllByRecursion, flat_map}
 use Rattle.hp_base.specs.Kinds.{AreOfKinds, KindData}
 use Rattle.hp_base.specs.declared.value.Value.{Value}
+use Rattle.hp_exec.specs.Hooked.{AgreeInKind}
 use Rattle.hp_exec.specs.Layouts.{AreAlike, flattened}
 use Rattle.hp_lines.specs.Lines.{line_of}
 use Rattle.hp_obc.specs.Form.{HasObcForm, machine_named}
@@ -12,7 +13,7 @@ use Rattle.hp_obc.specs.Steps.{Behaviour, Memory, machine_behaviour, outputs_fro
 use Rattle.hp_obc.specs.declared.machine.Var.{Var}
 use Rattle.hp_obc.proofs.KindLaws.{file-kinded}
 use Rattle.hp_obctext.specs.MemoryKinds.{memory_text}
-use Rattle.law_controlled.specs.Alike.{DoTheSame, IsOneOf}
+use Rattle.law_controlled.specs.Alike.{IsOneOf}
 use Rattle.law_controlled.specs.One.{AreOne}
 use Rattle.hp_driver.specs.Answers.{IsAnswer}
 use Rattle.hp_driver.specs.Checkpoints.{IsCheckpointOf}
@@ -22,7 +23,7 @@ use Rattle.hp_driver.proofs.SpellingLaws.{AllOfKinds, all_of_kinds}
 
 -- ---- steps
 
-module _ (ins outs : List KindData) (keeps : MemoryKinds) (b other : Behaviour) (agree : DoTheSame ins keeps other b) (kinded : StepsInKind ins outs keeps b) where
+module _ (ins outs : List KindData) (keeps : MemoryKinds) (b other : Behaviour) (agree : AgreeInKind ins keeps other b) (kinded : StepsInKind ins outs keeps b) where
   same_outputs : (kept : Memory) (inputs : List (List Value)) → HasKinds keeps kept → AllOfKinds ins inputs → outputs_from other kept inputs ≡ outputs_from b kept inputs
   same_outputs kept [] has fits = refl
   same_outputs kept (values ∷ inputs) has fits =

@@ -19,6 +19,7 @@ use Rattle.hp_obc.specs.Steps.{Behaviour, Known, Memory, Names, after, before, b
 use Rattle.hp_obc.specs.Values.{constant_of, kind_of, or_absent}
 use Rattle.hp_obc.specs.declared.machine.Mem.{Mem}
 use Rattle.hp_obc.specs.declared.machine.Var.{Var}
+use Rattle.hp_exec.specs.Hooked.{AgreeInKind}
 use Rattle.hp_flat.specs.declared.node.FlatTy.{FlatTy}
 use Rattle.hp_flat.specs.declared.node.FlatTy.TheVariants as ty
 use Rattle.hp_flat.specs.declared.node.Variable.{Variable}
@@ -41,7 +42,6 @@ use Rattle.law_equations.specs.Meaning.Scheduling.{AreBelow}
 use Rattle.law_equations.proofs.FewerLemmas.OrderLaws.{each_moved}
 use Rattle.hp_controller.specs.Controlling.{IsController, IsOperator}
 use Rattle.law_choices.specs.OnClocks.Meaning.{AreInTurn, HasOneMeaning, HasSome, MeaningLaw}
-use Rattle.law_controlled.specs.Alike.{DoTheSame}
 use Rattle.law_controlled.specs.Machines.{AnswerAsWhole, IsWritable, TurnMachinesLaw}
 use Rattle.law_controlled.specs.Machines.IsMadeFrom.{itself}
 use Rattle.law_controlled.proofs.MadeNamesLaws.{controller_names}
@@ -360,7 +360,7 @@ module _ (l : ControlLaws) (types : List ObcType) (form : TypesForm types) (bm :
       let same : there.0 ≡ here.0 = one_preferred (game bm).prefer (Permitted (game bm) r u) there.0 here.0 there.1 here.1 in
       subst (λ (bs : Bits). ((behaviour types others o).step empty (bits_row bs)).outputs ≡ ((behaviour types known m).step empty (bits_row bs)).outputs) (take-append-drop bm.registers bits) (there.2 ∙ ap bits_row same ∙ sym here.2)
 
-  pub controllers_agree : (known others : Known) (keeps : Names MemoryKinds) → DoTheSame (kinds_in types m.inputs) (kinds_of_kept types keeps m) (behaviour types others o) (behaviour types known m)
+  pub controllers_agree : (known others : Known) (keeps : Names MemoryKinds) → AgreeInKind (kinds_in types m.inputs) (kinds_of_kept types keeps m) (behaviour types others o) (behaviour types known m)
   controllers_agree known others keeps =
       let none = mems_none l types form bm n first m made in
       let alone = insts_none l types form bm n first m made in

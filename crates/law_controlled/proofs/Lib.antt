@@ -7,11 +7,9 @@ pub mod DepthLaws
 pub mod DutyLaws
 pub mod GreatestLaws
 pub mod KeepingLaws
-pub mod KindedLaws
 pub mod MachineLaws
 pub mod MadeLaws
 pub mod MadeNamesLaws
-pub mod MadeOnceLaws
 pub mod MirrorLaws
 pub mod NameLaws
 pub mod NearlyLaws

@@ -10,8 +10,9 @@ use Rattle.hp_obc.specs.Kinded.{MemoryKinds, inner_kinds, kinds_behind, kinds_in
 use Rattle.hp_obc.specs.Machines.{Machine, ObcType}
 use Rattle.hp_obc.specs.Steps.{Behaviour, Known, Names, behaviour, given, known_behind, unknown}
 use Rattle.hp_obc.proofs.KindLaws.{AllKinded, known-more, machine-kinded, none-kinded}
-use Rattle.law_controlled.proofs.KindedLaws.{machine-agrees}
-use Rattle.law_controlled.specs.Alike.{AreNearly, AreOneList, DoTheSame, IsNearly}
+use Rattle.hp_exec.specs.Hooked.{AgreeInKind}
+use Rattle.hp_exec.proofs.InKind.{machine-agrees}
+use Rattle.law_controlled.specs.Alike.{AreNearly, AreOneList, IsNearly}
 use Rattle.law_controlled.specs.Alike.IsNearly.{one, control}
 use Rattle.law_controlled.proofs.ControlLaws.{ControlLaws, controllers_agree, insts_none, keeps_none, mems_none, named}
 
@@ -30,7 +31,7 @@ module _ (l : ControlLaws) (types : List ObcType) (form : TypesForm types) where
 
   -- what is known of the machines so far
   record AgreeSoFar (earlier : List Machine) (known others : Known) (keeps keeps_too : Names MemoryKinds) : Type 0 where
-    does : (x : List ℕ) (m : Machine) → machine_named earlier x ≡ Some m → DoTheSame (kinds_in types m.inputs) (keeps x) (others x) (known x)
+    does : (x : List ℕ) (m : Machine) → machine_named earlier x ≡ Some m → AgreeInKind (kinds_in types m.inputs) (keeps x) (others x) (known x)
     kinds : (x : List ℕ) (m : Machine) → machine_named earlier x ≡ Some m → keeps x ≡ keeps_too x
 
   module _ (earlier : List Machine) (known others : Known) (keeps keeps_too : Names MemoryKinds) (agree : AgreeSoFar earlier known others keeps keeps_too) where
@@ -50,23 +51,23 @@ module _ (l : ControlLaws) (types : List ObcType) (form : TypesForm types) where
     keeps_same m h = ap (memory_kinds (kinds_in types (mem_vars m.mems))) (inner_same m.insts h)
 
     -- one more machine of each list
-    module _ (m : Machine) (b other : Behaviour) (k k_too : MemoryKinds) (new : machine_named earlier m.name ≡ None) (does : DoTheSame (kinds_in types m.inputs) k other b) (kinds : k ≡ k_too) where
+    module _ (m : Machine) (b other : Behaviour) (k k_too : MemoryKinds) (new : machine_named earlier m.name ≡ None) (does : AgreeInKind (kinds_in types m.inputs) k other b) (kinds : k ≡ k_too) where
       -- a name is of one before, or of the new one
       abbrev At : List ℕ → Machine → Type 0
       At x c =
-          DoTheSame (kinds_in types c.inputs) (given m.name k keeps x) (given m.name other others x) (given m.name b known x)
+          AgreeInKind (kinds_in types c.inputs) (given m.name k keeps x) (given m.name other others x) (given m.name b known x)
           × (given m.name k keeps x ≡ given m.name k_too keeps_too x)
 
       at_new : (x : List ℕ) → bytes_eq m.name x ≡ true → At x m
       at_new x e = (
-        subst (λ d. DoTheSame (kinds_in types m.inputs) (if d then k else keeps x) (if d then other else others x) (if d then b else known x)) (sym e) does,
+        subst (λ d. AgreeInKind (kinds_in types m.inputs) (if d then k else keeps x) (if d then other else others x) (if d then b else known x)) (sym e) does,
         (λ j. if e j then k else keeps x) ∙ kinds ∙ (λ j. if sym e j then k_too else keeps_too x),
       )
 
       at_before : (x : List ℕ) (c : Machine) → machine_named earlier x ≡ Some c → At x c
       at_before x c there =
           let e : bytes_eq m.name x ≡ false = differs (bytes_eq m.name x) refl in (
-            subst (λ d. DoTheSame (kinds_in types c.inputs) (if d then k else keeps x) (if d then other else others x) (if d then b else known x)) (sym e) (agree.does x c there),
+            subst (λ d. AgreeInKind (kinds_in types c.inputs) (if d then k else keeps x) (if d then other else others x) (if d then b else known x)) (sym e) (agree.does x c there),
             (λ j. if e j then k else keeps x) ∙ agree.kinds x c there ∙ (λ j. if sym e j then k_too else keeps_too x),
           )
         where
@@ -101,7 +102,7 @@ module _ (l : ControlLaws) (types : List ObcType) (form : TypesForm types) where
 
   -- what a machine does and keeps, and what the other one does, and its name
   record Pair (earlier : List Machine) (known others : Known) (keeps keeps_too : Names MemoryKinds) (m o : Machine) : Type 0 where
-    does : DoTheSame (kinds_in types m.inputs) (kinds_of_kept types keeps m) (behaviour types others o) (behaviour types known m)
+    does : AgreeInKind (kinds_in types m.inputs) (kinds_of_kept types keeps m) (behaviour types others o) (behaviour types known m)
     kinds : kinds_of_kept types keeps m ≡ kinds_of_kept types keeps_too o
     name : m.name ≡ o.name
 
@@ -110,7 +111,7 @@ module _ (l : ControlLaws) (types : List ObcType) (form : TypesForm types) where
   pair earlier known others keeps keeps_too agree kinded m o its (one same) =
       let does = machine-agrees types earlier m known keeps its.0 counts kinded others agree.does in
       record {
-        does = subst (λ (z : Machine). DoTheSame (kinds_in types m.inputs) (kinds_of_kept types keeps m) (behaviour types others z) (behaviour types known m)) same does;
+        does = subst (λ (z : Machine). AgreeInKind (kinds_in types m.inputs) (kinds_of_kept types keeps m) (behaviour types others z) (behaviour types known m)) same does;
         kinds = keeps_same earlier known others keeps keeps_too agree m its.0.instances_known ∙ ap (kinds_of_kept types keeps_too) same;
         name = ap (λ (z : Machine). z.name) same;
       }
