@@ -280,7 +280,7 @@ AreBare [] (k ∷ ks) = ⊥
 AreBare (n ∷ ns) [] = ⊥
 AreBare (n ∷ ns) (k ∷ ks) = (bare n ≡ bare k) × AreBare ns ks
 
-made_bare : (k : Known) (items : List Item) (ns ks : List FlatNode) → AreMadeOf k items ns → AreMadeOf k items ks → AreBare ns ks
+pub made_bare : (k : Known) (items : List Item) (ns ks : List FlatNode) → AreMadeOf k items ns → AreMadeOf k items ks → AreBare ns ks
 made_bare k [] [] [] h g = tt
 made_bare k [] (n ∷ ns) ks h g = absurd h
 made_bare k [] [] (m ∷ ks) h g = absurd g
