@@ -25,6 +25,7 @@ use Rattle.hp_cert.specs.declared.checking.Proved.TheVariants.{Lose}
 use Rattle.hp_cert.specs.declared.certtext.error.CertErr.{CertErr}
 use Rattle.hp_cert.specs.declared.certtext.error.CertErr.TheVariants as certificate
 use Rattle.hp_verdicts.specs.Decided.{ShowsLoss, is_wide_contract, verdict_of}
+use Rattle.hp_verdicts.specs.Verified.{RefusesBy}
 use Rattle.hp_verdicts.specs.declared.error.ContractErr.{ContractErr}
 use Rattle.hp_verdicts.specs.declared.error.ContractErr.TheVariants as contract
 use Rattle.law_decided.specs.Outcomes.{RefusesInGame, RefusesInGames}
@@ -32,7 +33,7 @@ use Rattle.hp_driver.specs.Answers.{IsAnswer}
 use Rattle.hp_driver.specs.BadLines.{bad_line_line}
 use Rattle.hp_driver.specs.Asking.{AsksToChoose, AsksToRun}
 use Rattle.hp_driver.specs.Claim.{Does, Ends}
-use Rattle.hp_driver.specs.ClaimTerms.{AllKept, Certifies, Choose, DoesTheSame, IsOwnOf, IsReadAs, IsTellerOf, IsTrace, LacksFile, Program, Runs, Starts}
+use Rattle.hp_driver.specs.ClaimTerms.{AllKept, Certifies, Choose, DoesTheSame, IsNoProof, IsOwnOf, IsReadAs, IsTellerOf, IsTrace, LacksFile, Program, Runs, Starts}
 use Rattle.hp_driver.specs.Checkpoints.{IsCheckpointOf, memory_past}
 use Rattle.hp_driver.specs.Command.{IsRunOf, IsTellOf, IsCheckOf, IsExecOf, IsPastOf, IsVerifyOf, IsSweepOf, IsNoSegment, IsSegmentOf, IsOver, IsOverSource, IsOverContract, Writes, no_node_line, verdict_text, accepted_text}
 use Rattle.hp_driver.specs.Commanded.{Spells, SpellsSegment, file_of}
@@ -174,6 +175,14 @@ choosing files file o chosen = record { kept = chosen.kept.safe; says = chosen.s
 loss_text : (m : BoolMachine) (wide : Bool) (instants : ℕ) (text : Option (List ℕ)) → ShowsLoss m wide instants text → Certifies (behind_forced text) (Lose instants) ⊎ (behind_forced text ≡ too_long_line Text)
 loss_text m wide instants None h = inr refl
 loss_text m wide instants (Some text) h = inl (h.certified.certificate, h.certified.text_is, h.verdict)
+
+-- why a text proves nothing of a machine
+no_proof : (m : BoolMachine) (text : List ℕ) (cause : CertErr) → cause ≢ certificate.OutOfMemory → RefusesBy m text cause → IsNoProof text cause
+no_proof m text (certificate.Syntax at) e h = h
+no_proof m text (certificate.Misfit k) e h = (h.certificate, h.reads)
+no_proof m text (certificate.Fails k) e h = (h.certificate, h.reads)
+no_proof m text (certificate.Limit limit) e h = h
+no_proof m text certificate.OutOfMemory e h = absurd (e refl)
 
 refused_status : (cause : CertErr) → certificate_status cause ≢ 0
 refused_status (certificate.Syntax at) e = omega (arith, e)
@@ -355,7 +364,9 @@ module _ (words : List (List ℕ)) (files left : Files) (input : List ℕ) where
     ended log line status (Outcome.no_verdict {file = x} {name = y} cause w c differs refuses) h leaves e f g =
         no_verdict (untouched words files left 1 leaves f g (inl (λ k. omega (arith, k)))) x y cause w c differs refuses
     ended log line status (Outcome.long_proof {file = x} w c has long) h leaves e f g =
-        let same = untouched words files left 1 leaves f g (inl (λ k. omega (arith, k))) in at_left files [] line 1 same (Does.not_proved (program_of files x c.program c.held) w)
+        let same = untouched words files left 1 leaves f g (inl (λ k. omega (arith, k))) in
+        let it = long.certificate in
+        at_left files [] line 1 same (Does.not_proved (verdict_of it.claim) (program_of files x c.program c.held) w (it, refl, refl) long.longer)
     ended log line status (Outcome.proved {cert = o} w c proof) h leaves e f g = wrote law none 0 leaves refl o (Writes.a_certificate w)
     ended log line status (Outcome.proof_not_written w c proof) h leaves e f g = absurd (f refl)
     ended log line status (Outcome.unread_certificate w c has) h leaves e f g = absurd (e refl)
@@ -368,7 +379,7 @@ module _ (words : List (List ℕ)) (files left : Files) (input : List ℕ) where
     ended log line status (Outcome.verified_in_part text p out rest w c gives shows k) h leaves e f g = absurd (f refl)
     ended log line status (Outcome.certificate_refused {file = x} text cause w c gives differs refuses) h leaves e f g =
         let same = untouched words files left (certificate_status cause) leaves f g (inl (refused_status cause)) in
-        at_left files [] line (certificate_status cause) same (Does.not_verified text cause (program_of files x c.program c.held) w gives differs)
+        at_left files [] line (certificate_status cause) same (Does.not_verified text cause (program_of files x c.program c.held) w gives differs (no_proof (refuses.has).machine text cause differs refuses.refused))
     ended log line status (Outcome.long_text w long) h leaves e f g = let same = untouched words files left 1 leaves f g (inl (λ k. omega (arith, k))) in at_left files [] line 1 same (Does.too_long (IsReadAs.machines w) long)
     ended log line status (Outcome.no_text text at w gives r) h leaves e f g = let same = untouched words files left 8 leaves f g (inl (λ k. omega (arith, k))) in at_left files [] line 8 same (Does.no_text at w gives r)
     ended log line status (Outcome.no_form text at w gives b) h leaves e f g = let same = untouched words files left 8 leaves f g (inl (λ k. omega (arith, k))) in at_left files [] line 8 same (Does.no_form at w gives b)

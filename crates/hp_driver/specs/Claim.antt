@@ -38,7 +38,7 @@ use Rattle.hp_obc.specs.Steps.{Memory}
 use Rattle.hp_driver.specs.Asking.{AsksToChoose, AsksToRun, IsRunFor, run_words}
 use Rattle.hp_driver.specs.Checkpoints.{IsCheckpointOf, RefusesCheckpoint, memory_past}
 use Rattle.hp_obctext.specs.declared.memory.error.MemErr.{MemErr}
-use Rattle.hp_driver.specs.ClaimTerms.{Program, AllKept, IsFirst, Certifies, IsUndecidable, IsTrace, DoesTheSame, Choose, IsOwnOf, IsTellerOf, Runs, Starts, IsReadAs, LacksFile}
+use Rattle.hp_driver.specs.ClaimTerms.{Program, AllKept, IsFirst, Certifies, IsNoProof, IsUndecidable, IsTrace, DoesTheSame, Choose, IsOwnOf, IsTellerOf, Runs, Starts, IsReadAs, LacksFile}
 
 -- The call answers with what is said, the line of diagnostics, the files that it leaves, and its status.
 module _ (words : List (List ℕ)) (files : Files) (input : List ℕ) where
@@ -111,10 +111,10 @@ module _ (words : List (List ℕ)) (files : Files) (input : List ℕ) where
         HoldsOf p.clocked n v → Does (verdict_text v) [] files 0
     -- the certificate is refused; or that of the contract is longer than its text may be
     not_verified : {file name cert : List ℕ} (text : List ℕ) (cause : CertErr) → Program files file →
-        IsVerifyOf words file name cert → Holds files cert text → cause ≢ OutOfMemory →
+        IsVerifyOf words file name cert → Holds files cert text → cause ≢ OutOfMemory → IsNoProof text cause →
         Does [] (certificate_line cause) files (certificate_status cause)
-    not_proved : {file name cert : List ℕ} → Program files file → IsProveOf words file name cert →
-        Does [] (too_long_line Text) files 1
+    not_proved : {file name cert text : List ℕ} (v : Proved) → Program files file → IsProveOf words file name cert →
+        Certifies text v → most Text < length text → Does [] (too_long_line Text) files 1
     no_node : {file name : List ℕ} (p : Program files file) → IsOverContract words file name →
         node_among p.clocked name ≡ None → Does [] (no_node_line name) files 1
     no_contract : {file name : List ℕ} (n : Node) (p : Program files file) → IsOverContract words file name →

@@ -17,7 +17,11 @@ use Rattle.hp_obc.specs.Form.{machine_named}
 use Rattle.hp_obc.specs.Machines.{Machine, Obc}
 use Rattle.hp_obctext.specs.Answers.{IsTextOf}
 use Rattle.hp_cert.specs.Certtext.Certificates.{Certificate}
-use Rattle.hp_cert.specs.Certtext.Texts.{cert_text}
+use Rattle.hp_cert.specs.Certtext.Refusals.{IsRefused}
+use Rattle.hp_cert.specs.Certtext.Texts.{IsCertText, cert_text}
+use Rattle.hp_cert.specs.Certtext.Written.{IsTooLong}
+use Rattle.hp_cert.specs.declared.certtext.error.CertErr.{CertErr}
+use Rattle.hp_cert.specs.declared.certtext.error.CertErr.TheVariants as certificate
 use Rattle.hp_cert.specs.declared.checking.Proved.{Proved}
 use Rattle.hp_verdicts.specs.Decided.{verdict_of}
 use Rattle.hp_verdicts.specs.declared.error.ContractErr.{ContractErr}
@@ -61,6 +65,13 @@ IsFirst program n =
 -- a text is that of a certificate with this verdict
 abbrev pub Certifies : List ℕ → Proved → Type 0
 Certifies text verdict = (c : Certificate) × (text ≡ cert_text c) × (verdict_of c.claim ≡ verdict)
+
+-- Why a text proves nothing: it is longer than one may be, or from this place on it is no certificate; or it is one,
+-- which fails a test.
+abbrev pub IsNoProof : List ℕ → CertErr → Type 0
+IsNoProof text (certificate.Limit limit) = IsTooLong text limit
+IsNoProof text (certificate.Syntax at) = IsRefused text at
+IsNoProof text cause = (c : Certificate) × IsCertText text c
 
 -- its contract cannot be decided: the assumption reads a controllable variable of its instant, or the bits pass a limit
 abbrev pub IsUndecidable : List Item → Node → ContractErr → Type 0
