@@ -1,3 +1,4 @@
+pub mod AlikeLaws
 pub mod CallLaws
 pub mod TellLaws
 pub mod Shown

@@ -1,5 +1,5 @@
 -- That a run which is stopped and resumed says what one run says.
-use Rattle.std.specs.Prelude.{◌≡◌, ◌≤◌, ◌+◌, ℕ, true, false, List, [], ◌++◌, length, None, Some, Option}
+use Rattle.std.specs.Prelude.{◌≡◌, ◌≤◌, ◌+◌, ℕ, true, List, [], ◌++◌, length, None, Some, Option}
 use Rattle.std.specs.FinMap as map
 use Rattle.hp_base.specs.Kinds.{KindData}
 use Rattle.hp_io.specs.Files.{Files}
@@ -7,14 +7,12 @@ use Rattle.hp_io.specs.declared.console.Event.{Event}
 use Rattle.hp_obc.specs.Machines.{Obc}
 use Rattle.hp_obc.specs.Steps.{Memory, machine_behaviour}
 use Rattle.hp_obctext.specs.declared.memory.error.MemErr.{MemErr}
-use Rattle.hp_tree.specs.declared.program.Item.{Item}
 use Rattle.hp_driver.specs.Answers.{IsAnswer}
 pub use Rattle.hp_driver.specs.Checkpoints.{memory_past}
 use Rattle.hp_driver.specs.Checkpoints.{IsCheckpointOf, IsTaken, RefusesCheckpoint}
-use Rattle.hp_driver.specs.Controls.{has_controls}
 use Rattle.hp_driver.specs.Lines.{lines_of}
 use Rattle.hp_driver.specs.Log.{heard, said}
-use Rattle.hp_driver.specs.Outcome.{IsHeld, IsMachine}
+use Rattle.hp_driver.specs.Outcome.{IsMachine}
 use Rattle.hp_driver.specs.Segments.{AreRun, IsRunnable, SegmentRun}
 use Rattle.hp_driver.specs.Systems.{System, of_machine, from_memory, inputs_of}
 use Rattle.hp_driver.specs.Values.{first_bad}
@@ -52,6 +50,12 @@ abbrev pub OneMemoryLaw : Type 0
 OneMemoryLaw =
     (files : Option Files) (file node : List ℕ) (o : Obc) (text : List ℕ) (memory other : Memory) → IsRunnable files file node o → IsCheckpointOf o node memory text → IsCheckpointOf o node other text → memory ≡ other
 
+-- What one list of machines of a source text left, another one takes: a checkpoint of a memory of the one is one of the same memory of the other.
+abbrev pub TakenAgainLaw : Type 0
+TakenAgainLaw =
+    (before found : Files) (file node : List ℕ) (o p : Obc) (memory : Memory) (text : List ℕ) → map.get found file ≡ map.get before file → IsRunnable (Some before) file node o → IsRunnable (Some found) file node p
+    → IsCheckpointOf o node memory text → IsCheckpointOf p node memory text
+
 -- ---- two calls
 
 -- A run of a node was stopped and resumed: `save` and `resume` both ended with status 0. Both found the same source text, and `resume` found, under the name that it was asked for, what `save` had left there.
@@ -72,8 +76,8 @@ pub record IsOneRun (before : Files) (file node : List ℕ) (lines : List (List 
   pub are : AreRun (Some before) file node o system
   pub said : IsAnswer system lines bytes
 
--- So it is where all lines together are few enough for one trace, of a program without controllable variables: its machines are the same in both calls.
+-- So it is where all lines together are few enough for one trace. The machines of both calls are those of one program: where it chooses, the two may differ in the commands of controllers, but not in memories, and not in what they do.
 abbrev pub ResumedLaw : Type 0
 ResumedLaw =
-    (file node mem out : List ℕ) (first second : List Event) (r : IsResumed file node mem out first second) → ((program : List Item) → IsHeld (Some r.before) file program → has_controls program ≡ false) →
-    length (lines_of true (heard first)) + length (lines_of true (heard second)) ≤ 1000000000 → IsOneRun r.before file node (lines_of true (heard first) ++ lines_of true (heard second)) (said first ++ said second)
+    (file node mem out : List ℕ) (first second : List Event) (r : IsResumed file node mem out first second) → length (lines_of true (heard first)) + length (lines_of true (heard second)) ≤ 1000000000
+    → IsOneRun r.before file node (lines_of true (heard first) ++ lines_of true (heard second)) (said first ++ said second)

@@ -1,12 +1,13 @@
 //! Laws on calls. The functions here do nothing: each is a law, which its contract states.
 ghost use Rattle.hp_driver.specs.GoodCalls.{PlainLaw, ProvedLaw};
+ghost use Rattle.hp_driver.specs.Joined.{JoinedLaw, JoinedRunLaw, OneMemoryLaw, ResumedLaw, TakenAgainLaw, TakenLaw};
 ghost use Rattle.hp_driver.specs.Mirrored.{MirrorLaw};
-ghost use Rattle.hp_driver.specs.Joined.{JoinedLaw, JoinedRunLaw, OneMemoryLaw, ResumedLaw, TakenLaw};
 ghost use Rattle.hp_driver.specs.Written.{CompiledLaw, WrittenLaw};
 
 use hp_controlled::{machines_do_the_same_among_others, own_machines_do_the_same};
 use hp_machines::programs_have_one_list_of_machines;
 use hp_meaning::clocking::one_shortest_assignment;
+use law_controlled::programs_that_choose_have_one_list_of_machines;
 use law_decided::{machines_keep_contracts, machines_mirror_contracts};
 use law_history::streams::{machines_of_texts_are_built, machines_run_the_nodes_of_texts};
 use law_wellmade::lettered::names_are_spelled;
@@ -42,16 +43,18 @@ pub fn machines_of_contracts_mirror_nodes()
     machines_mirror_contracts();
 }
 
-/// A run that is stopped and resumed is one run. What is said to some lines, and from the memory behind them to more lines, is what is said to all of them, where none has a fault and they are few enough for one trace; and the memory behind them is the same. So it is of a call of `save` and one of `resume` over one text without controllable variables.
+/// A run that is stopped and resumed is one run. What is said to some lines, and from the memory behind them to more lines, is what is said to all of them, where none has a fault and they are few enough for one trace; and the memory behind them is the same. So it is of a call of `save` and one of `resume` over one text, and what the one leaves the other takes.
 pub fn stopped_runs_are_joined()
     ensures lines { JoinedLaw }
     ensures runs { JoinedRunLaw }
     ensures resumed { ResumedLaw }
+    ensures taken { TakenAgainLaw }
 {
     machines_run_the_nodes_of_texts();
     machines_keep_contracts();
     one_shortest_assignment();
     programs_have_one_list_of_machines();
+    programs_that_choose_have_one_list_of_machines();
 }
 
 /// A machine that is run takes the checkpoint of each of its memories, and no text is the checkpoint of two.

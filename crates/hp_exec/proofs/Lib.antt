@@ -40,5 +40,5 @@ pub mod CalledLaws
 pub mod WholeLaws
 mod FlatKinds
 pub mod KindedLaws
-mod InKind
+pub mod InKind
 mod UnchangedLaws

@@ -17,7 +17,8 @@ use Rattle.law_equations.specs.Made.Laws.{unplaced}
 use Rattle.law_equations.specs.Made.Making.{Known}
 use Rattle.law_equations.specs.Meaning.Fitting.{atom_variables}
 use Rattle.law_equations.specs.Meaning.Reactions.{has}
-use Rattle.law_equations.specs.Meaning.Scheduling.{AreBelow, clock_variables, right_reads, reads, IsDefinedBelow, IsRanked}
+use Rattle.law_equations.specs.Meaning.Scheduling as scheduling
+use Rattle.law_equations.specs.Meaning.Scheduling.{AreBelow, clock_variables, right_reads, reads, IsDefinedBelow, IsRanked, IsWithin}
 use Rattle.law_equations.proofs.FewerLemmas.Members.{each_map}
 use Rattle.hp_automata.specs.Lowering.{lowered_program}
 use Rattle.hp_complete.specs.Declaring.{known_of}
@@ -25,7 +26,7 @@ use Rattle.hp_complete.specs.Made.{IsMadeOf, AreMadeOf}
 use Rattle.hp_complete.specs.Ranges.{AtomWithin, EqnWithin, IsInRange, RightWithin}
 use Rattle.hp_complete.specs.Signatures.{AreFlat, places_of}
 use Rattle.hp_schedule.specs.ByClock.{IsByClock}
-use Rattle.hp_schedule.proofs.ReadLaws.{reads-below}
+use Rattle.hp_schedule.proofs.ReadLaws.{reads-below, reads-within}
 use Rattle.hp_schedule.proofs.UniqueLaws.{one_by_clock}
 use Rattle.hp_machines.specs.Machined.{AreMachinesOf}
 use Rattle.hp_machines.specs.Making.{AreMade, IsMachineOf, defines_some, giving}
@@ -81,6 +82,9 @@ in_range f h =
     each_map (EqnWithin (length f.variables)) (λ (e : FlatEqn). AreBelow (length f.variables) (reads e)) (eqn_below (length f.variables)) f.eqns
     (recursion_from_All (EqnWithin (length f.variables)) f.eqns h.eqns)
 
+all_below : (n : ℕ) (es : List FlatEqn) → AllByRecursion (scheduling.EqnWithin n) es → ReadsBelow n es
+all_below n es h = each_map (scheduling.EqnWithin n) (λ (e : FlatEqn). AreBelow n (reads e)) (reads-within n) es h
+
 module _ (types : List ObcType) (n k : FlatNode) (name : n.name ≡ k.name) (variables : n.variables ≡ k.variables) (inputs : n.inputs ≡ k.inputs) (outputs : n.outputs ≡ k.outputs)
     (plain : map unplaced n.eqns ≡ map unplaced k.eqns) where
   given_alike : map unplaced (giving n).eqns ≡ map unplaced (giving k).eqns
@@ -98,6 +102,10 @@ module _ (types : List ObcType) (n k : FlatNode) (name : n.name ≡ k.name) (var
       let scheduled : a.scheduled ≡ b.scheduled = one_by_clock (length n.variables) (giving n).eqns (giving k).eqns a.scheduled b.scheduled given_alike first moved in
       let node : with_eqns (giving n) a.scheduled ≡ with_eqns (giving k) b.scheduled = λ i. record { name = name i; variables = variables i; inputs = inputs i; outputs = outputs i; eqns = scheduled i } in
       a.made ∙ ap (λ (f : FlatNode). fused_machine (machine_of types (normal f))) node ∙ sym b.made
+
+  -- so where the numbers in a node are those of its variables
+  pub one_within : (m l : Machine) → IsRanked n.eqns → IsRanked k.eqns → IsWithin n → IsWithin k → IsMachineOf types n m → IsMachineOf types k l → m ≡ l
+  one_within m l r q u v h g = one_machine m l r q (all_below (length n.variables) n.eqns u.eqns) (all_below (length k.variables) k.eqns v.eqns) h g
 
 -- ---- all nodes
 

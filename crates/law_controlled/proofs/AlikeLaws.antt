@@ -1,12 +1,10 @@
 -- What is made of the nodes of a program is the same, but for places and for controllers.
-use Rattle.std.proofs.Common.{◌≡◌, ℕ, zero, suc, ◌+◌, ◌<◌, Bool, true, false, List, [], ◌∷◌, ◌++◌, length, map, drop, Option, None, Some, refl, sym, ap, ap₂, subst, ◌∙◌, inl, inr, if◌then◌else◌, arith}
-use Rattle.std.specs.Prelude.{◌↔◌, is_some, slice_get, slice_index_or, IsTrue}
+use Rattle.std.proofs.Common.{◌≡◌, ℕ, zero, suc, ◌+◌, ◌<◌, Bool, true, false, List, [], ◌∷◌, ◌++◌, length, map, drop, Option, None, Some, refl, sym, ap, ap₂, subst, ◌∙◌, if◌then◌else◌, arith}
+use Rattle.std.specs.Prelude.{is_some, slice_get, slice_index_or, IsTrue}
 use Rattle.std.proofs.lemmas.List.{length-map}
 use Rattle.hp_boolx.specs.Machine.{Machine}
 use Rattle.hp_obc.specs.Machines.{ObcType}
-use Rattle.hp_obc.specs.declared.command.ObcOp.TheVariants.{Copy}
-use Rattle.hp_tree.specs.Meaning.{controls_of}
-use Rattle.hp_tree.specs.Programs.{Contract, Node, TypeDecl}
+use Rattle.hp_tree.specs.Programs.{Contract, Node}
 use Rattle.hp_tree.specs.declared.program.Item.{Item}
 use Rattle.hp_tree.specs.declared.program.Item.TheVariants.{NodeItem, TypeItem}
 use Rattle.hp_flat.specs.declared.node.Variable.{Variable}
@@ -21,19 +19,18 @@ use Rattle.hp_watch.specs.Adding.{next_variable, with_copy}
 use Rattle.hp_watch.specs.Walk.{events_from, walk_block}
 use Rattle.hp_watch.specs.Watching.{Observed, Observing, Watched, IsWatched, observed, surveyed, walked, watched_by}
 use Rattle.hp_controller.specs.declared.decoding.Control.{Control}
-use Rattle.hp_controller.specs.declared.decoding.ControlKind.{ControlKind}
-use Rattle.hp_controller.specs.Controlled.{bit_variables, controlled, decoded_controls, placing_of}
+use Rattle.hp_controller.specs.Controlled.{controlled, decoded_controls, placing_of}
 use Rattle.hp_controller.specs.Controlling.{IsController}
 use Rattle.hp_controller.specs.Steps.{step_eqns}
-use Rattle.hp_controlled.specs.Choosing.{AreChosenNodes, AreControls, AreNodesOf, AreOfContract, IsChoosing, IsControl, IsInOrder, IsOwn, Telling, asking, contract_name, control_kind, controller_name, first_gate, telling, told_outputs, with_copies}
+use Rattle.hp_controlled.specs.Choosing.{AreChosenNodes, AreControls, AreNodesOf, IsChoosing, IsControl, IsInOrder, IsOwn, Telling, contract_name, controller_name, first_gate, telling, told_outputs, with_copies}
 use Rattle.hp_controlled.specs.Choosing.AreNodesOf.{without_contract, with_contract}
 use Rattle.hp_controlled.specs.Choosing.IsOwn.{that_stays, that_chooses}
 use Rattle.hp_controlled.specs.Compiled.{AreNodes, by_names, numbered_of, observed_all}
 use Rattle.hp_controlled.specs.Compiled.AreNodes.{of_none, of_a_type, of_a_node}
-use Rattle.hp_controlled.specs.Parts.{AreReached, IsIn, IsPart, IsReached, IsUsed, Marks, marked, number_at, numbers_from, part_by, renumbered_eqn, variables_of}
+use Rattle.hp_controlled.specs.Parts.{IsIn, IsPart, IsReached, IsUsed, Marks, marked, number_at, numbers_from, part_by, renumbered_eqn, variables_of}
 use Rattle.hp_controlled.specs.Parts.IsReached.{reached_input, reached_output, reached_by}
 use Rattle.hp_tables.specs.Declarations.Tables.{numbered}
-use Rattle.law_controlled.specs.Alike.{AreAlike, AreControllers, IsAlike, bare}
+use Rattle.law_controlled.specs.Alike.{AreAlike, bare}
 use Rattle.law_controlled.specs.Alike.IsAlike.{the_same, both_control}
 use Rattle.law_controlled.proofs.BareLaws.{bare_copy, bare_observed, bare_observing, bare_option, bare_watched, events_same, observed_same, plain_at, plain_both, plain_option, plain_twice, watched_same}
 

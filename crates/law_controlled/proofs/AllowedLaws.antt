@@ -25,7 +25,7 @@ use Rattle.law_controlled.specs.Mirrored.{MirroredLaw}
 use Rattle.law_controlled.specs.Observers.{ObserversSuitLaw}
 use Rattle.law_controlled.specs.Allowed.{AllowedLaw}
 
-writable : (ns : List FlatNode) → AllByRecursion IsWithin ns → AllByRecursion HasFreeNames ns → AllByRecursion IsWritable ns
+pub writable : (ns : List FlatNode) → AllByRecursion IsWithin ns → AllByRecursion HasFreeNames ns → AllByRecursion IsWritable ns
 writable [] h k = tt
 writable (n ∷ ns) h k =
     let names = k.0 in

@@ -2,6 +2,7 @@ pub mod AddedLaws
 pub mod AlikeLaws
 pub mod AllowedLaws
 pub mod BareLaws
+pub mod ControlLaws
 pub mod DepthLaws
 pub mod DutyLaws
 pub mod GreatestLaws
@@ -11,7 +12,9 @@ pub mod MadeLaws
 pub mod MadeNamesLaws
 pub mod MirrorLaws
 pub mod NameLaws
+pub mod NearlyLaws
 pub mod ObserverLaws
+pub mod OneListLaws
 pub mod PartLaws
 pub mod PlantLaws
 pub mod RunLaws

@@ -110,7 +110,7 @@ module _ (l : PartLaws) (regular : RegularLaw) (types : List ObcType) (form : Ty
       record { within = l.within r n part is h.within; no_inputs = l.no_inputs r n part is h.no_inputs; ranked = l.ranked r n part is h.ranked; names_differ = apart.0; names_own = apart.1 }
 
   -- what a node is made from has shape, so it has, too; it has the name, calls what that calls, and answers as it does
-  one_shaped : (whole n : FlatNode) → IsMadeFrom whole n → HasShape whole → HasShape n
+  pub one_shaped : (whole n : FlatNode) → IsMadeFrom whole n → HasShape whole → HasShape n
   one_shaped whole n itself h = h
   one_shaped whole n (a_part of part name outputs is made) h =
       let shape = subst HasShape is h in
@@ -169,7 +169,7 @@ made_machines l regular compiled types ws ns machines answers takes form shaped_
 
 -- ---- nodes in turn
 
-shaped_in_turn : (types : List ObcType) (callees : Callees) (earlier : List (List ℕ)) (ws : List FlatNode) → AreInTurn types callees earlier ws → AllByRecursion IsWritable ws → AreShapedInTurn earlier ws
+pub shaped_in_turn : (types : List ObcType) (callees : Callees) (earlier : List (List ℕ)) (ws : List FlatNode) → AreInTurn types callees earlier ws → AllByRecursion IsWritable ws → AreShapedInTurn earlier ws
 shaped_in_turn types callees earlier [] turn all = tt
 shaped_in_turn types callees earlier (w ∷ ws) turn all =
     let well = turn.0 in

@@ -74,7 +74,7 @@ unfolding IsDistinct
 bits_distinct first zero few = tt
 bits_distinct first (suc n) few = (bits_apart first (first + 1) n (omega arith) (omega (arith, few)), bits_distinct (first + 1) n (omega (arith, few)))
 
-controller_names : OwnNamesLaw → (m : Machine) (node : FlatNode) → IsController m node → HasFreeNames node
+pub controller_names : OwnNamesLaw → (m : Machine) (node : FlatNode) → IsController m node → HasFreeNames node
 controller_names own_law m node is =
     let count = length node.variables in
     let bound : 0 + count ≤ 2 ^ 64 = let few = is.few in omega (arith, few) in

@@ -1,15 +1,14 @@
 -- That a program whose nodes choose has one list of machines, but for the commands of controllers: these give the same choice, and keep nothing.
 -- Source: own; a controller is a function of states and early values (Delaval, Marchand and Rutten, LCTES 2010), and what else is made of a program the program determines.
 use Rattle.std.specs.Prelude.{◌≡◌, ⊤, ℕ, List, [], ◌∷◌, map, Some}
-use Rattle.hp_base.specs.Kinds.{KindData, AreOfKinds}
-use Rattle.hp_base.specs.declared.value.Value.{Value}
 use Rattle.hp_boolx.specs.Machine.{Machine as BoolMachine}
+use Rattle.hp_exec.specs.Hooked.{AgreeInKind}
 use Rattle.hp_flat.specs.Nodes.{FlatNode}
 use Rattle.hp_machines.specs.Making.{IsMachineOf}
 use Rattle.hp_obc.specs.Form.{machine_named}
-use Rattle.hp_obc.specs.Kinded.{HasKinds, MemoryKinds, kinds_in, machine_keeps}
+use Rattle.hp_obc.specs.Kinded.{kinds_in, machine_keeps}
 use Rattle.hp_obc.specs.Machines.{Machine, Obc, ObcType}
-use Rattle.hp_obc.specs.Steps.{Behaviour, Memory, machine_behaviour}
+use Rattle.hp_obc.specs.Steps.{machine_behaviour}
 use Rattle.law_equations.specs.Made.Laws.{unplaced}
 use Rattle.hp_controller.specs.Controlling.{IsController}
 use Rattle.law_controlled.specs.Machines.{HasShape}
@@ -41,7 +40,7 @@ AreAlike (n ∷ ns) (k ∷ ks) = IsAlike n k × AreAlike ns ks
 -- ---- machines
 
 -- Two machines are made of controllers of one machine.
-pub record Control (types : List ObcType) (m other : Machine) : Type 0 where
+pub record BothControl (types : List ObcType) (m other : Machine) : Type 0 where
   pub node : FlatNode
   pub made : IsMachineOf types node m
   pub shape : HasShape node
@@ -53,7 +52,7 @@ pub record Control (types : List ObcType) (m other : Machine) : Type 0 where
 -- Two machines are one, or of controllers of one machine.
 pub data IsNearly (types : List ObcType) (m other : Machine) : Type 0 where
   one : m ≡ other → IsNearly types m other
-  control : Control types m other → IsNearly types m other
+  control : BothControl types m other → IsNearly types m other
 
 abbrev pub AreNearly : List ObcType → List Machine → List Machine → Type 0
 AreNearly types [] [] = ⊤
@@ -63,15 +62,10 @@ AreNearly types (m ∷ ms) (k ∷ ks) = IsNearly types m k × AreNearly types ms
 
 -- ---- what they do
 
--- Two behaviours have one memory after a reset, and do the same in each step from a memory of the kinds on inputs of theirs.
-pub record DoTheSame (inputs : List KindData) (keeps : MemoryKinds) (b other : Behaviour) : Type 0 where
-  pub resets : b.reset ≡ other.reset
-  pub steps : (kept : Memory) (values : List Value) → HasKinds keeps kept → AreOfKinds inputs values → b.step kept values ≡ other.step kept values
-
--- The machine of a name among some is one of the others, with the same memories, and does the same.
+-- The machine of a name among others keeps values of the same kinds, and does the same in each step from a memory of the kinds on inputs of theirs.
 pub record IsOneOf (o other : Obc) (f : List ℕ) (m : Machine) : Type 0 where
   pub keeps : machine_keeps o f ≡ machine_keeps other f
-  pub does : DoTheSame (kinds_in o.types m.inputs) (machine_keeps o f) (machine_behaviour other f) (machine_behaviour o f)
+  pub does : AgreeInKind (kinds_in o.types m.inputs) (machine_keeps o f) (machine_behaviour other f) (machine_behaviour o f)
 
 -- So it is of each machine of a list.
 abbrev pub AreOneList : Obc → Obc → Type 0

@@ -6,6 +6,7 @@ pub mod Machines
 pub mod Mirrored
 pub mod Names
 pub mod Observers
+pub mod One
 pub mod Parts
 pub mod Program
 pub mod Saying

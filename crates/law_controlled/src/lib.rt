@@ -8,11 +8,13 @@ ghost use Rattle.law_controlled.specs.Machines.{MadeMachinesLaw, TurnMachinesLaw
 ghost use Rattle.law_controlled.specs.Mirrored.{MirroredLaw};
 ghost use Rattle.law_controlled.specs.Names.{NamesLaw, PlantNamesLaw};
 ghost use Rattle.law_controlled.specs.Observers.{ObserversSuitLaw};
+ghost use Rattle.law_controlled.specs.One.{OneListLaw, OneTextListLaw};
 ghost use Rattle.law_controlled.specs.Parts.{MadePartLaw};
 ghost use Rattle.law_controlled.specs.Said.{GreatestSaidLaw, SaidLaw};
 ghost use Rattle.law_controlled.specs.Program.{ChoosingNamesLaw, MadeNamesLaw, MadeNodesLaw};
 ghost use Rattle.law_controlled.specs.Worked.{CoolerLaw, HeaterLaw, HouseLaw};
 
+use hp_abstract::nodes_have_one_abstraction;
 use hp_form::regular::regular_equations_have_form;
 use hp_meaning::contract::{
     choice_is_permitted, choices_are_values, duty_is_kept, reactions_are_instants_of_the_game,
@@ -26,6 +28,7 @@ use law_choices::instances::instances_react_as_callees;
 use law_choices::observed::{
     contracts_of_texts_can_be_observed, observers_can_be_compiled, tests_of_observers_are_typed,
 };
+use law_choices::on_clocks::programs_have_one_meaning;
 use law_choices::part::{parts_keep_form, parts_keep_reactions};
 use law_choices::playing::{
     contracts_are_told, copied_gates_tell_what_is_owed, drawn_machines_mirror,
@@ -148,6 +151,31 @@ pub fn machines_of_texts_choose_the_greatest()
     reactions_are_instants_of_the_game();
     contracts_call_nothing();
     ready_nodes_are_settled();
+    programs_of_texts_may_choose();
+    programs_of_texts_are_in_order();
+    contracts_of_texts_can_be_observed();
+}
+
+/// A program has one list of machines, as far as one can tell by running them: what the compiler is free in are the commands of controllers, and these give one choice and keep nothing.
+pub fn programs_that_choose_have_one_list_of_machines()
+    ensures ready { OneListLaw }
+    ensures texts { OneTextListLaw }
+{
+    observers_can_be_compiled();
+    tests_of_observers_are_typed();
+    contracts_call_nothing();
+    observers_suit();
+    nodes_are_made();
+    names_of_what_is_made_differ();
+    nodes_that_choose_stand_in_turn();
+    made_parts_are_parts();
+    parts_keep_form();
+    parts_keep_reactions();
+    regular_equations_have_form();
+    nodes_have_one_abstraction();
+    programs_have_one_meaning();
+    machines_answer_as_whole_nodes();
+    names_are_own();
     programs_of_texts_may_choose();
     programs_of_texts_are_in_order();
     contracts_of_texts_can_be_observed();

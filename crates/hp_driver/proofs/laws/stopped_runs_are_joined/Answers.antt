@@ -1,5 +1,5 @@
 use Rattle.hp_driver.proofs.JoinedLaws.{joined, joined_run}
-use Rattle.hp_driver.proofs.ResumedLaws.{resumed}
+use Rattle.hp_driver.proofs.ResumedLaws.{resumed, taken}
 use Rattle.hp_driver.proofs.laws.stopped_runs_are_joined.Goals as goal
 
 pub returns-clause-lines : goal.returns-clause-lines
@@ -9,4 +9,8 @@ pub returns-clause-runs : goal.returns-clause-runs
 returns-clause-runs c = joined_run c.machines_run_the_nodes_of_texts.ensures c.machines_keep_contracts.ensures.run
 
 pub returns-clause-resumed : goal.returns-clause-resumed
-returns-clause-resumed c = resumed c.machines_run_the_nodes_of_texts.ensures c.machines_keep_contracts.ensures.run c.one_shortest_assignment.ensures c.programs_have_one_list_of_machines.ensures
+returns-clause-resumed c =
+    resumed c.machines_run_the_nodes_of_texts.ensures c.machines_keep_contracts.ensures.run c.one_shortest_assignment.ensures c.programs_have_one_list_of_machines.ensures c.programs_that_choose_have_one_list_of_machines.ensures.texts
+
+pub returns-clause-taken : goal.returns-clause-taken
+returns-clause-taken c = taken c.one_shortest_assignment.ensures c.programs_have_one_list_of_machines.ensures c.programs_that_choose_have_one_list_of_machines.ensures.texts
