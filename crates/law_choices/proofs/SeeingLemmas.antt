@@ -6,7 +6,8 @@ pub mod Held
 pub mod Watching
 pub mod Plants
 pub mod Named
-pub mod Quiet
+pub mod Local
+pub mod Labels
 pub mod Defined
 pub mod Ordered
 pub mod Listed

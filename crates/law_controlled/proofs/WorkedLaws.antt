@@ -1,8 +1,5 @@
 -- Nothing is free in the heater but its inputs, and a house that calls it has its greatest permitted values. The one comparison of the cooler has a name.
-use Rattle.std.proofs.Common.{[], ◌∷◌, inr, refl, arith}
-use Rattle.std.specs.Prelude.{codes}
-use Rattle.hp_tree.specs.declared.expr.Op2.TheVariants.{Lt}
-use Rattle.law_choices.specs.Seeing.Comparing.{comparison, no_more, nothing_compared}
+use Rattle.std.proofs.Common.{inr, refl, arith}
 use Rattle.law_controlled.specs.AtDepth.{KnowsAllCalled}
 use Rattle.law_controlled.specs.Worked.{CoolerLaw, HeaterLaw, HouseLaw, cool_promise, heater, housing, its_call, promise}
 
@@ -16,13 +13,4 @@ pub house_law : HouseLaw
 house_law = (knows, λ past now h t. (h.1 0 its_call (omega arith) t).0 knows)
 
 pub cooler_law : CoolerLaw
-cooler_law = (
-  (cool_promise, refl),
-  record {
-    comparisons = (codes "cold", Lt) ∷ [];
-    named = comparison _ _ _ _ _ _ _ _ _ refl refl refl refl (nothing_compared _ _ _ refl no_more);
-    declared = (refl, tt);
-    free = refl;
-  },
-  refl,
-)
+cooler_law = ((cool_promise, refl), refl, refl)

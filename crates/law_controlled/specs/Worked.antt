@@ -114,19 +114,23 @@ cool_promise = record {
   controls = declared (codes "m") (ty.Enum (codes "mode")) ∷ [];
 }
 
+-- its one comparison of integers has a name
+abbrev is_cold : Eqn
+is_cold = equals (codes "cold") (two somewhere Lt (read (codes "temperature")) (constant somewhere (const.I (pos 5))))
+
 abbrev pub cooler : Node
 cooler = record {
   name = codes "cooler";
   inputs = declared (codes "temperature") ty.Int ∷ [];
-  outputs = declared (codes "cold") ty.Bool ∷ declared (codes "level") (ty.Enum (codes "mode")) ∷ [];
+  outputs = declared (codes "cold") ty.Bool ∷ declared (codes "level") (ty.Enum (codes "mode")) ∷ declared (codes "idle") ty.Bool ∷ [];
   contract = Some cool_promise;
-  body = block [] (eqns_of (equals (codes "cold") (two somewhere Lt (read (codes "temperature")) (constant somewhere (const.I (pos 5)))) ∷ equals (codes "level") (read (codes "m")) ∷ []));
+  body = block [] (eqns_of (is_cold ∷ equals (codes "level") (read (codes "m")) ∷ equals (codes "idle") (one somewhere Not (one somewhere Not (at_mode (codes "Off")))) ∷ []));
   span = somewhere;
 }
 
 abbrev pub cooling : List Item
 cooling = TypeItem mode ∷ NodeItem cooler ∷ []
 
--- It has a contract, its one comparison of integers has a name, and it calls nothing.
+-- It has a contract, nothing is free in it but its input and this comparison, and it calls nothing.
 abbrev pub CoolerLaw : Type 0
 CoolerLaw = HasContract cooler × ComparesByName cooling cooler × (calls_of cooler ≡ [])

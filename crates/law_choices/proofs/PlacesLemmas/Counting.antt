@@ -31,7 +31,7 @@ module _ {X : Type 0} where
   leaves-compared false y n es h = h ∙ (let e : n ≡ n + 0 = omega arith in ap (λ k. drop k es) e)
 
   mutual
-    expr-leaves : (e : Expr) → Leaves (walk e) (in_expr e)
+    pub expr-leaves : (e : Expr) → Leaves (walk e) (in_expr e)
     expr-leaves (constant s c) es = refl
     expr-leaves (variable s x) es = refl
     expr-leaves (last_of s x) es = refl
@@ -67,7 +67,7 @@ module _ {X : Type 0} where
     eqns-leave no_eqn es = refl
     eqns-leave (more_eqns e eqns) es = leaves-two (walk_eqn e) (walk_eqns eqns) (in_eqn e) (in_eqns eqns) (eqn-leaves e) (eqns-leave eqns) es
 
-    eqn-leaves : (e : Eqn) → Leaves (walk_eqn e) (in_eqn e)
+    pub eqn-leaves : (e : Eqn) → Leaves (walk_eqn e) (in_eqn e)
     eqn-leaves (define s xs e) es = expr-leaves e es
     eqn-leaves (switch s e arms) es = leaves-two (walk e) (walk_arms arms) (in_expr e) (in_arms arms) (expr-leaves e) (arms-leave arms) es
     eqn-leaves (reset s b e) es = leaves-two (walk e) (walk_block b) (in_expr e) (in_block b) (expr-leaves e) (block-leaves b) es

@@ -1,14 +1,16 @@
 -- What is made of a comparison that has a name is copied to the variable of the name.
-use Rattle.std.proofs.Common.{◌≡◌, inl, inr, ℕ, List, [], ◌∷◌, ◌++◌, map, refl, sym, ap, subst, ◌∙◌, Option, None, Some}
-use Rattle.std.specs.Prelude.{Bool, true, false, if◌then◌else◌}
+use Rattle.std.proofs.Common.{◌≡◌, inl, inr, ℕ, List, [], ◌∷◌, ◌++◌, map, refl, sym, ap, ap₂, subst, ◌∙◌, Option, None, Some}
+use Rattle.std.specs.Prelude.{⊤, Bool, true, false, if◌then◌else◌}
 use Rattle.std.specs.List.{AllByRecursion}
 use Rattle.std.proofs.lemmas.List.{append-nil, append_assoc}
+use Rattle.hp_base.specs.declared.span.Span.{Span}
 use Rattle.hp_base.specs.declared.value.Value.{Value}
 use Rattle.hp_tree.specs.declared.expr.Op2.{Op2}
 use Rattle.hp_tree.specs.Expressions.{Expr, two}
-use Rattle.hp_tree.specs.Blocks.{Decl, Block, block, Eqns}
+use Rattle.hp_tree.specs.Blocks.{Decl, Block, block, Eqns, no_eqn, more_eqns, Eqn, define}
 use Rattle.hp_tree.specs.Programs.{Node}
 use Rattle.hp_tree.specs.Meaning.{controls_of}
+use Rattle.hp_flat.specs.declared.equation.Atom.{Atom}
 use Rattle.hp_flat.specs.declared.equation.Atom.TheVariants.{Variable}
 use Rattle.hp_flat.specs.Equations.{Clock, FlatEqn, Right, operator}
 use Rattle.law_automata.specs.Lowered.Standing.{Along}
@@ -19,8 +21,10 @@ use Rattle.law_equations.specs.Made.Making.{Known, Sketch, Site, Sight, Seen, Bo
 use Rattle.law_equations.specs.Meaning.Instants.{Instant}
 use Rattle.law_equations.specs.Meaning.Reactions.{Answers, Holds}
 use Rattle.hp_watch.specs.Walk.{compares, is_event}
-use Rattle.law_choices.specs.Places.Laws.{IsEventOf, KnowsOutputs, events}
-use Rattle.law_choices.specs.Places.Named.{AreNamed, nothing, quiet, named, CopyLaw, HasCopy, IsCopied, IsIn, IsQuiet, NamedLaw}
+use Rattle.law_choices.specs.Flat.Names.{variable_of}
+use Rattle.law_choices.specs.Places.Laws.{AreMadeOf, IsEventOf, KnowsOutputs, events}
+use Rattle.law_choices.specs.Places.Spots.{Spot, spots, spots_of_eqn}
+use Rattle.law_choices.specs.Places.Named.{AreNamed, nothing, quiet, named, CopyLaw, HasCopy, IsCopied, IsIn, NamedLaw}
 use Rattle.law_choices.proofs.PlacesLemmas.Adding.{Adds, adds-lasts, adds-more, adds-path, adds-signed, compares-same, events-append}
 use Rattle.law_choices.proofs.PlacesLemmas.Events.{eqn-adds, expr-adds, heads_alike, layer-adds}
 
@@ -35,62 +39,85 @@ in-right : (es fs : List FlatEqn) (c : FlatEqn) → IsIn fs c → IsIn (es ++ fs
 in-right [] fs c i = i
 in-right (e ∷ es) fs c i = inr (in-right es fs c i)
 
-abbrev Relates : Type 1
-Relates = FlatEqn → List ℕ → Type 0
-
-along-append : (R : Relates) (es fs : List FlatEqn) (ys zs : List (List ℕ)) → Along R es ys → Along R fs zs → Along R (es ++ fs) (ys ++ zs)
+along-append : {Y : Type 0} (R : FlatEqn → Y → Type 0) (es fs : List FlatEqn) (ys zs : List Y) → Along R es ys → Along R fs zs → Along R (es ++ fs) (ys ++ zs)
 along-append R [] fs [] zs h k = k
 along-append R [] fs (y ∷ ys) zs h k = absurd h
 along-append R (e ∷ es) fs [] zs h k = absurd h
 along-append R (e ∷ es) fs (y ∷ ys) zs h k = (h.0, along-append R es fs ys zs h.1 k)
 
-along-weaker : (R S : Relates) → ((e : FlatEqn) (y : List ℕ) → R e y → S e y) → (es : List FlatEqn) (ys : List (List ℕ)) → Along R es ys → Along S es ys
+along-weaker : {Y : Type 0} (R S : FlatEqn → Y → Type 0) → ((e : FlatEqn) (y : Y) → R e y → S e y) → (es : List FlatEqn) (ys : List Y) → Along R es ys → Along S es ys
 along-weaker R S w [] [] h = tt
 along-weaker R S w [] (y ∷ ys) h = absurd h
 along-weaker R S w (e ∷ es) [] h = absurd h
 along-weaker R S w (e ∷ es) (y ∷ ys) h = (w e y h.0, along-weaker R S w es ys h.1)
 
-no-event : (R : Relates) (es : List FlatEqn) → Along IsEventOf es [] → Along R es []
-no-event R [] h = tt
-no-event R (e ∷ es) h = absurd h
-
 more-copies : (es fs : List FlatEqn) → ((c : FlatEqn) → IsIn es c → IsIn fs c) → (e : FlatEqn) (t x : ℕ) → HasCopy es e t x → HasCopy fs e t x
 more-copies es fs w e t x h = record { copy = h.copy; is_in = w h.copy h.is_in; targets = h.targets; clock = h.clock; restart = h.restart; right = h.right }
+
+-- ---- comparisons that have names
+
+-- a name, and the operator of the comparison that it names
+abbrev pub Label : Type 0
+Label = List ℕ × Op2
+
+-- nothing is said of some events
+abbrev pub nones : {A : Type 0} → List A → List (Option Label)
+nones xs = map (λ x. None) xs
+
+-- Of the events of some equations, in the order of making, some are comparisons that are right sides and have names.
+pub data AreLabelled (outputs : List ℕ → List (List ℕ)) : Eqns → List (Option Label) → Type 0 where
+  no_more : AreLabelled outputs no_eqn []
+  other : (e : Eqn) (es : Eqns) (ls all : List (Option Label)) → all ≡ nones (spots_of_eqn outputs e (λ p. p)) ++ ls → AreLabelled outputs es ls → AreLabelled outputs (more_eqns e es) all
+  comparison : (s t u : Span) (y : List ℕ) (o : Op2) (a b : Expr) (es : Eqns) (ls all : List (Option Label)) → compares o ≡ true → all ≡ (nones (spots outputs a (λ p. p)) ++ (nones (spots outputs b (λ p. p)) ++ Some (y, o) ∷ [])) ++ ls
+      → AreLabelled outputs es ls → AreLabelled outputs (more_eqns (define s ((y, t) ∷ []) (two u o a b)) es) all
 
 -- ---- from one sketch to another
 
 module _ (see : Sight) (on : Clock) (ds : List Decl) where
-  -- an event whose target one of some equations copies to the variable of a name; it is on this clock, if nothing is written of that of the name
-  abbrev CopiedBy : List FlatEqn → FlatEqn → List ℕ → Type 0
-  CopiedBy es e y = (t : ℕ) × (e.targets ≡ t ∷ []) × ((x : ℕ) → (see y).value ≡ Some x → HasCopy es e t x) × (path_of ds y ≡ [] → e.clock ≡ on)
+  -- an event of this operator whose target one of some equations copies to the variable of a name; it is on this clock, if nothing is written of that of the name
+  abbrev CopiedBy : List FlatEqn → FlatEqn → Label → Type 0
+  CopiedBy es e l =
+      (t : ℕ) × (e.targets ≡ t ∷ []) × ((x : ℕ) → (see l.0).value ≡ Some x → HasCopy es e t x) × (path_of ds l.0 ≡ [] → e.clock ≡ on) × ((a b : Atom) × (e.right ≡ operator (obc_two l.1) (a ∷ b ∷ [])))
 
-  copied-more : (es fs : List FlatEqn) → ((c : FlatEqn) → IsIn es c → IsIn fs c) → (e : FlatEqn) (y : List ℕ) → CopiedBy es e y → CopiedBy fs e y
-  copied-more es fs w e y h = (h.0, h.1, λ x v. more-copies es fs w e h.0 x (h.2 x v), h.3)
+  abbrev LabelledBy : List FlatEqn → FlatEqn → Option Label → Type 0
+  LabelledBy es e None = ⊤
+  LabelledBy es e (Some l) = CopiedBy es e l
 
-  -- more equations stand behind, whose events are copied to these names
-  abbrev Copies : Sketch → Sketch → List (List ℕ) → Type 0
-  Copies d e ys = (more : List FlatEqn) × (e.eqns ≡ d.eqns ++ more) × Along (CopiedBy more) (events more) ys
+  copied-more : (es fs : List FlatEqn) → ((c : FlatEqn) → IsIn es c → IsIn fs c) → (e : FlatEqn) (l : Option Label) → LabelledBy es e l → LabelledBy fs e l
+  copied-more es fs w e None h = tt
+  copied-more es fs w e (Some l) h = (h.0, h.1, λ x v. more-copies es fs w e h.0 x (h.2 x v), h.3, h.4)
 
-  copies-two : (d e f : Sketch) (ys zs : List (List ℕ)) → Copies d e ys → Copies e f zs → Copies d f (ys ++ zs)
-  copies-two d e f ys zs h k = (
+  -- more equations stand behind, whose events are copied so
+  abbrev Copies : Sketch → Sketch → List (Option Label) → Type 0
+  Copies d e ls = (more : List FlatEqn) × (e.eqns ≡ d.eqns ++ more) × Along (LabelledBy more) (events more) ls
+
+  copies-two : (d e f : Sketch) (ls ms : List (Option Label)) → Copies d e ls → Copies e f ms → Copies d f (ls ++ ms)
+  copies-two d e f ls ms h k = (
     h.0 ++ k.0,
     k.1 ∙ ap (λ es. es ++ k.0) h.1 ∙ append_assoc d.eqns h.0 k.0,
-    subst (λ es. Along (CopiedBy (h.0 ++ k.0)) es (ys ++ zs)) (sym (events-append h.0 k.0))
-        (along-append (CopiedBy (h.0 ++ k.0)) (events h.0) (events k.0) ys zs
-        (along-weaker (CopiedBy h.0) (CopiedBy (h.0 ++ k.0)) (copied-more h.0 (h.0 ++ k.0) (in-left h.0 k.0)) (events h.0) ys h.2)
-        (along-weaker (CopiedBy k.0) (CopiedBy (h.0 ++ k.0)) (copied-more k.0 (h.0 ++ k.0) (in-right h.0 k.0)) (events k.0) zs k.2)),
+    subst (λ es. Along (LabelledBy (h.0 ++ k.0)) es (ls ++ ms)) (sym (events-append h.0 k.0))
+        (along-append (LabelledBy (h.0 ++ k.0)) (events h.0) (events k.0) ls ms
+        (along-weaker (LabelledBy h.0) (LabelledBy (h.0 ++ k.0)) (copied-more h.0 (h.0 ++ k.0) (in-left h.0 k.0)) (events h.0) ls h.2)
+        (along-weaker (LabelledBy k.0) (LabelledBy (h.0 ++ k.0)) (copied-more k.0 (h.0 ++ k.0) (in-right h.0 k.0)) (events k.0) ms k.2)),
   )
 
-  copies-none : (d e : Sketch) → Adds d e [] → Copies d e []
-  copies-none d e a = (a.0, a.1, no-event (CopiedBy a.0) (events a.0) a.2)
+  -- nothing is said of the events of an addition
+  copies-none : (d e : Sketch) (ss : List Spot) → Adds d e ss → Copies d e (nones ss)
+  copies-none d e ss a = (a.0, a.1, unlabelled a.0 (events a.0) ss a.2)
+    where
+      unlabelled : (es all : List FlatEqn) (ss : List Spot) → Along IsEventOf all ss → Along (LabelledBy es) all (nones ss)
+      unlabelled es [] [] h = tt
+      unlabelled es [] (s ∷ ss) h = absurd h
+      unlabelled es (f ∷ all) [] h = absurd h
+      unlabelled es (f ∷ all) (s ∷ ss) h = (tt, unlabelled es all ss h.1)
 
   module _ (outputs : List ℕ → List (List ℕ)) (k : Known) (knows : KnowsOutputs outputs k) where
-    quiet-copies : (e : Expr) (at : Site) (d : Sketch) → IsQuiet outputs e → Copies d (sketch_expr k see at e d).0 []
-    quiet-copies e at d q = copies-none d (sketch_expr k see at e d).0 (subst (Adds d (sketch_expr k see at e d).0) (q (λ p. p)) (expr-adds outputs k knows e see at (λ p. p) d))
+    part-copies : (e : Expr) (at : Site) (d : Sketch) → Copies d (sketch_expr k see at e d).0 (nones (spots outputs e (λ p. p)))
+    part-copies e at d = copies-none d (sketch_expr k see at e d).0 (spots outputs e (λ p. p)) (expr-adds outputs k knows e see at (λ p. p) d)
 
     -- the equation of a comparison, and that of its name
     event-copies : (at : Site) (y : List ℕ) (o : Op2) (a b : ℕ) (d : Sketch) → compares o ≡ true → (path_of ds y ≡ [] → at.clock ≡ on)
-        → (let z = value_of at (type_two o) (operator (obc_two o) (Variable a ∷ Variable b ∷ [])) d in Copies d (bind at (see y).value (Some z.1) z.0) (y ∷ []))
+        → (let z = value_of at (type_two o) (operator (obc_two o) (Variable a ∷ Variable b ∷ [])) d in Copies d (bind at (see y).value (Some z.1) z.0) (Some (y, o) ∷ []))
     event-copies at y o a b d c based = by (see y).value refl
       where
         right : Right
@@ -100,19 +127,20 @@ module _ (see : Sight) (on : Clock) (ds : List Decl) where
         is = compares-same o ∙ c
 
         by : (v : Option ℕ) → (see y).value ≡ v
-            → (let z = value_of at (type_two o) (operator (obc_two o) (Variable a ∷ Variable b ∷ [])) d in Copies d (bind at v (Some z.1) z.0) (y ∷ []))
+            → (let z = value_of at (type_two o) (operator (obc_two o) (Variable a ∷ Variable b ∷ [])) d in Copies d (bind at v (Some z.1) z.0) (Some (y, o) ∷ []))
         by None h =
             let e : FlatEqn = record { targets = next d ∷ []; clock = at.clock; right = operator (obc_two o) (Variable a ∷ Variable b ∷ []); restart = at.restart; at = 0 } in (
               e ∷ [],
               refl,
-              subst (λ (f : Bool). Along (CopiedBy (e ∷ [])) (if f then e ∷ [] else []) (y ∷ [])) (sym is) ((next d, refl, λ x v. absurd (let n : None ≡ Some x = sym h ∙ v in cc), based), tt),
+              subst (λ (f : Bool). Along (LabelledBy (e ∷ [])) (if f then e ∷ [] else []) (Some (y, o) ∷ [])) (sym is)
+                  ((next d, refl, λ x v. absurd (let n : None ≡ Some x = sym h ∙ v in cc), based, (Variable a, Variable b, refl)), tt),
             )
         by (Some w) h =
             let e : FlatEqn = record { targets = next d ∷ []; clock = at.clock; right = operator (obc_two o) (Variable a ∷ Variable b ∷ []); restart = at.restart; at = 0 } in
             let copy : FlatEqn = record { targets = w ∷ []; clock = at.clock; right = copy_of (Variable (next d)); restart = at.restart; at = 0 } in (
               e ∷ copy ∷ [],
               append_assoc d.eqns (e ∷ []) (copy ∷ []),
-              subst (λ (f : Bool). Along (CopiedBy (e ∷ copy ∷ [])) (if f then e ∷ [] else []) (y ∷ [])) (sym is) (
+              subst (λ (f : Bool). Along (LabelledBy (e ∷ copy ∷ [])) (if f then e ∷ [] else []) (Some (y, o) ∷ [])) (sym is) (
                 (
                   next d,
                   refl,
@@ -120,32 +148,39 @@ module _ (see : Sight) (on : Clock) (ds : List Decl) where
                       let same : w ≡ x = (let s : Some w ≡ Some x = sym h ∙ v in cc) in
                       record { copy = copy; is_in = inr (inl refl); targets = ap (λ i. i ∷ []) same; clock = refl; restart = refl; right = refl },
                   based,
+                  (Variable a, Variable b, refl),
                 ),
                 tt,
               ),
             )
 
-    eqns-copies : (es : Eqns) (ys : List (List ℕ)) → AreNamed outputs es ys → (at : Site) → at.clock ≡ on → (d : Sketch) → Copies d (sketch_eqns k see at ds es d) ys
-    eqns-copies all names nothing at here d = ([], sym (append-nil d.eqns), tt)
-    eqns-copies all names (quiet e es ys q r) at here d =
+    eqns-copies : (es : Eqns) (ls : List (Option Label)) → AreLabelled outputs es ls → (at : Site) → at.clock ≡ on → (d : Sketch) → Copies d (sketch_eqns k see at ds es d) ls
+    eqns-copies every labels no_more at here d = ([], sym (append-nil d.eqns), tt)
+    eqns-copies every labels (other e es ls all q r) at here d =
         let x = sketch_eqn k see at ds e d in
-        copies-two d x (sketch_eqns k see at ds es x) [] ys (copies-none d x (subst (Adds d x) (q (λ p. p)) (eqn-adds outputs k knows e see at ds (λ p. p) d))) (eqns-copies es ys r at here x)
-    eqns-copies all names (named s t u y o a b es ys c qa qb r) at here d =
+        let ss = spots_of_eqn outputs e (λ p. p) in
+        subst (Copies d (sketch_eqns k see at ds es x)) (sym q)
+        (copies-two d x (sketch_eqns k see at ds es x) (nones ss) ls (copies-none d x ss (eqn-adds outputs k knows e see at ds (λ p. p) d)) (eqns-copies es ls r at here x))
+    eqns-copies every labels (comparison s t u y o a b es ls all c q r) at here d =
         let e = two u o a b in
         let p = enter_path k see (path_for ds ((y, t) ∷ []) e) at d in
         let i = sketch_expr k see p.0 a p.1 in
         let j = sketch_expr k see p.0 b i.0 in
         let z = value_of p.0 (type_two o) (operator (obc_two o) (Variable i.1 ∷ Variable j.1 ∷ [])) j.0 in
         let f = bind p.0 (see y).value (Some z.1) z.0 in
+        let first = nones (spots outputs a (λ p. p)) in
+        let second = nones (spots outputs b (λ p. p)) in
+        let own : List (Option Label) = Some (y, o) ∷ [] in
         let based : path_of ds y ≡ [] → (p.0).clock ≡ on = λ q. ap (λ path. ((enter_path k see path at d).0).clock) q ∙ here in
-        copies-two d f (sketch_eqns k see at ds es f) (y ∷ []) ys
-        (copies-two d p.1 f [] (y ∷ []) (copies-none d p.1 (adds-path k see (path_for ds ((y, t) ∷ []) e) at d))
-        (copies-two p.1 i.0 f [] (y ∷ []) (quiet-copies a p.0 p.1 qa) (copies-two i.0 j.0 f [] (y ∷ []) (quiet-copies b p.0 i.0 qb) (event-copies p.0 y o i.1 j.1 j.0 c based))))
-        (eqns-copies es ys r at here f)
+        subst (Copies d (sketch_eqns k see at ds es f)) (sym q)
+        (copies-two d f (sketch_eqns k see at ds es f) (first ++ (second ++ own)) ls
+        (copies-two d p.1 f [] (first ++ (second ++ own)) (copies-none d p.1 [] (adds-path k see (path_for ds ((y, t) ∷ []) e) at d))
+        (copies-two p.1 i.0 f first (second ++ own) (part-copies a p.0 p.1) (copies-two i.0 j.0 f second own (part-copies b p.0 i.0) (event-copies p.0 y o i.1 j.1 j.0 c based))))
+        (eqns-copies es ls r at here f))
 
 -- ---- a node
 
-module _ (outputs : List ℕ → List (List ℕ)) (k : Known) (knows : KnowsOutputs outputs k) (n : Node) (ds : List Decl) (body : Eqns) (ys : List (List ℕ)) (is_named : AreNamed outputs body ys) where
+module _ (outputs : List ℕ → List (List ℕ)) (k : Known) (knows : KnowsOutputs outputs k) (n : Node) (ds : List Decl) (body : Eqns) (ls : List (Option Label)) (labelled : AreLabelled outputs body ls) where
   abbrev before : Seen
   before = remember_all k base_site unknown n.outputs (signed k n.outputs (signed k (controls_of n.contract) (signed k n.inputs (no_entry, nothing_made))))
 
@@ -155,21 +190,21 @@ module _ (outputs : List ℕ → List (List ℕ)) (k : Known) (knows : KnowsOutp
   abbrev sight : Block → Sight
   sight b = over (sketch_block k Body out base_site b before.1).0 out
 
-  body-copies : (b : Block) → b ≡ block ds body → Copies (sight b) [] ds before.1 (sketch_block k Body out base_site b before.1).1 ys
+  body-copies : (b : Block) → b ≡ block ds body → Copies (sight b) [] ds before.1 (sketch_block k Body out base_site b before.1).1 ls
   body-copies b e =
-      subst (λ (b : Block). Copies (sight b) [] ds before.1 (sketch_block k Body out base_site b before.1).1 ys) (sym e)
+      subst (λ (b : Block). Copies (sight b) [] ds before.1 (sketch_block k Body out base_site b before.1).1 ls) (sym e)
       (let names = each_once [] (names_of_eqns body) in
       let s = block_layer k Body out base_site ds names before.1 in
-      copies-two (over s.0 out) [] ds before.1 s.1 (sketch_eqns k (over s.0 out) base_site ds body s.1) [] ys (copies-none (over s.0 out) [] ds before.1 s.1 (layer-adds outputs k knows Body out base_site ds names before.1))
-      (eqns-copies (over s.0 out) [] ds outputs k knows body ys is_named base_site refl s.1))
+      copies-two (over s.0 out) [] ds before.1 s.1 (sketch_eqns k (over s.0 out) base_site ds body s.1) [] ls (copies-none (over s.0 out) [] ds before.1 s.1 [] (layer-adds outputs k knows Body out base_site ds names before.1))
+      (eqns-copies (over s.0 out) [] ds outputs k knows body ls labelled base_site refl s.1))
 
-  node-copies : n.body ≡ block ds body → Copies (sight n.body) [] ds nothing_made (sketch_node k n) ys
+  node-copies : n.body ≡ block ds body → Copies (sight n.body) [] ds nothing_made (sketch_node k n) ls
   node-copies e =
       let a = signed k n.inputs (no_entry, nothing_made) in
       let b = signed k (controls_of n.contract) a in
       let c = signed k n.outputs b in
-      copies-two (sight n.body) [] ds nothing_made before.1 (sketch_node k n) [] ys
-      (copies-none (sight n.body) [] ds nothing_made before.1
+      copies-two (sight n.body) [] ds nothing_made before.1 (sketch_node k n) [] ls
+      (copies-none (sight n.body) [] ds nothing_made before.1 []
       (adds-more nothing_made c.1 before.1 []
       (adds-more nothing_made b.1 c.1 [] (adds-more nothing_made a.1 b.1 [] (adds-signed k n.inputs (no_entry, nothing_made)) (adds-signed k (controls_of n.contract) a)) (adds-signed k n.outputs b))
       (adds-lasts k base_site unknown n.outputs c)))
@@ -196,16 +231,16 @@ copy-alike es xs h e x s t v c =
       right = ap (λ (d : FlatEqn). d.right) r.2 ∙ c.right;
     }
 
-events-alike : (R S : Relates) → ((e x : FlatEqn) (y : List ℕ) → unplaced e ≡ unplaced x → R x y → S e y) → (es xs : List FlatEqn) (ys : List (List ℕ)) → map unplaced es ≡ map unplaced xs → Along R (events xs) ys → Along S (events es) ys
+events-alike : {Y : Type 0} (R S : FlatEqn → Y → Type 0) → ((e x : FlatEqn) (y : Y) → unplaced e ≡ unplaced x → R x y → S e y) → (es xs : List FlatEqn) (ys : List Y) → map unplaced es ≡ map unplaced xs → Along R (events xs) ys → Along S (events es) ys
 events-alike R S w [] [] [] h k = tt
 events-alike R S w [] [] (y ∷ ys) h k = absurd k
 events-alike R S w [] (x ∷ xs) ys h k = absurd cc
 events-alike R S w (e ∷ es) [] ys h k = absurd cc
-events-alike R S w (e ∷ es) (x ∷ xs) ys h k =
+events-alike {Y = Y} R S w (e ∷ es) (x ∷ xs) ys h k =
     let both = heads_alike e x es xs h in
     by (is_event e.right) (is_event x.right) ys (ap (λ (d : FlatEqn). is_event d.right) both.0) k (λ zs g. events-alike R S w es xs zs both.1 g) both.0
   where
-    by : (b c : Bool) (ys : List (List ℕ)) → b ≡ c → Along R (if c then x ∷ events xs else events xs) ys → ((zs : List (List ℕ)) → Along R (events xs) zs → Along S (events es) zs) → unplaced e ≡ unplaced x
+    by : (b c : Bool) (ys : List Y) → b ≡ c → Along R (if c then x ∷ events xs else events xs) ys → ((zs : List Y) → Along R (events xs) zs → Along S (events es) zs) → unplaced e ≡ unplaced x
         → Along S (if b then e ∷ events es else events es) ys
     by true true [] q k rest h = absurd k
     by true true (y ∷ ys) q k rest h = (w e x y h k.0, rest ys k.1)
@@ -215,18 +250,67 @@ events-alike R S w (e ∷ es) (x ∷ xs) ys h k =
 
 -- ---- the laws
 
+-- An event of this operator is copied to the variable of its name, and is on the base clock, if the name is.
+pub record IsLabelled (k : Known) (n : Node) (es : List FlatEqn) (e : FlatEqn) (l : Label) : Type 0 where
+  pub first : Atom
+  pub second : Atom
+  pub right : e.right ≡ operator (obc_two l.1) (first ∷ second ∷ [])
+  pub copied : IsCopied k n es e l.0
+
+abbrev pub MayBeLabelled : Known → Node → List FlatEqn → FlatEqn → Option Label → Type 0
+MayBeLabelled k n es e None = ⊤
+MayBeLabelled k n es e (Some l) = IsLabelled k n es e l
+
+-- So it is of the events that are made of a node, in turn.
+pub labelled_law : (outputs : List ℕ → List (List ℕ)) (k : Known) (n : Node) (ds : List Decl) (body : Eqns) (ls : List (Option Label)) (es : List FlatEqn) → KnowsOutputs outputs k → AreMadeOf k n es → n.body ≡ block ds body → AreLabelled outputs body ls
+    → Along (MayBeLabelled k n es) (events es) ls
+labelled_law outputs k n ds body ls es knows are e labelled =
+    let h = node-copies outputs k knows n ds body ls labelled e in
+    let see = sight outputs k knows n ds body ls labelled n.body in
+    let xs = (sketch_node k n).eqns in
+    let all = subst (λ zs. Along (LabelledBy see [] ds zs) (events zs) ls) (sym h.1) h.2 in
+    events-alike (LabelledBy see [] ds xs) (MayBeLabelled k n es) (λ e' x l s c. each see xs are (λ y. refl) e' x l s c) es xs ls are all
+  where
+    each : (see : Sight) (xs : List FlatEqn) → map unplaced es ≡ map unplaced xs → ((y : List ℕ) → variable_of k n y ≡ (see y).value) → (e' x : FlatEqn) (l : Option Label) → unplaced e' ≡ unplaced x → LabelledBy see [] ds xs x l → MayBeLabelled k n es e' l
+    each see xs same at e' x None s c = tt
+    each see xs same at e' x (Some l) s c =
+        record {
+          first = (c.4).0;
+          second = (c.4).1;
+          right = ap (λ (d : FlatEqn). d.right) s ∙ (c.4).2;
+          copied = record {
+            target = c.0;
+            targets = ap (λ (d : FlatEqn). d.targets) s ∙ c.1;
+            copied = λ v u. copy-alike es xs same e' x s c.0 v (c.2 v (sym (at l.0) ∙ u));
+            based = λ q. ap (λ (d : FlatEqn). d.clock) s ∙ c.3 (sym (ap (λ (b : Block). path_of (locals_of b) l.0) e) ∙ q);
+          };
+        }
+
+-- where each comparison has a name, and nothing is called, these are all events
+all-labelled : (outputs : List ℕ → List (List ℕ)) (es : Eqns) (ys : List (List ℕ)) → AreNamed outputs es ys → (ls : List Label) × (map (λ (l : Label). l.0) ls ≡ ys) × AreLabelled outputs es (map (λ l. Some l) ls)
+all-labelled outputs every names nothing = ([], refl, no_more)
+all-labelled outputs every names (quiet e es ys q r) =
+    let x = all-labelled outputs es ys r in
+    let ls : List (Option Label) = map (λ l. Some l) x.0 in
+    (x.0, x.1, other e es ls ls (sym (ap (λ (ss : List Spot). nones ss ++ ls) (q (λ p. p)))) x.2)
+all-labelled outputs every names (named s t u y o a b es ys c qa qb r) =
+    let x = all-labelled outputs es ys r in
+    let ls : List (Option Label) = map (λ l. Some l) x.0 in (
+      (y, o) ∷ x.0,
+      ap (λ zs. y ∷ zs) x.1,
+      comparison s t u y o a b es ls (Some (y, o) ∷ ls) c (sym (ap₂ (λ (ss rs : List Spot). (nones ss ++ (nones rs ++ Some (y, o) ∷ [])) ++ ls) (qa (λ p. p)) (qb (λ p. p)))) x.2,
+    )
+
+names-alone : (k : Known) (n : Node) (es fs : List FlatEqn) (ls : List Label) → Along (MayBeLabelled k n es) fs (map (λ l. Some l) ls) → Along (IsCopied k n es) fs (map (λ (l : Label). l.0) ls)
+names-alone k n es [] [] h = tt
+names-alone k n es [] (l ∷ ls) h = absurd h
+names-alone k n es (f ∷ fs) [] h = absurd h
+names-alone k n es (f ∷ fs) (l ∷ ls) h = (h.0.copied, names-alone k n es fs ls h.1)
+
 pub named_law : NamedLaw
 named_law outputs k n ds body ys es knows are e is_named =
-    let h = node-copies outputs k knows n ds body ys is_named e in
-    let see = sight outputs k knows n ds body ys is_named n.body in
-    let xs = (sketch_node k n).eqns in
-    let all = subst (λ zs. Along (CopiedBy see [] ds zs) (events zs) ys) (sym h.1) h.2 in
-    events-alike (CopiedBy see [] ds xs) (IsCopied k n es) (λ e' x y s c. record {
-      target = c.0;
-      targets = ap (λ (d : FlatEqn). d.targets) s ∙ c.1;
-      copied = λ v u. copy-alike es xs are e' x s c.0 v (c.2 v u);
-      based = λ q. ap (λ (d : FlatEqn). d.clock) s ∙ c.3 (sym (ap (λ (b : Block). path_of (locals_of b) y) e) ∙ q);
-    }) es xs ys are all
+    let x = all-labelled outputs body ys is_named in
+    subst (Along (IsCopied k n es) (events es)) x.1 (names-alone k n es (events es) x.0 (labelled_law outputs k n ds body (map (λ l. Some l) x.0) es knows are e x.2))
 
 holds-in : (answers : Answers) (past : List Instant) (now : Instant) (es : List FlatEqn) (c : FlatEqn) → AllByRecursion (Holds answers past now) es → IsIn es c → Holds answers past now c
 holds-in answers past now [] c h i = absurd i

@@ -92,7 +92,7 @@ module _ {X Y : Type 0} (P : X → Y → Type 0) where
     eqns-go no_eqn xs ys h = (tt, h)
     eqns-go (more_eqns e es) xs ys h = goes-two (walk_eqn e) (walk_eqns es) (walk_eqn e) (walk_eqns es) (eqn-goes e) (eqns-go es) xs ys h
 
-    eqn-goes : (e : Eqn) → Goes (walk_eqn e) (walk_eqn e)
+    pub eqn-goes : (e : Eqn) → Goes (walk_eqn e) (walk_eqn e)
     eqn-goes (define s zs e) xs ys h = expr-goes e xs ys h
     eqn-goes (switch s e arms) xs ys h = goes-two (walk e) (walk_arms arms) (walk e) (walk_arms arms) (expr-goes e) (arms-go arms) xs ys h
     eqn-goes (reset s b e) xs ys h =

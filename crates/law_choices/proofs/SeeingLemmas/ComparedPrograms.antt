@@ -46,7 +46,7 @@ use Rattle.law_choices.specs.OnClocks.WellMade.{callees_of}
 use Rattle.law_choices.specs.Playing.Mirrored.{early_flags}
 use Rattle.law_choices.specs.Runs.Chosen.{ChosenReaction, chosen_given, chosen_nodes}
 use Rattle.law_choices.specs.Seeing.Compared.{ComparedLaw}
-use Rattle.law_choices.specs.Seeing.Comparing.{BlockNamesComparisons, ComparesByName}
+use Rattle.law_choices.specs.Seeing.Comparing.{ComparesByName}
 use Rattle.law_choices.specs.Seeing.Held.{HoldThroughout, HoldsValues}
 use Rattle.law_choices.specs.Streams.Names.{AreUnder, IsOnlyReaction, KeepsNamesOf, NamesLaw, variable_in}
 use Rattle.law_choices.proofs.AnsweredLemmas.OneLoop.{rows_chosen}
@@ -61,6 +61,7 @@ use Rattle.law_choices.proofs.PlayingLemmas.Holding.{Does, Runs, inputs-held, ru
 use Rattle.law_choices.proofs.PlayingLemmas.Programs.{FoundMade, GreatestLaws, differ, find-of, its-choice, kinds-in, typed-here}
 use Rattle.law_choices.proofs.SeeingLemmas.Compared.{holds}
 use Rattle.law_choices.proofs.SeeingLemmas.Defined.{block-named}
+use Rattle.law_choices.proofs.SeeingLemmas.Labels.{sorted-all}
 use Rattle.law_choices.proofs.SeeingLemmas.PlantRuns.{first-same, first_of, in_first, plant-runs}
 use Rattle.law_choices.proofs.StreamsLemmas.Alike.{only_law}
 use Rattle.law_choices.proofs.StreamsLemmas.Streams.{in_turn}
@@ -135,10 +136,13 @@ module _ (nodes : NodeLaws) (types : List ObcType) (all : Callees) (observers : 
   -- one instant
   now-holds : (row : List Value) (older : Past) (free now : Instant) (i : flows.Instant) (js : List flows.Instant) → AreOf decls n.inputs row → Does choices decls earlier n row older free now → Typed after n now → IsPossible types chosen i
       → map i (inputs_of chosen) ≡ row → AllByRecursion (Holds answers js (first_of nodes types all observers n c g i)) c.plant.eqns → NamesHave (now ∷ older) (first_of nodes types all observers n c g i ∷ js) → HoldsValues types after n (survey nodes types all observers n c g) i now
-  now-holds row older free now i js of does is_typed possible first eqs names = by n.body refl compares.named
+  now-holds row older free now i js of does is_typed possible first eqs names = by n.body refl
     where
-      by : (b : Block) → n.body ≡ b → BlockNamesComparisons b compares.comparisons → HoldsValues types after n (survey nodes types all observers n c g) i now
-      by (block ds es) is_body h =
+      by : (b : Block) → n.body ≡ b → HoldsValues types after n (survey nodes types all observers n c g) i now
+      by (block ds es) is_body =
+          let known : List ℕ → Bool = is_body_name n in
+          let sorted = sorted-all known ds es in
+          let cs = sorted.comparisons in
           let N : Nodes = chosen_nodes choices decls real earlier in
           let given : Given = chosen_given (choices n.name) n row (record { past = older; free = free }) in
           let chosen_values = given_to decls real N (controls_of n.contract) (part Controls given.free) in
@@ -149,8 +153,8 @@ module _ (nodes : NodeLaws) (types : List ObcType) (all : Callees) (observers : 
           subst (λ (b : Block). (q : Place) → now (Body ∷ q) ≡ scope decls real N b false out last inner (part Body now) q) is_body (λ q. does (Body ∷ q)) in
           let own_ok = (subst (BlockOk none_known 0) is_body ok).1 in
           let star = (is_typed.values).no_mark in
-          let its = block-named decls N ds now star es compares.comparisons h none_known 0 own_ok false out last inner are in
-          holds nodes types all observers after n c g k enums made early flags kinds compares ok ds es is_body h answers js (first_of nodes types all observers n c g i) i (λ x l. first-same nodes types all observers n c g i x l) eqs
+          let its = block-named known decls N ds now star es cs sorted.names none_known 0 own_ok false out last inner are in
+          holds nodes types all observers after n c g k enums made early flags kinds compares ok ds es is_body cs sorted.names answers js (first_of nodes types all observers n c g i) i (λ x l. first-same nodes types all observers n c g i x l) eqs
           (survey_typed nodes types all observers n c g i possible) N now star (λ y d. let v = names y d in (v.0, v.1, v.2.0)) its row of (inputs-held choices decls earlier n row older free now (of-long decls n.inputs row of) does)
           (ap (λ m. map i (range_with_len 0 m)) (sym chosen-inputs) ∙ first) few-inputs
 

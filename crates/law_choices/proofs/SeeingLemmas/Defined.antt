@@ -14,18 +14,12 @@ use Rattle.hp_tree.specs.Instant.{Body, Equations, First, Given, Head, Instant, 
 use Rattle.hp_tree.specs.Meaning.{Names, Nodes, defined, defines, equations, gives, inside, lasts, scope, some_defines}
 use Rattle.hp_meaning.specs.Causal.Sources.{below}
 use Rattle.hp_meaning.specs.Contract.Forgetting.{erased, is_forgotten}
-use Rattle.law_automata.specs.Lowered.Removable.{EqnsOk, Known}
+use Rattle.law_automata.specs.Lowered.Removable.{EqnsOk, Known as Outer}
 use Rattle.law_automata.specs.Lowered.Standing.{Along}
 use Rattle.hp_watch.specs.Walk.{compares}
 use Rattle.law_choices.specs.Chosen.Laws.{is_mark, is_seen}
-use Rattle.law_choices.specs.Seeing.Comparing.{Comparison, NamesComparisons, no_more, nothing_compared, comparison}
-
--- ---- the right sides that compare, in order
-
-abbrev pub rights : (ds : List Decl) (es : Eqns) (cs : List Comparison) → NamesComparisons ds es cs → (Place → Place) → List Place
-rights ds all names no_more w = []
-rights ds all names (nothing_compared e es cs q h) w = rights ds es cs h (below Tail w)
-rights ds all names (comparison s t u y o a b es cs c k qa qb h) w = w (Head ∷ Right ∷ []) ∷ rights ds es cs h (below Tail w)
+use Rattle.law_choices.specs.Seeing.Comparing.{Comparison}
+use Rattle.law_choices.proofs.SeeingLemmas.Labels.{Names as NamesOf, comparison, no_more, order-compares, other, rights}
 
 -- ---- values
 
@@ -74,7 +68,7 @@ along-weaker P Q w (x ∷ xs) (y ∷ ys) h = (w x y h.0, along-weaker P Q w xs y
 
 -- ---- the equations of a block
 
-module _ (types : List TypeDecl) (N : Nodes) (ds : List Decl) (now : Instant) (no_star : (p : Place) → now p ≡ Star → ⊥) where
+module _ (known : List ℕ → Bool) (types : List TypeDecl) (N : Nodes) (ds : List Decl) (now : Instant) (no_star : (p : Place) → now p ≡ Star → ⊥) where
   -- where both operands are seen as integers, a truth value stands there
   abbrev pub IsTruthWhereSeen : Place → Type 0
   IsTruthWhereSeen p = is_seen (erased now) p ≡ true → (b : Bool) × (now p ≡ B b)
@@ -99,20 +93,20 @@ module _ (types : List TypeDecl) (N : Nodes) (ds : List Decl) (now : Instant) (n
         by true q = absurd (let z : true ≡ false = sym n.0 ∙ once c.0 q in cc)
         by false q = q
 
-    all-named : (es : Eqns) (cs : List Comparison) (h : NamesComparisons ds es cs) (outer : Known) (d : ℕ) → EqnsOk outer d es → (w : Place → Place) (g : Given) (i : Instant)
+    all-named : (es : Eqns) (cs : List Comparison) (h : NamesOf known ds es cs) (outer : Outer) (d : ℕ) → EqnsOk outer d es → (w : Place → Place) (g : Given) (i : Instant)
         → ((q : Place) → now (w q) ≡ equations types real N ds es names last g i q) → ((q : Place) → is_seen (erased now) (w q) ≡ is_seen (λ r. erased now (w r)) q)
-        → Along (IsNamedAt es g i) cs (rights ds es cs h w)
-    all-named all known no_more outer d ok w g i are seen = tt
-    all-named all known (nothing_compared e es cs q h) outer d ok w g i are seen =
-        along-weaker (IsNamedAt es (at Tail g) (part Tail i)) (IsNamedAt (more_eqns e es) g i) (later e es ok.0 g i) cs (rights ds es cs h (below Tail w))
+        → Along (IsNamedAt es g i) cs (rights known ds es cs h w)
+    all-named every all no_more outer d ok w g i are seen = tt
+    all-named every all (other e es cs q h) outer d ok w g i are seen =
+        along-weaker (IsNamedAt es (at Tail g) (part Tail i)) (IsNamedAt (more_eqns e es) g i) (later e es ok.0 g i) cs (rights known ds es cs h (below Tail w))
         (all-named es cs h outer d ok.2 (below Tail w) (at Tail g) (part Tail i) (λ r. are (Tail ∷ r)) (λ r. seen (Tail ∷ r)))
-    all-named all known (comparison s t u y o a b es cs c k qa qb h) outer d ok w g i are seen = (
+    all-named every all (comparison s t u y o a b es cs c k q h) outer d ok w g i are seen = (
       (
         ap (λ f. (f || false) || some_defines es y) own,
         ap (λ f. if f || false then gives types real N ds e names last (at Head g) (part Head i) y else value_in es (at Tail g) (part Tail i) y) own ∙ sym (are (Head ∷ Right ∷ [])),
         truth,
       ),
-      along-weaker (IsNamedAt es (at Tail g) (part Tail i)) (IsNamedAt (more_eqns e es) g i) (later e es ok.0 g i) cs (rights ds es cs h (below Tail w))
+      along-weaker (IsNamedAt es (at Tail g) (part Tail i)) (IsNamedAt (more_eqns e es) g i) (later e es ok.0 g i) cs (rights known ds es cs h (below Tail w))
           (all-named es cs h outer d ok.2 (below Tail w) (at Tail g) (part Tail i) (λ r. are (Tail ∷ r)) (λ r. seen (Tail ∷ r))),
     )
       where
@@ -127,7 +121,7 @@ module _ (types : List TypeDecl) (N : Nodes) (ds : List Decl) (now : Instant) (n
             let m = both-true (is_mark (erased now (w (Head ∷ Right ∷ First ∷ [])))) (is_mark (erased now (w (Head ∷ Right ∷ Second ∷ [])))) (sym (seen (Head ∷ Right ∷ [])) ∙ z) in
             let x = mark-number (is_forgotten (w (Head ∷ Right ∷ First ∷ []))) (now (w (Head ∷ Right ∷ First ∷ []))) (no_star (w (Head ∷ Right ∷ First ∷ []))) m.0 in
             let v = mark-number (is_forgotten (w (Head ∷ Right ∷ Second ∷ []))) (now (w (Head ∷ Right ∷ Second ∷ []))) (no_star (w (Head ∷ Right ∷ Second ∷ []))) m.1 in
-            let r = of-numbers o x.0 v.0 c in
+            let r = of-numbers o x.0 v.0 (order-compares o c) in
             (r.0, are (Head ∷ Right ∷ []) ∙ ap₂ (two_of o) (sym (are (Head ∷ Right ∷ First ∷ [])) ∙ x.1) (sym (are (Head ∷ Right ∷ Second ∷ [])) ∙ v.1) ∙ r.1)
 
   -- ---- a block that stands as the body of a node
@@ -136,13 +130,13 @@ module _ (types : List TypeDecl) (N : Nodes) (ds : List Decl) (now : Instant) (n
   abbrev pub HasItsValue : Comparison → Place → Type 0
   HasItsValue c p = (now (Body ∷ Named c.0 ∷ []) ≡ now p) × IsTruthWhereSeen p
 
-  pub block-named : (es : Eqns) (cs : List Comparison) (h : NamesComparisons ds es cs) (outer : Known) (d : ℕ) → EqnsOk outer d es → (fresh : Bool) (out last : Names) (g : Given)
-      → ((q : Place) → now (Body ∷ q) ≡ scope types real N (block ds es) fresh out last g (part Body now) q) → Along HasItsValue cs (rights ds es cs h (below Equations (below Body (λ p. p))))
+  pub block-named : (es : Eqns) (cs : List Comparison) (h : NamesOf known ds es cs) (outer : Outer) (d : ℕ) → EqnsOk outer d es → (fresh : Bool) (out last : Names) (g : Given)
+      → ((q : Place) → now (Body ∷ q) ≡ scope types real N (block ds es) fresh out last g (part Body now) q) → Along HasItsValue cs (rights known ds es cs h (below Equations (below Body (λ p. p))))
   block-named es cs h outer d ok fresh out last g are =
       let names' : Names = inside es out (part Body now) in
       let last' : Names = lasts (constant_of types) ds g.past last in
       let h' = at Equations g in
       let i : Instant = part Equations (part Body now) in
       along-weaker (IsNamedAt names' last' es h' i) HasItsValue
-      (λ c p n. (are (Named c.0 ∷ []) ∙ ap (λ b. if b then value_in names' last' es h' i c.0 else Absent) n.0 ∙ n.1, n.2)) cs (rights ds es cs h (below Equations (below Body (λ p. p))))
+      (λ c p n. (are (Named c.0 ∷ []) ∙ ap (λ b. if b then value_in names' last' es h' i c.0 else Absent) n.0 ∙ n.1, n.2)) cs (rights known ds es cs h (below Equations (below Body (λ p. p))))
       (all-named names' last' es cs h outer d ok (below Equations (below Body (λ p. p))) h' i (λ q. are (Equations ∷ q)) (λ q. refl))

@@ -1,5 +1,5 @@
 -- Of a node whose comparisons have names, what is watched are the inputs and the comparisons by order, and these hold values of their types: the instant's own wherever it looks.
-use Rattle.std.proofs.Common.{◌≡◌, ◌⊎◌, inl, inr, ℕ, suc, ◌+◌, ◌≤◌, ◌<◌, Bool, true, false, if◌then◌else◌, List, [], ◌∷◌, ◌++◌, length, map, slice_get, None, Some, refl, sym, ap, ap₂, subst, ◌∙◌, arith}
+use Rattle.std.proofs.Common.{◌≡◌, ◌⊎◌, inl, inr, ℕ, suc, ◌+◌, ◌≤◌, ◌<◌, Bool, true, if◌then◌else◌, List, [], ◌∷◌, ◌++◌, length, map, slice_get, Option, None, Some, refl, sym, ap, ap₂, subst, ◌∙◌, arith}
 use Rattle.std.specs.Prelude.{⊤}
 use Rattle.std.specs.List.{AllByRecursion, flat_map, range_with_len}
 use Rattle.std.proofs.lemmas.List.{append-nil, length-append}
@@ -62,7 +62,8 @@ use Rattle.law_choices.proofs.PlacesLemmas.Numbers.{AtNumber}
 use Rattle.law_choices.proofs.PlayingLemmas.Asking.{seen, survey, type-same}
 use Rattle.law_choices.proofs.PlayingLemmas.Flags.{declared-cons}
 use Rattle.law_choices.proofs.SeeingLemmas.Defined.{HasItsValue}
-use Rattle.law_choices.proofs.SeeingLemmas.Ordered.{IsRow, ordered_of}
+use Rattle.law_choices.proofs.SeeingLemmas.Labels.{somes, truths}
+use Rattle.law_choices.proofs.SeeingLemmas.Ordered.{IsRow, MayBeRow}
 
 -- ---- lists
 
@@ -302,6 +303,10 @@ module _ (laws : NodeLaws) (types : List ObcType) (all : Callees) (observers : O
   abbrev pub Row : ℕ → Comparison → Type 0
   Row m r = AtNumber (IsRow k low plant.eqns) plant.eqns m r
 
+  -- and of one of which nothing may be said
+  abbrev pub MayRow : ℕ → Option Comparison → Type 0
+  MayRow m l = AtNumber (MayBeRow k low plant.eqns) plant.eqns m l
+
   abbrev target_of : (m : ℕ) (r : Comparison) → Row m r → ℕ
   target_of m r x = x.2.target
 
@@ -339,19 +344,19 @@ module _ (laws : NodeLaws) (types : List ObcType) (all : Callees) (observers : O
         by (inl q) = q ∙ x.2.clock
         by (inr q) = absurd (no-copy r.1 (x.2.first ∷ x.2.second ∷ []) (subst IsCopy x.2.right q))
 
-    typed-row : is_order r.1 ≡ true → (compares_integers s.node (x.2.first ∷ x.2.second ∷ []) ≡ true) × (type_at s.node (target_of m r x) ≡ flat.Bool)
-    typed-row o =
+    typed-row : (compares_integers s.node (x.2.first ∷ x.2.second ∷ []) ≡ true) × (type_at s.node (target_of m r x) ≡ flat.Bool)
+    typed-row =
         let keeps = (seen laws types all observers n c g).keeps in
         let w = (keeps.built).well in
         let h = at_number (EqnKinds types all s.node.variables) s.node.eqns m e there w.kinds in
-        order-typed types all s.node r.1 x.2.first x.2.second (target_of m r x) o
+        order-typed types all s.node r.1 x.2.first x.2.second (target_of m r x) x.2.by_order
         (subst (λ ts. RightHasKinds types all s.node.variables (operator (obc_two r.1) (x.2.first ∷ x.2.second ∷ [])) (map (variable_kind types s.node.variables) ts)) x.2.targets
         (subst (λ q. RightHasKinds types all s.node.variables q (map (variable_kind types s.node.variables) e.targets)) x.2.right h.right))
 
     -- one that compares by order gives one free place
-    one-free : is_order r.1 ≡ true → free_by_number m ≡ place_at m r x ∷ []
-    one-free o =
-        let t = typed-row o in
+    one-free : free_by_number m ≡ place_at m r x ∷ []
+    one-free =
+        let t = typed-row in
         let shift = shift_at own_places.shifts m in
         ap (free_placed_by observers own_places m) there
         ∙ ap₂ (λ (q : Right) ts. free_by s.node m q ts ++ free_moved (called_by observers q) shift) x.2.right x.2.targets
@@ -360,48 +365,46 @@ module _ (laws : NodeLaws) (types : List ObcType) (all : Callees) (observers : O
 
   -- ---- the list of free places
 
-  -- something of each event, with its comparison and its place
+  -- something of each event that is a comparison with a name, with its place
   module _ (T : (m : ℕ) (r : Comparison) → Row m r → Place → Type 0) where
-    abbrev Each : (ms : List ℕ) (rs : List Comparison) → List Place → Along Row ms rs → Type 0
+    abbrev Each : (ms : List ℕ) (ls : List (Option Comparison)) → List Place → Along MayRow ms ls → Type 0
     Each [] [] [] h = ⊤
-    Each (m ∷ ms) (r ∷ rs) (q ∷ ps) h = T m r h.0 q × Each ms rs ps h.1
-    Each ms rs ps h = ⊥
+    Each (m ∷ ms) (None ∷ ls) ps h = Each ms ls ps h.1
+    Each (m ∷ ms) (Some r ∷ ls) (q ∷ ps) h = T m r h.0 q × Each ms ls ps h.1
+    Each ms ls ps h = ⊥
 
     -- there are as many at least
-    as-long : (ms : List ℕ) (rs : List Comparison) (ps : List Place) (h : Along Row ms rs) → Each ms rs ps h → length (ordered_of rs ps) ≤ length (flat_map free_by_number ms)
+    as-long : (ms : List ℕ) (ls : List (Option Comparison)) (ps : List Place) (h : Along MayRow ms ls) → Each ms ls ps h → length (truths ps) ≤ length (flat_map free_by_number ms)
     as-long [] [] [] h p = omega arith
     as-long [] [] (q ∷ ps) h p = absurd p
-    as-long [] (r ∷ rs) ps h p = absurd h
+    as-long [] (l ∷ ls) ps h p = absurd h
     as-long (m ∷ ms) [] ps h p = absurd h
-    as-long (m ∷ ms) (r ∷ rs) [] h p = absurd p
-    as-long (m ∷ ms) (r ∷ rs) (q ∷ ps) h p = by (is_order r.1) refl (as-long ms rs ps h.1 p.1) (length-append (free_by_number m) (flat_map free_by_number ms))
-      where
-        by : (b : Bool) → is_order r.1 ≡ b → length (ordered_of rs ps) ≤ length (flat_map free_by_number ms) → length (flat_map free_by_number (m ∷ ms)) ≡ length (free_by_number m) + length (flat_map free_by_number ms)
-            → length ((if b then (q, ty.Bool) ∷ [] else []) ++ ordered_of rs ps) ≤ length (flat_map free_by_number (m ∷ ms))
-        by true o rest l = let one = ap length (one-free m r h.0 o) in omega (arith, rest, l, one)
-        by false o rest l = omega (arith, rest, l)
+    as-long (m ∷ ms) (None ∷ ls) ps h p = let rest = as-long ms ls ps h.1 p in let l = length-append (free_by_number m) (flat_map free_by_number ms) in omega (arith, rest, l)
+    as-long (m ∷ ms) (Some r ∷ ls) [] h p = absurd p
+    as-long (m ∷ ms) (Some r ∷ ls) (q ∷ ps) h p =
+        let rest = as-long ms ls ps h.1 p.1 in
+        let l = length-append (free_by_number m) (flat_map free_by_number ms) in
+        let one = ap length (one-free m r h.0) in
+        omega (arith, rest, l, one)
 
-    -- Where there are no more, they are those of comparisons by order, in turn.
-    aligned : (Q : FreePlace → Free → Type 0) → ((m : ℕ) (r : Comparison) (x : Row m r) (q : Place) → T m r x q → is_order r.1 ≡ true → Q (q, ty.Bool) (place_at m r x)) → (ms : List ℕ) (rs : List Comparison) (ps : List Place) (h : Along Row ms rs) → Each ms rs ps h
-        → length (flat_map free_by_number ms) ≡ length (ordered_of rs ps) → Along Q (ordered_of rs ps) (flat_map free_by_number ms)
+    -- Where there are no more, they are those, in turn.
+    aligned : (Q : FreePlace → Free → Type 0) → ((m : ℕ) (r : Comparison) (x : Row m r) (q : Place) → T m r x q → Q (q, ty.Bool) (place_at m r x)) → (ms : List ℕ) (ls : List (Option Comparison)) (ps : List Place) (h : Along MayRow ms ls) → Each ms ls ps h
+        → length (flat_map free_by_number ms) ≡ length (truths ps) → Along Q (truths ps) (flat_map free_by_number ms)
     aligned Q each [] [] [] h p l = tt
     aligned Q each [] [] (q ∷ ps) h p l = absurd p
-    aligned Q each [] (r ∷ rs) ps h p l = absurd h
+    aligned Q each [] (x ∷ ls) ps h p l = absurd h
     aligned Q each (m ∷ ms) [] ps h p l = absurd h
-    aligned Q each (m ∷ ms) (r ∷ rs) [] h p l = absurd p
-    aligned Q each (m ∷ ms) (r ∷ rs) (q ∷ ps) h p l =
-        by (is_order r.1) refl l (as-long ms rs ps h.1 p.1) (length-append (free_by_number m) (flat_map free_by_number ms)) (aligned Q each ms rs ps h.1 p.1)
-      where
-        by : (b : Bool) → is_order r.1 ≡ b → length (flat_map free_by_number (m ∷ ms)) ≡ length ((if b then (q, ty.Bool) ∷ [] else []) ++ ordered_of rs ps) → length (ordered_of rs ps) ≤ length (flat_map free_by_number ms)
-            → length (flat_map free_by_number (m ∷ ms)) ≡ length (free_by_number m) + length (flat_map free_by_number ms) → (length (flat_map free_by_number ms) ≡ length (ordered_of rs ps) → Along Q (ordered_of rs ps) (flat_map free_by_number ms))
-            → Along Q ((if b then (q, ty.Bool) ∷ [] else []) ++ ordered_of rs ps) (flat_map free_by_number (m ∷ ms))
-        by true o l long both rest =
-            let one = one-free m r h.0 o in
-            let many = ap length one in
-            subst (λ fs. Along Q ((q, ty.Bool) ∷ ordered_of rs ps) (fs ++ flat_map free_by_number ms)) (sym one) (each m r h.0 q p.0 o, rest (omega (arith, l, both, many)))
-        by false o l long both rest =
-            let none : free_by_number m ≡ [] = no-elements (free_by_number m) (omega (arith, l, both, long)) in
-            subst (λ fs. Along Q (ordered_of rs ps) (fs ++ flat_map free_by_number ms)) (sym none) (rest (omega (arith, l, both, long)))
+    aligned Q each (m ∷ ms) (None ∷ ls) ps h p l =
+        let long = as-long ms ls ps h.1 p in
+        let both = length-append (free_by_number m) (flat_map free_by_number ms) in
+        let none : free_by_number m ≡ [] = no-elements (free_by_number m) (omega (arith, l, both, long)) in
+        subst (λ fs. Along Q (truths ps) (fs ++ flat_map free_by_number ms)) (sym none) (aligned Q each ms ls ps h.1 p (omega (arith, l, both, long)))
+    aligned Q each (m ∷ ms) (Some r ∷ ls) [] h p l = absurd p
+    aligned Q each (m ∷ ms) (Some r ∷ ls) (q ∷ ps) h p l =
+        let both = length-append (free_by_number m) (flat_map free_by_number ms) in
+        let one = one-free m r h.0 in
+        let many = ap length one in
+        subst (λ fs. Along Q ((q, ty.Bool) ∷ truths ps) (fs ++ flat_map free_by_number ms)) (sym one) (each m r h.0 q p.0, aligned Q each ms ls ps h.1 p.1 (omega (arith, l, both, many)))
 
   -- ---- one instant
 
@@ -410,17 +413,17 @@ module _ (laws : NodeLaws) (types : List ObcType) (all : Callees) (observers : O
       (types_of_tree : List TypeDecl) (N : Nodes) (ds : List Decl) (now : Instant) (no_star : (p : Place) → now p ≡ Star → ⊥)
       (named : (y : List ℕ) → is_body_name n y ≡ true → (x : ℕ) × (variable_of k low y ≡ Some x) × Under (now (Body ∷ Named y ∷ [])) (j x)) where
     abbrev Its : Comparison → Place → Type 0
-    Its r p = HasItsValue types_of_tree N ds now no_star r p
+    Its r p = HasItsValue (is_body_name n) types_of_tree N ds now no_star r p
 
     -- the target holds a truth value
-    row-truth : (m : ℕ) (r : Comparison) (x : Row m r) → is_order r.1 ≡ true → (b : Bool) × (i (target_of m r x) ≡ B b)
-    row-truth m r x o =
+    row-truth : (m : ℕ) (r : Comparison) (x : Row m r) → (b : Bool) × (i (target_of m r x) ≡ B b)
+    row-truth m r x =
         let v = (((seen laws types all observers n c g).keeps).grows).variables in
         let long = length-append plant.variables v.0 in
         let e = ap length v.1 in
         let below = target-below m r x in
         let h = typed (target_of m r x) (omega (arith, below, long, e)) (ap (λ d. flows.holds d i) (target-clock m r x)) in
-        truth-of (i (target_of m r x)) (subst (λ t. IsOfKind (kind_of_type types t) (i (target_of m r x))) (typed-row m r x o).1 h)
+        truth-of (i (target_of m r x)) (subst (λ t. IsOfKind (kind_of_type types t) (i (target_of m r x))) (typed-row m r x).1 h)
 
     -- and that of the right side, if the instant looks there
     row-own : (m : ℕ) (r : Comparison) (x : Row m r) (p : Place) → Its r p → is_body_name n r.0 ≡ true → is_seen (erased now) p ≡ true → i (target_of m r x) ≡ now p
@@ -432,17 +435,19 @@ module _ (laws : NodeLaws) (types : List ObcType) (all : Callees) (observers : O
         sym (same (target_of m r x) (target-below m r x)) ∙ sym copy ∙ value ∙ sym truth.1
 
     -- the values that targets hold
-    abbrev pub held_values : (ms : List ℕ) (rs : List Comparison) → Along Row ms rs → List Value
+    abbrev pub held_values : (ms : List ℕ) (ls : List (Option Comparison)) → Along MayRow ms ls → List Value
     held_values [] [] h = []
-    held_values [] (r ∷ rs) h = absurd h
+    held_values [] (l ∷ ls) h = absurd h
     held_values (m ∷ ms) [] h = absurd h
-    held_values (m ∷ ms) (r ∷ rs) h = i (target_of m r h.0) ∷ held_values ms rs h.1
+    held_values (m ∷ ms) (None ∷ ls) h = held_values ms ls h.1
+    held_values (m ∷ ms) (Some r ∷ ls) h = i (target_of m r h.0) ∷ held_values ms ls h.1
 
-    pub held-many : (ms : List ℕ) (rs : List Comparison) (h : Along Row ms rs) → length (held_values ms rs h) ≡ length rs
+    pub held-many : (ms : List ℕ) (ls : List (Option Comparison)) (h : Along MayRow ms ls) → length (held_values ms ls h) ≡ length (somes ls)
     held-many [] [] h = refl
-    held-many [] (r ∷ rs) h = absurd h
+    held-many [] (l ∷ ls) h = absurd h
     held-many (m ∷ ms) [] h = absurd h
-    held-many (m ∷ ms) (r ∷ rs) h = ap suc (held-many ms rs h.1)
+    held-many (m ∷ ms) (None ∷ ls) h = held-many ms ls h.1
+    held-many (m ∷ ms) (Some r ∷ ls) h = ap suc (held-many ms ls h.1)
 
     abbrev AreAt : Instant → List Place → List Value → Type 0
     AreAt given ps vs = Along (λ (p : Place) (v : Value). given p ≡ v) ps vs
@@ -451,53 +456,57 @@ module _ (laws : NodeLaws) (types : List ObcType) (all : Callees) (observers : O
     AllDeclared rs = AllByRecursion (λ (r : Comparison). is_body_name n r.0 ≡ true) rs
 
     -- they are the instant's own wherever it looks
-    pub own-values : (values : Instant) (ms : List ℕ) (rs : List Comparison) (ps : List Place) (h : Along Row ms rs) → Along Its rs ps → AllDeclared rs → AreAt values ps (held_values ms rs h) → (q : Place) → IsFree (ordered_of rs ps) q → is_seen (erased now) q ≡ true → values q ≡ now q
-    own-values values ms [] ps h its declared at q f seen_there = absurd f
-    own-values values ms (r ∷ rs) [] h its declared at q f seen_there = absurd its
-    own-values values [] (r ∷ rs) (p ∷ ps) h its declared at q f seen_there = absurd h
-    own-values values (m ∷ ms) (r ∷ rs) (p ∷ ps) h its declared at q f seen_there = by (is_order r.1) f (own-values values ms rs ps h.1 its.1 declared.1 at.1 q)
-      where
-        by : (b : Bool) → IsFree ((if b then (p, ty.Bool) ∷ [] else []) ++ ordered_of rs ps) q → (IsFree (ordered_of rs ps) q → is_seen (erased now) q ≡ true → values q ≡ now q) → values q ≡ now q
-        by true (inl e) rest = ap values e ∙ at.0 ∙ row-own m r h.0 p its.0 declared.0 (ap (is_seen (erased now)) (sym e) ∙ seen_there) ∙ ap now (sym e)
-        by true (inr z) rest = rest z seen_there
-        by false z rest = rest z seen_there
-
-    -- they are truth values
-    pub own-typed : (given : Instant) (ms : List ℕ) (rs : List Comparison) (ps : List Place) (h : Along Row ms rs) → AreAt given ps (held_values ms rs h) → AllByRecursion (IsOfType decls given) (ordered_of rs ps)
-    own-typed given ms [] ps h at = tt
-    own-typed given ms (r ∷ rs) [] h at = tt
-    own-typed given [] (r ∷ rs) (p ∷ ps) h at = absurd h
-    own-typed given (m ∷ ms) (r ∷ rs) (p ∷ ps) h at = by (is_order r.1) refl (own-typed given ms rs ps h.1 at.1)
-      where
-        by : (b : Bool) → is_order r.1 ≡ b → AllByRecursion (IsOfType decls given) (ordered_of rs ps) → AllByRecursion (IsOfType decls given) ((if b then (p, ty.Bool) ∷ [] else []) ++ ordered_of rs ps)
-        by true o rest = let t = row-truth m r h.0 o in (subst (IsOf decls ty.Bool) (sym (at.0 ∙ t.1)) tt, rest)
-        by false o rest = rest
-
-    -- the bits of a target are the code of what it holds
-    row-held : (given : Instant) (m : ℕ) (r : Comparison) (x : Row m r) (p : Place) → given p ≡ i (target_of m r x) → is_order r.1 ≡ true → IsHeld types decls s.node i given (p, ty.Bool) (place_at m r x)
-    row-held given m r x p at o =
-        let t = row-truth m r x o in
-        let clock : clock_of s.node (Some m) ≡ [] = ap clock_by (there m r x) ∙ x.2.clock in
-        ap (λ ty. bits_of_value types ty (if flows.holds (clock_of s.node (Some m)) i then i (target_of m r x) else some_value ty)) (typed-row m r x o).1
-        ∙ ap (λ d. bits_of_value types flat.Bool (if flows.holds d i then i (target_of m r x) else some_value flat.Bool)) clock
-        ∙ ap (bits_of_value types flat.Bool) t.1
-        ∙ sym (ap (code decls ty.Bool) (at ∙ t.1))
+    pub own-values : (values : Instant) (ms : List ℕ) (ls : List (Option Comparison)) (ps : List Place) (h : Along MayRow ms ls) → Along Its (somes ls) ps → AllDeclared (somes ls) → AreAt values ps (held_values ms ls h)
+        → (q : Place) → IsFree (truths ps) q → is_seen (erased now) q ≡ true → values q ≡ now q
+    own-values values [] [] [] h its declared at q f seen_there = absurd f
+    own-values values [] [] (p ∷ ps) h its declared at q f seen_there = absurd its
+    own-values values [] (l ∷ ls) ps h its declared at q f seen_there = absurd h
+    own-values values (m ∷ ms) [] ps h its declared at q f seen_there = absurd h
+    own-values values (m ∷ ms) (None ∷ ls) ps h its declared at q f seen_there = own-values values ms ls ps h.1 its declared at q f seen_there
+    own-values values (m ∷ ms) (Some r ∷ ls) [] h its declared at q f seen_there = absurd its
+    own-values values (m ∷ ms) (Some r ∷ ls) (p ∷ ps) h its declared at q (inl e) seen_there =
+        ap values e ∙ at.0 ∙ row-own m r h.0 p its.0 declared.0 (ap (is_seen (erased now)) (sym e) ∙ seen_there) ∙ ap now (sym e)
+    own-values values (m ∷ ms) (Some r ∷ ls) (p ∷ ps) h its declared at q (inr f) seen_there = own-values values ms ls ps h.1 its.1 declared.1 at.1 q f seen_there
 
     abbrev IsAt : Instant → (m : ℕ) (r : Comparison) → Row m r → Place → Type 0
     IsAt given m r x p = given p ≡ i (target_of m r x)
 
-    each-at : (given : Instant) (ms : List ℕ) (rs : List Comparison) (ps : List Place) (h : Along Row ms rs) → AreAt given ps (held_values ms rs h) → Each (IsAt given) ms rs ps h
+    pub each-at : (given : Instant) (ms : List ℕ) (ls : List (Option Comparison)) (ps : List Place) (h : Along MayRow ms ls) → AreAt given ps (held_values ms ls h) → Each (IsAt given) ms ls ps h
     each-at given [] [] [] h at = tt
     each-at given [] [] (p ∷ ps) h at = absurd at
-    each-at given [] (r ∷ rs) ps h at = absurd h
+    each-at given [] (l ∷ ls) ps h at = absurd h
     each-at given (m ∷ ms) [] ps h at = absurd h
-    each-at given (m ∷ ms) (r ∷ rs) [] h at = absurd at
-    each-at given (m ∷ ms) (r ∷ rs) (p ∷ ps) h at = (at.0, each-at given ms rs ps h.1 at.1)
+    each-at given (m ∷ ms) (None ∷ ls) ps h at = each-at given ms ls ps h.1 at
+    each-at given (m ∷ ms) (Some r ∷ ls) [] h at = absurd at
+    each-at given (m ∷ ms) (Some r ∷ ls) (p ∷ ps) h at = (at.0, each-at given ms ls ps h.1 at.1)
 
-    pub own-long : (given : Instant) (ms : List ℕ) (rs : List Comparison) (ps : List Place) (h : Along Row ms rs) → AreAt given ps (held_values ms rs h) → length (ordered_of rs ps) ≤ length (flat_map free_by_number ms)
-    own-long given ms rs ps h at = as-long (IsAt given) ms rs ps h (each-at given ms rs ps h at)
+    -- they are truth values
+    own-fit : (given : Instant) (ms : List ℕ) (ls : List (Option Comparison)) (ps : List Place) (h : Along MayRow ms ls) → Each (IsAt given) ms ls ps h → AllByRecursion (IsOfType decls given) (truths ps)
+    own-fit given [] [] [] h at = tt
+    own-fit given [] [] (p ∷ ps) h at = absurd at
+    own-fit given [] (l ∷ ls) ps h at = absurd h
+    own-fit given (m ∷ ms) [] ps h at = absurd h
+    own-fit given (m ∷ ms) (None ∷ ls) ps h at = own-fit given ms ls ps h.1 at
+    own-fit given (m ∷ ms) (Some r ∷ ls) [] h at = absurd at
+    own-fit given (m ∷ ms) (Some r ∷ ls) (p ∷ ps) h at = let t = row-truth m r h.0 in (subst (IsOf decls ty.Bool) (sym (at.0 ∙ t.1)) tt, own-fit given ms ls ps h.1 at.1)
+
+    pub own-typed : (given : Instant) (ms : List ℕ) (ls : List (Option Comparison)) (ps : List Place) (h : Along MayRow ms ls) → AreAt given ps (held_values ms ls h) → AllByRecursion (IsOfType decls given) (truths ps)
+    own-typed given ms ls ps h at = own-fit given ms ls ps h (each-at given ms ls ps h at)
+
+    -- the bits of a target are the code of what it holds
+    row-held : (given : Instant) (m : ℕ) (r : Comparison) (x : Row m r) (p : Place) → given p ≡ i (target_of m r x) → IsHeld types decls s.node i given (p, ty.Bool) (place_at m r x)
+    row-held given m r x p at =
+        let t = row-truth m r x in
+        let clock : clock_of s.node (Some m) ≡ [] = ap clock_by (there m r x) ∙ x.2.clock in
+        ap (λ ty. bits_of_value types ty (if flows.holds (clock_of s.node (Some m)) i then i (target_of m r x) else some_value ty)) (typed-row m r x).1
+        ∙ ap (λ d. bits_of_value types flat.Bool (if flows.holds d i then i (target_of m r x) else some_value flat.Bool)) clock
+        ∙ ap (bits_of_value types flat.Bool) t.1
+        ∙ sym (ap (code decls ty.Bool) (at ∙ t.1))
+
+    pub own-long : (given : Instant) (ms : List ℕ) (ls : List (Option Comparison)) (ps : List Place) (h : Along MayRow ms ls) → AreAt given ps (held_values ms ls h) → length (truths ps) ≤ length (flat_map free_by_number ms)
+    own-long given ms ls ps h at = as-long (IsAt given) ms ls ps h (each-at given ms ls ps h at)
 
     -- so the free places hold the codes of these values, where there are no more
-    pub own-held : (given : Instant) (ms : List ℕ) (rs : List Comparison) (ps : List Place) (h : Along Row ms rs) → AreAt given ps (held_values ms rs h) → length (flat_map free_by_number ms) ≡ length (ordered_of rs ps)
-        → Along (IsHeld types decls s.node i given) (ordered_of rs ps) (flat_map free_by_number ms)
-    own-held given ms rs ps h at l = aligned (IsAt given) (IsHeld types decls s.node i given) (λ m r x q t o. row-held given m r x q t o) ms rs ps h (each-at given ms rs ps h at) l
+    pub own-held : (given : Instant) (ms : List ℕ) (ls : List (Option Comparison)) (ps : List Place) (h : Along MayRow ms ls) → AreAt given ps (held_values ms ls h) → length (flat_map free_by_number ms) ≡ length (truths ps)
+        → Along (IsHeld types decls s.node i given) (truths ps) (flat_map free_by_number ms)
+    own-held given ms ls ps h at l = aligned (IsAt given) (IsHeld types decls s.node i given) (λ m r x q t. row-held given m r x q t) ms ls ps h (each-at given ms ls ps h at) l
