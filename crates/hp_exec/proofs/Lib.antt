@@ -3,6 +3,7 @@ pub mod Weights
 pub mod Flows
 pub mod Written
 pub mod NeedLaws
+pub mod SinkLaws
 pub mod CopyLaws
 pub mod SlimLaws
 pub mod FlatLaws
