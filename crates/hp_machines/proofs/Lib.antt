@@ -3,5 +3,6 @@ mod Rules
 mod HeadingLaws
 mod NotBuiltLaws
 mod OneLaws
+mod NeededLaws
 mod ApartLaws
 mod CopiesLaws

@@ -34,7 +34,7 @@ use Rattle.hp_machines.specs.One.{OneMachinesLaw}
 
 -- ---- equations that define something
 
-each_given : (P : FlatEqn → Type 0) (es : List FlatEqn) → AllByRecursion P es → AllByRecursion P (filter defines_some es)
+pub each_given : (P : FlatEqn → Type 0) (es : List FlatEqn) → AllByRecursion P es → AllByRecursion P (filter defines_some es)
 each_given P [] h = tt
 each_given P (e ∷ es) h = by (defines_some e) (each_given P es h.1)
   where

@@ -5,3 +5,4 @@ pub mod NotBuilt
 pub mod One
 pub mod Apart
 pub mod Copies
+pub mod Needed

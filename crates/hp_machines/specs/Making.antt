@@ -14,7 +14,7 @@ use Rattle.hp_toobc.specs.Making.{machine_of}
 use Rattle.hp_fuse.specs.Fusing.{fused_machine}
 use Rattle.hp_form.specs.Regular.Regular.{IsRegular}
 
--- The equations of a node stand in the order by clock, needless copies are taken away, each equation becomes commands, and neighbouring cases are joined.
+-- The equations of a node stand in the order by clock, needless choices and copies and what nothing needs are taken away, each equation becomes commands, and neighbouring cases are joined.
 pub record IsArrangedAs (types : List ObcType) (n : FlatNode) (m : Machine) : Type 0 where
   pub scheduled : List FlatEqn
   pub same : IsPermutation (map unplaced n.eqns) (map unplaced scheduled)

@@ -1,6 +1,7 @@
 //! Laws of machines that are made. The functions do nothing.
 ghost use Rattle.hp_machines.specs.Apart.{ApartLaw};
 ghost use Rattle.hp_machines.specs.Copies.{NoneNeedlessLaw};
+ghost use Rattle.hp_machines.specs.Needed.{NeededMachinesLaw};
 ghost use Rattle.hp_machines.specs.One.{OneMachinesLaw};
 
 /// A program has one list of machines.
@@ -16,4 +17,9 @@ pub fn no_neighbours_are_left_to_be_joined()
 /// Among equations that stand behind those that define what they read, no needless copies are left.
 pub fn no_needless_copies_are_left()
     ensures { NoneNeedlessLaw }
+{}
+
+/// Each equation that a machine is made of is needed.
+pub fn machines_have_what_is_needed()
+    ensures { NeededMachinesLaw }
 {}

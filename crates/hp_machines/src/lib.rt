@@ -17,7 +17,7 @@ use hp_form::formed;
 use hp_obc::Obc;
 use hp_tree::Program;
 pub use laws::{
-    no_needless_copies_are_left, no_neighbours_are_left_to_be_joined,
+    machines_have_what_is_needed, no_needless_copies_are_left, no_neighbours_are_left_to_be_joined,
     programs_have_one_list_of_machines,
 };
 use node::machines_of;

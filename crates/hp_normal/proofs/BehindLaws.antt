@@ -11,7 +11,6 @@ use Rattle.hp_normal.specs.Reading.{count, atom_variables, clock_variables, eqn_
 use Rattle.hp_normal.specs.Retargeting.{moved, after_move, ends, is_moved, with_targets, retargeted}
 use Rattle.hp_normal.specs.Substituting.{Meanings, read, variable_or, read_clock, read_right, read_eqn, standing, meanings, is_replaced, substituted}
 use Rattle.hp_normal.specs.Following.{defined, IsUndefined, CopiesAreBehind, needs, eqn_needs, AreBehind}
-use Rattle.hp_normal.specs.Normal.{normal}
 use Rattle.hp_normal.proofs.DefinerLaws.{count-append}
 use Rattle.hp_normal.proofs.CopyLaws.{put-other, count-one, differ, left-more, right-more, moved-copy, copies-behind}
 use Rattle.hp_normal.proofs.EndsLaws.{reads, Known, all_known}
@@ -202,6 +201,3 @@ pub substituted_step : (n : FlatNode) → AreBehind n.eqns → AreBehind (substi
 substituted_step n behind =
     let last = meanings n n.eqns (λ x. Variable x) in
     substituted_behind n (λ e. not (is_replaced last e)) n.eqns (λ x. Variable x) last refl behind (copies-behind n.eqns behind) (λ w. inl refl)
-
-pub normal-behind : (n : FlatNode) → AreBehind n.eqns → AreBehind (normal n).eqns
-normal-behind n behind = retargeted_step (substituted (retargeted n)) (substituted_step (retargeted n) (retargeted_step n behind))

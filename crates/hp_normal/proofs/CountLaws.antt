@@ -75,7 +75,7 @@ at_zero zero x = refl
 at_zero (suc n) zero = refl
 at_zero (suc n) (suc x) = at_zero n x
 
-same_test : (a b k : ℕ) (d e : Bool) → nat_eq a k ≡ d → nat_eq b k ≡ e → (a ≡ k → b ≡ k) → (b ≡ k → a ≡ k) → d ≡ e
+pub same_test : (a b k : ℕ) (d e : Bool) → nat_eq a k ≡ d → nat_eq b k ≡ e → (a ≡ k → b ≡ k) → (b ≡ k → a ≡ k) → d ≡ e
 same_test a b k true true p q f g = refl
 same_test a b k false false p q f g = refl
 same_test a b k true false p q f g = absurd (cc (eq-eqb b k (f (eqb-true a k p))))

@@ -4,8 +4,12 @@ pub mod ClockLaws
 pub mod DefinerLaws
 pub mod TableLaws
 pub mod OrderLaws
+pub mod ChoiceLaws
 pub mod CopyLaws
 pub mod EndsLaws
 pub mod MeaningsLaws
 pub mod BehindLaws
+pub mod NeedLaws
+pub mod LeftLaws
+pub mod NormalLaws
 pub mod Rules

@@ -5,8 +5,8 @@ use Rattle.hp_normal.proofs.CountLaws.{counted-append, counted-past, counted-nex
 use Rattle.hp_normal.proofs.ClockLaws.{clocks-longer, clocks-next, clocks-differ_variable, clocks-differ_constructor, clocks-end}
 use Rattle.hp_normal.proofs.DefinerLaws.{set-next, set-skip, set-end, definers-step}
 use Rattle.hp_normal.proofs.TableLaws.{ends-step, ends-begin, moved-inside, meanings-next, meanings-end, occurs-inside}
-use Rattle.hp_normal.proofs.OrderLaws.{normal-in_order}
-use Rattle.hp_normal.proofs.BehindLaws.{normal-behind}
+use Rattle.hp_normal.proofs.ChoiceLaws.{choices-next, choices-end, simplified-next, simplified-end}
+use Rattle.hp_normal.proofs.NeedLaws.{none_counted-next, none_counted-stop, none_counted-end, needs-step, needs-begin}
 
 pub ruleset counting = (counted-past, counted-next, counted-end, all-next, all-end, clock-next, clock-end)
 
@@ -22,8 +22,10 @@ pub ruleset written = (written-next, written-end, append-nil)
 
 pub ruleset tests = (stop-first, stop-second, stop-third, go-on, stop-first_of_three, stop-second_of_three, go-on_to_third)
 
+pub ruleset needs = (none_counted-next, none_counted-stop, none_counted-end, needs-step, needs-begin)
+
+pub ruleset choices = (choices-next, choices-end, simplified-next, simplified-end)
+
 pub ruleset ends = (ends-step, ends-begin, moved-inside)
 
 pub ruleset meanings = (meanings-next, meanings-end, occurs-inside)
-
-pub ruleset order = (normal-in_order, normal-behind)

@@ -1,11 +1,12 @@
 -- Tables by number of variable.
-use Rattle.std.specs.Prelude.{◌≡◌, ℕ, ◌+◌, min, List, [], ◌∷◌, length, get_or}
+use Rattle.std.specs.Prelude.{◌≡◌, ℕ, ◌+◌, Bool, true, ◌&&◌, min, nat_eq, nat_lt, if◌then◌else◌, List, [], ◌∷◌, length, get_or}
 use Rattle.std.proofs.Math.ListN.{set, replicate}
 use Rattle.hp_flat.specs.declared.equation.Atom.{Atom}
 use Rattle.hp_flat.specs.declared.equation.Atom.TheVariants.{Variable}
 use Rattle.hp_flat.specs.Equations.{FlatEqn}
 use Rattle.hp_flat.specs.Nodes.{FlatNode}
-use Rattle.hp_normal.specs.Reading.{targets, uses, fixed, sampled}
+use Rattle.hp_normal.specs.Needing.{is_operator}
+use Rattle.hp_normal.specs.Reading.{eqn_reads, targets, uses, fixed, sampled}
 use Rattle.hp_normal.specs.declared.retarget.MoveFacts.{MoveFacts}
 use Rattle.hp_normal.specs.declared.substitute.ReadFacts.{ReadFacts}
 
@@ -37,6 +38,25 @@ ends_at table x = get_or table x x
 
 abbrev pub stands_at : List Atom → ℕ → Atom
 stands_at table x = get_or table x (Variable x)
+
+-- ---- what is needed
+
+-- none of some variables is counted
+abbrev pub none_counted : List ℕ → List ℕ → Bool
+none_counted counts [] = true
+none_counted counts (y ∷ ys) = (nat_lt y (length counts) && nat_eq (get_or counts y 0) 0) && none_counted counts ys
+
+abbrev pub is_uncounted : List ℕ → FlatEqn → Bool
+is_uncounted counts e = is_operator e.right && none_counted counts e.targets
+
+-- an equation counts what it reads, if it is needed
+abbrev pub with_need : FlatEqn → List ℕ → List ℕ
+with_need e counts = if is_uncounted counts e then counts else counted (eqn_reads e) counts
+
+-- so do equations, the last one first
+abbrev pub with_needs : List FlatEqn → List ℕ → List ℕ
+with_needs [] counts = counts
+with_needs (e ∷ es) counts = with_need e (with_needs es counts)
 
 -- ---- what is known of the variables of a node
 

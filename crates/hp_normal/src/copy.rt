@@ -6,7 +6,8 @@ ghost use Rattle.hp_normal.specs.Reading.{only, copied, copy_of};
 use hp_flat::{Atom, FlatEqn, FlatRight};
 use hp_obc::ObcOp;
 
-fn only<T: Copy>(items: &[T]) -> Option<T>
+/// The element of a list of one.
+pub fn only<T: Copy>(items: &[T]) -> Option<T>
     ensures { result ≡ only items.now }
 {
     match items {

@@ -5,6 +5,7 @@ ghost use Rattle.std.proofs.Math.ListN.{replicate};
 ghost use Rattle.hp_flat.specs.Equations.{FlatEqn};
 ghost use Rattle.hp_flat.specs.EquationView.{right_seen};
 ghost use Rattle.hp_normal.specs.Reading.{clock_variables, atom_variables, operands, eqn_reads, targets, uses, fixed, sampled};
+ghost use Rattle.hp_normal.specs.Needing.{held_reads, is_operator, roots};
 ghost use Rattle.hp_normal.specs.Tables.{counted, counted_one};
 
 use hp_flat::{Atom, FlatEqn, FlatNode, FlatRight};
@@ -66,7 +67,7 @@ fn count_operands(counts: &mut [u8], right: &FlatRight)
 }
 
 #[tactic(auto, using(crate::proofs::Rules::joining))]
-fn count_reads(counts: &mut [u8], eqn: &FlatEqn)
+pub fn count_reads(counts: &mut [u8], eqn: &FlatEqn)
     ensures { counts.new ≡ counted (eqn_reads eqn.now) counts.old }
 {
     count_clock(counts, &eqn.clock);
@@ -152,6 +153,42 @@ fn count_sampled(counts: &mut [u8], node: &FlatNode)
     count_all_clocks(counts, &node.eqns);
 }
 
+/// Whether the right side is an operator's, which has neither a memory nor an instance.
+pub fn is_operator(right: &FlatRight) -> bool
+    ensures { result ≡ is_operator (right_seen right.now) }
+{
+    match right {
+        FlatRight::Op(_, _) => true,
+        FlatRight::Register { first: _, next: _ } => false,
+        FlatRight::Call { node: _, args: _ } => false,
+    }
+}
+
+/// Counts what a register or a call reads.
+fn count_held_of(counts: &mut [u8], eqn: &FlatEqn)
+    ensures { counts.new ≡ counted (held_reads eqn.now) counts.old }
+{
+    if !is_operator(&eqn.right) {
+        count_reads(counts, eqn);
+    }
+}
+
+fn count_all_held(counts: &mut [u8], eqns: &[FlatEqn])
+    ensures { counts.new ≡ counted (flat_map held_reads eqns.now) counts.old }
+{
+    for eqn in eqns {
+        count_held_of(counts, eqn);
+    }
+}
+
+#[tactic(auto, using(crate::proofs::Rules::joining))]
+fn count_roots(counts: &mut [u8], node: &FlatNode)
+    ensures { counts.new ≡ counted (roots node.now) counts.old }
+{
+    count_all(counts, &node.outputs);
+    count_all_held(counts, &node.eqns);
+}
+
 fn none_counted(alloc: Global, node: &FlatNode) -> Result<Vec<u8>, AllocError>
     ensures { IfOk result (λ counts. counts.items ≡ replicate (length node.now.variables) 0) }
 {
@@ -196,6 +233,16 @@ pub fn sampled_counts(alloc: Global, node: &FlatNode) -> Result<Vec<u8>, AllocEr
 {
     let mut counts = none_counted(alloc, node)?;
     count_sampled(&mut counts, node);
+    Ok(counts)
+}
+
+/// How often outputs, registers and calls read each variable, up to twice.
+#[tactic(auto, using(crate::proofs::Rules::tables))]
+pub fn root_counts(alloc: Global, node: &FlatNode) -> Result<Vec<u8>, AllocError>
+    ensures { IfOk result (λ counts. counts.items ≡ counted (roots node.now) (replicate (length node.now.variables) 0)) }
+{
+    let mut counts = none_counted(alloc, node)?;
+    count_roots(&mut counts, node);
     Ok(counts)
 }
 

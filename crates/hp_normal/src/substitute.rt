@@ -13,7 +13,7 @@ use std::alloc::{AllocError, Global};
 
 /// What is known of the variables of a node, by their numbers.
 #[derive(Drop)]
-struct ReadFacts {
+pub struct ReadFacts {
     /// How often each is defined, up to twice.
     targets: Vec<u8>,
     /// How often each has to stay under its number, up to twice.
@@ -32,7 +32,7 @@ fn is_variable(atom: Atom) -> bool
 }
 
 impl ReadFacts {
-    fn new(alloc: Global, node: &FlatNode) -> Result<ReadFacts, AllocError>
+    pub fn new(alloc: Global, node: &FlatNode) -> Result<ReadFacts, AllocError>
         ensures { IfOk result (λ facts. AreReadFacts node.now facts) }
     {
         let targets = target_counts(alloc, node)?;
@@ -93,7 +93,8 @@ fn meaning(table: &[Atom], variable: usize) -> Atom
     }
 }
 
-fn read(table: &[Atom], atom: Atom) -> Atom
+/// What an atom stands for.
+pub fn read(table: &[Atom], atom: Atom) -> Atom
     ensures { result ≡ read (stands_at table.now) atom }
 {
     match atom {
@@ -104,7 +105,7 @@ fn read(table: &[Atom], atom: Atom) -> Atom
 
 /// Notes what the variable of a copy stands for.
 #[tactic(auto, using(crate::proofs::Rules::meanings))]
-fn note(table: &mut [Atom], node: &FlatNode, facts: &ReadFacts, copy: Option<(usize, Atom)>)
+pub fn note(table: &mut [Atom], node: &FlatNode, facts: &ReadFacts, copy: Option<(usize, Atom)>)
     requires facts { AreReadFacts node.now facts.now }
     requires count { length table.old ≡ length node.now.variables }
     ensures meanings { stands_at table.new ≡ standing node.now copy (stands_at table.old) }
@@ -131,7 +132,7 @@ fn fill(table: &mut [Atom], node: &FlatNode, facts: &ReadFacts)
 }
 
 /// The variables below a count.
-fn variables(alloc: Global, count: usize) -> Result<Vec<Atom>, AllocError>
+pub fn variables(alloc: Global, count: usize) -> Result<Vec<Atom>, AllocError>
     ensures count { IfOk result (λ table. length table.items ≡ count) }
     ensures same { IfOk result (λ table. stands_at table.items ≡ (λ x. Variable x)) }
 {

@@ -1,6 +1,6 @@
 -- The machines of two controllers of one machine do the same: they give the choice, which is one, and keep nothing.
 use Rattle.std.proofs.Common.{◌≡◌, ◌≢◌, ℕ, zero, suc, ◌+◌, ◌<◌, ◌≤◌, Bool, true, false, List, [], ◌∷◌, ◌++◌, ◌⊎◌, inl, inr, length, map, take, drop, filter, cond, get_or, refl, sym, ap, ap₂, subst, ◌∙◌, if◌then◌else◌, arith}
-use Rattle.std.specs.Prelude.{not, unwrap_or}
+use Rattle.std.specs.Prelude.{not, unwrap_or, Option, None, Some}
 use Rattle.std.specs.List.{AllByRecursion, range_with_len}
 use Rattle.std.proofs.lemmas.List.{length-append, length-drop, length-map, length-take-le, take-append-drop}
 use Rattle.std.proofs.lemmas.List.FromFn.{length-range_with_len}
@@ -26,9 +26,12 @@ use Rattle.hp_flat.specs.declared.node.Variable.{Variable}
 use Rattle.hp_flat.specs.Equations.{Right, operator, register, called, FlatEqn}
 use Rattle.hp_flat.specs.Nodes.{FlatNode}
 use Rattle.hp_fuse.specs.Fusing.{fused_machine}
+use Rattle.hp_normal.specs.Choices.{choice_meanings, choice_of, copying, needless, simple, simplified}
+use Rattle.hp_normal.specs.Needing.{is_idle, needed, pruned}
 use Rattle.hp_normal.specs.Normal.{normal}
 use Rattle.hp_normal.specs.Retargeting.{ends, is_moved, retargeted, with_eqns, with_targets}
 use Rattle.hp_normal.specs.Substituting.{Meanings, is_replaced, meanings, read_eqn, read_right, substituted}
+use Rattle.hp_flat.specs.declared.equation.Atom.{Atom}
 use Rattle.hp_flat.specs.declared.equation.Atom.TheVariants.{Variable as Read}
 use Rattle.hp_toobc.specs.Making.{declared, inst_of, insts, machine_of, mem_of, mems}
 use Rattle.hp_toobc.specs.Tables.{type_of}
@@ -197,8 +200,25 @@ substituted_stateless n h =
     let s = meanings n n.eqns (λ x. Read x) in
     kept_stateless (λ e. not (is_replaced s e)) (map (read_eqn s) n.eqns) (mapped_stateless (read_eqn s) (λ e g. read_stateless s e.right g) n.eqns h)
 
+copying_stateless : (e : FlatEqn) (o : Option Atom) → IsOperator e.right → IsOperator (copying o e).right
+copying_stateless e None h = h
+copying_stateless e (Some a) h = tt
+
+simple_stateless : (n : FlatNode) → AllByRecursion IsStateless n.eqns → AllByRecursion IsStateless (simple n).eqns
+simple_stateless n h =
+    let s = choice_meanings n n.eqns (λ x. Read x) in
+    mapped_stateless (simplified n.variables s) (λ e g. copying_stateless e (needless n.variables s (choice_of e)) g) n.eqns h
+
+pruned_stateless : (n : FlatNode) → AllByRecursion IsStateless n.eqns → AllByRecursion IsStateless (pruned n).eqns
+pruned_stateless n h = kept_stateless (λ e. not (is_idle n (needed n n.eqns) e)) n.eqns h
+
 normal_stateless : (n : FlatNode) → AllByRecursion IsStateless n.eqns → AllByRecursion IsStateless (normal n).eqns
-normal_stateless n h = retargeted_stateless (substituted (retargeted n)) (substituted_stateless (retargeted n) (retargeted_stateless n h))
+normal_stateless n h =
+    let m1 : FlatNode = simple n in
+    let m2 : FlatNode = retargeted m1 in
+    let m3 : FlatNode = substituted m2 in
+    let m4 : FlatNode = retargeted m3 in
+    pruned_stateless m4 (retargeted_stateless m3 (substituted_stateless m2 (retargeted_stateless m1 (simple_stateless n h))))
 
 no_mem : (types : List ObcType) (vs : List Variable) (i : ℕ) (targets : List ℕ) (r : Right) → IsOperator r → mem_of types vs i targets r ≡ []
 no_mem types vs i targets (operator op args) h = refl

@@ -8,6 +8,10 @@ pub mod SubstituteLaws
 pub mod ScheduledLaws
 pub mod RetargetForms
 pub mod SubstituteForms
+pub mod SimpleLaws
+pub mod SimpleForms
+pub mod PrunedLaws
+pub mod PrunedForms
 pub mod NormalLaws
 pub mod CompiledLaws
 pub mod Worked

@@ -9,6 +9,7 @@ pub mod NamedLaws
 pub mod MachineLaws
 pub mod PartLaws
 pub mod EndsApart
+pub mod SimpleShapes
 pub mod RetargetShapes
 pub mod SubstituteShapes
 pub mod FormLaws

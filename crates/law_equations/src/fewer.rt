@@ -1,4 +1,4 @@
-//! Clocked equations in another order, and without needless copies, keep their reactions; so the machines of ranked nodes answer as these do.
+//! Clocked equations in another order, and without needless choices and copies and what nothing needs, keep their reactions; so the machines of ranked nodes answer as these do.
 //!
 //! The functions here do nothing: each is a law, which its contract states.
 #![tactic(auto)]
@@ -12,7 +12,7 @@ pub fn order_keeps_reactions()
     ensures reactions { ReorderedLaw }
 {}
 
-/// Without needless copies equations keep their reactions.
+/// Without needless choices and copies and what nothing needs equations keep their reactions.
 pub fn fewer_copies_keep_reactions()
     ensures { NormalLaw }
 {}

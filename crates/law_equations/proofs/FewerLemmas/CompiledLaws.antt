@@ -15,6 +15,7 @@ use Rattle.law_equations.specs.Meaning.Fitting.{Fits}
 use Rattle.law_equations.specs.Meaning.Scheduling.{IsInOrder}
 use Rattle.hp_normal.specs.Retargeting.{with_eqns, retargeted}
 use Rattle.hp_normal.specs.Substituting.{substituted}
+use Rattle.hp_normal.specs.Choices.{simple}
 use Rattle.hp_normal.specs.Normal.{normal}
 use Rattle.hp_fuse.specs.Fusing.{fused_machine}
 use Rattle.law_equations.specs.Followed.Premises.{NodeForm}
@@ -26,6 +27,8 @@ use Rattle.law_equations.proofs.FewerLemmas.OrderLaws.{each_moved}
 use Rattle.law_equations.proofs.FewerLemmas.NormalLaws.{both-passed}
 use Rattle.law_equations.proofs.FewerLemmas.RetargetForms.{retargeted-calls}
 use Rattle.law_equations.proofs.FewerLemmas.SubstituteForms.{substituted-calls}
+use Rattle.law_equations.proofs.FewerLemmas.SimpleForms.{simple-calls}
+use Rattle.law_equations.proofs.FewerLemmas.PrunedForms.{pruned-calls}
 
 first_of : {A : Type 0} (x y : A) (xs ys : List A) → x ∷ xs ≡ y ∷ ys → x ≡ y
 first_of x y xs ys h = cc
@@ -66,7 +69,9 @@ passed-eqns types earlier n es h p order calls =
     record {
       name = refl;
       form = both.0;
-      calls = retargeted-calls (substituted (retargeted m)) earlier (substituted-calls (retargeted m) earlier (retargeted-calls m earlier moved));
+      calls =
+          pruned-calls (retargeted (substituted (retargeted (simple m)))) earlier
+          (retargeted-calls (substituted (retargeted (simple m))) earlier (substituted-calls (retargeted (simple m)) earlier (retargeted-calls (simple m) earlier (simple-calls m earlier moved))));
       keeps = both.1;
     }
 

@@ -13,6 +13,8 @@ use Rattle.law_equations.specs.Meaning.Scheduling.{IsInOrder, reads, IsDefinedBe
 use Rattle.hp_normal.specs.Reading.{copy_of}
 use Rattle.hp_normal.specs.Retargeting.{ends, is_moved, with_targets, with_eqns, retargeted}
 use Rattle.hp_normal.specs.Substituting.{meanings, is_replaced, read_eqn, substituted}
+use Rattle.hp_normal.specs.Choices.{simple}
+use Rattle.hp_normal.specs.Needing.{pruned}
 use Rattle.hp_normal.specs.Normal.{normal}
 use Rattle.law_equations.specs.Followed.Premises.{EqnForm, NodeForm}
 use Rattle.law_equations.specs.Fewer.Keeping.{Remains, KeepsReactions, IsRegular, NormalLaw}
@@ -20,11 +22,17 @@ use Rattle.law_equations.specs.Fewer.Compiling.{CopyAgrees, CopiesAgree, FlatFor
 use Rattle.law_equations.proofs.FewerLemmas.Members.{each_map, fewer}
 use Rattle.law_equations.proofs.FewerLemmas.OrderLaws.{order_law, each_moved, same_reaction, same_fits}
 use Rattle.hp_normal.proofs.BehindLaws.{retargeted_step, substituted_step}
+use Rattle.hp_normal.proofs.ChoiceLaws.{simple_step}
+use Rattle.hp_normal.proofs.NeedLaws.{pruned_step}
 use Rattle.law_equations.proofs.FewerLemmas.RetargetLaws.{retargeted-remains}
 use Rattle.law_equations.proofs.FewerLemmas.SubstituteLaws.{substituted-remains}
+use Rattle.law_equations.proofs.FewerLemmas.SimpleLaws.{simple-remains}
+use Rattle.law_equations.proofs.FewerLemmas.SimpleForms.{simple-copies, simple-forms, simple-no_inputs, simple-same_length, simple-within}
+use Rattle.law_equations.proofs.FewerLemmas.PrunedLaws.{pruned-remains}
 use Rattle.law_equations.proofs.FewerLemmas.ScheduledLaws.{to-behind, from-behind}
 use Rattle.law_equations.proofs.FewerLemmas.RetargetForms.{retargeted-within, retargeted-no_inputs, retargeted-copies, retargeted-forms}
 use Rattle.law_equations.proofs.FewerLemmas.SubstituteForms.{substituted-within, substituted-no_inputs, substituted-forms}
+use Rattle.law_equations.proofs.FewerLemmas.PrunedForms.{pruned-all, pruned-within, pruned-no_inputs, pruned-shorter}
 
 inputs-below : (a k n : ℕ) → a + k ≤ n → AllByRecursion (λ x. x < n) (range_with_len a k)
 inputs-below a zero n h = tt
@@ -49,11 +57,31 @@ substituted-regular n h = record {
   scheduled = from-behind (substituted n).eqns (substituted_step n (to-behind n.eqns h.scheduled));
 }
 
+simple-regular : (n : FlatNode) → IsRegular n → IsRegular (simple n)
+simple-regular n h = record {
+  within = simple-within n h.within;
+  no_inputs = simple-no_inputs n h.no_inputs;
+  scheduled = from-behind (simple n).eqns (simple_step n (to-behind n.eqns h.scheduled));
+}
+
+pruned-regular : (n : FlatNode) → IsRegular n → IsRegular (pruned n)
+pruned-regular n h = record {
+  within = pruned-within n h.within;
+  no_inputs = pruned-no_inputs n h.no_inputs;
+  scheduled = from-behind (pruned n).eqns (pruned_step n (to-behind n.eqns h.scheduled));
+}
+
 retargeted-keeps : (n : FlatNode) → IsRegular n → KeepsReactions n (retargeted n)
 retargeted-keeps n h answers takes inputs instants fits q = retargeted-remains n (to-behind n.eqns h.scheduled) answers takes (their_inputs n) inputs instants fits q
 
 substituted-keeps : (n : FlatNode) → IsRegular n → KeepsReactions n (substituted n)
 substituted-keeps n h answers takes inputs instants fits q = substituted-remains n (to-behind n.eqns h.scheduled) h.no_inputs answers takes (their_inputs n) inputs instants fits q
+
+simple-keeps : (n : FlatNode) → IsRegular n → KeepsReactions n (simple n)
+simple-keeps n h answers takes inputs instants fits q = simple-remains n h.no_inputs answers takes inputs instants fits q
+
+pruned-keeps : (n : FlatNode) → IsRegular n → KeepsReactions n (pruned n)
+pruned-keeps n h answers takes inputs instants fits q = pruned-remains n (to-behind n.eqns h.scheduled) answers takes (their_inputs n) inputs instants fits q
 
 -- one pass behind the other
 pub keeps-trans : (n m k : FlatNode) → KeepsReactions n m → KeepsReactions m k → KeepsReactions n k
@@ -64,12 +92,18 @@ keeps-trans n m k first second answers takes inputs instants fits q =
 
 pub normal_law : NormalLaw
 normal_law n h =
-    let first : IsRegular (retargeted n) = retargeted-regular n h in
-    let second : IsRegular (substituted (retargeted n)) = substituted-regular (retargeted n) first in (
-      retargeted-regular (substituted (retargeted n)) second,
-      keeps-trans n (substituted (retargeted n)) (normal n) (keeps-trans n (retargeted n) (substituted (retargeted n)) (retargeted-keeps n h) (substituted-keeps (retargeted n) first))
-          (retargeted-keeps (substituted (retargeted n)) second),
-    )
+    let m0 : FlatNode = simple n in
+    let m1 : FlatNode = retargeted m0 in
+    let m2 : FlatNode = substituted m1 in
+    let m3 : FlatNode = retargeted m2 in
+    let before : IsRegular m0 = simple-regular n h in
+    let first : IsRegular m1 = retargeted-regular m0 before in
+    let second : IsRegular m2 = substituted-regular m1 first in
+    let third : IsRegular m3 = retargeted-regular m2 second in
+    let one : KeepsReactions n m1 = keeps-trans n m0 m1 (simple-keeps n h) (retargeted-keeps m0 before) in
+    let two : KeepsReactions n m2 = keeps-trans n m1 m2 one (substituted-keeps m1 first) in
+    let three : KeepsReactions n m3 = keeps-trans n m2 m3 two (retargeted-keeps m2 second) in
+    (pruned-regular m3 third, keeps-trans n m3 (normal n) three (pruned-keeps m3 third))
 
 -- ---- forms
 
@@ -77,11 +111,17 @@ module _ (types : List ObcType) (n : FlatNode) (h : FlatForm types n) (es : List
   abbrev m : FlatNode
   m = with_eqns n es
 
+  abbrev m0 : FlatNode
+  m0 = simple m
+
   abbrev m1 : FlatNode
-  m1 = retargeted m
+  m1 = retargeted m0
 
   abbrev m2 : FlatNode
   m2 = substituted m1
+
+  abbrev m3 : FlatNode
+  m3 = retargeted m2
 
   ranked : IsRanked es
   ranked =
@@ -100,16 +140,21 @@ module _ (types : List ObcType) (n : FlatNode) (h : FlatForm types n) (es : List
   copies = each_moved (λ (e : FlatEqn). CopyAgrees n.variables (copy_of e)) n.eqns es p h.copies
 
   forms : AllByRecursion (EqnForm types n.variables) (normal m).eqns
-  forms = retargeted-forms types m2 (substituted-forms m1 types (retargeted-forms types m (each_moved (EqnForm types n.variables) n.eqns es p h.eqns)) (retargeted-copies m copies))
+  forms =
+      pruned-all (EqnForm types n.variables) m3
+      (retargeted-forms types m2
+      (substituted-forms m1 types (retargeted-forms types m0 (simple-forms types m (each_moved (EqnForm types n.variables) n.eqns es p h.eqns))) (retargeted-copies m0 (simple-copies m copies))))
 
   no_more : length (normal m).eqns ≤ length n.eqns
   no_more =
       omega (
         arith,
         length_permutation n.eqns es p,
-        fewer (with_targets (ends m m.eqns)) (λ e. not (is_moved (ends m m.eqns) e)) m.eqns,
+        simple-same_length m,
+        fewer (with_targets (ends m0 m0.eqns)) (λ e. not (is_moved (ends m0 m0.eqns) e)) m0.eqns,
         fewer (read_eqn (meanings m1 m1.eqns (λ x. Variable x))) (λ e. not (is_replaced (meanings m1 m1.eqns (λ x. Variable x)) e)) m1.eqns,
         fewer (with_targets (ends m2 m2.eqns)) (λ e. not (is_moved (ends m2 m2.eqns) e)) m2.eqns,
+        pruned-shorter m3,
       )
 
   form : NodeForm types (normal m)

@@ -12,33 +12,68 @@ use Rattle.law_equations.specs.Meaning.Scheduling.{reads, IsDefinedBelow, IsRank
 use Rattle.law_equations.specs.Meaning.Kinding.{Callees, EqnKinds}
 use Rattle.hp_normal.specs.Retargeting.{with_eqns, retargeted}
 use Rattle.hp_normal.specs.Substituting.{substituted}
+use Rattle.hp_normal.specs.Choices.{simple}
+use Rattle.hp_normal.specs.Needing.{pruned}
 use Rattle.hp_normal.specs.Normal.{normal}
 use Rattle.hp_normal.specs.Following.{AreBehind}
 use Rattle.hp_normal.proofs.BehindLaws.{retargeted_step, substituted_step}
+use Rattle.hp_normal.proofs.ChoiceLaws.{simple_step}
 use Rattle.hp_toobc.specs.Making.{machine_of}
 use Rattle.hp_fuse.specs.Fusing.{fused_to}
 use Rattle.hp_fuse.proofs.LevelLaws.{alike-fused, like}
 use Rattle.law_equations.proofs.FewerLemmas.Members.{each_map}
 use Rattle.law_equations.proofs.FewerLemmas.OrderLaws.{order_law, each_moved}
+use Rattle.law_equations.proofs.FewerLemmas.PrunedForms.{pruned-all, pruned-within, pruned-no_inputs, pruned-shorter}
 use Rattle.law_equations.proofs.FewerLemmas.ScheduledLaws.{to-behind}
 use Rattle.law_equations.specs.Shaped.Shaped.{AreApart, DefineApart, IsShort, NodeShape, CallIsKnown, IsShaped}
 use Rattle.law_equations.specs.Shaped.Laws.{FormLaw}
 use Rattle.law_equations.proofs.ShapedLemmas.MachineLaws.{machine-form}
+use Rattle.law_equations.proofs.ShapedLemmas.SimpleShapes.{simple-shape, simple-known}
 use Rattle.law_equations.proofs.ShapedLemmas.RetargetShapes.{retargeted-shape, retargeted-known}
 use Rattle.law_equations.proofs.ShapedLemmas.SubstituteShapes.{substituted-shape, substituted-known}
 
--- without needless copies a node has shape
+-- so has a node without equations that nothing needs
+pruned_shape : (types : List ObcType) (callees : Callees) (n : FlatNode) → NodeShape types callees n → NodeShape types callees (pruned n)
+pruned_shape types callees n h =
+    let less = pruned-shorter n in
+    let few = h.few in
+    record {
+      name = h.name;
+      within = pruned-within n h.within;
+      no_inputs = pruned-no_inputs n h.no_inputs;
+      outputs_behind = h.outputs_behind;
+      outputs_differ = h.outputs_differ;
+      kinds = pruned-all (EqnKinds types callees n.variables) n h.kinds;
+      values = h.values;
+      targets_differ = pruned-all (λ (e : FlatEqn). IsDistinct nat_eq e.targets) n h.targets_differ;
+      apart =
+          each_map (λ (d : FlatEqn). AllByRecursion (AreApart d) n.eqns) (λ (d : FlatEqn). AllByRecursion (AreApart d) (pruned n).eqns) (λ d g. pruned-all (AreApart d) n g) (pruned n).eqns
+          (pruned-all (λ (d : FlatEqn). AllByRecursion (AreApart d) n.eqns) n h.apart);
+      short = pruned-all IsShort n h.short;
+      names_good = h.names_good;
+      names_differ = h.names_differ;
+      names_own = h.names_own;
+      few = omega (arith, few, less);
+    }
+
+-- without needless copies and equations a node has shape
 normal_shape : (types : List ObcType) (callees : Callees) (earlier : List Machine) (n : FlatNode) → TypesForm types → AreBehind n.eqns → IsShaped types callees earlier n → IsShaped types callees earlier (normal n)
 normal_shape types callees earlier n form behind h =
-    let first : NodeShape types callees (retargeted n) = retargeted-shape types callees n form behind h.shape in
-    let then : AreBehind (retargeted n).eqns = retargeted_step n behind in
-    let second : NodeShape types callees (substituted (retargeted n)) = substituted-shape types callees (retargeted n) first.kinds first in
+    let m0 : FlatNode = simple n in
+    let m1 : FlatNode = retargeted m0 in
+    let m2 : FlatNode = substituted m1 in
+    let m3 : FlatNode = retargeted m2 in
+    let before : NodeShape types callees m0 = simple-shape types callees n h.shape in
+    let stands : AreBehind m0.eqns = simple_step n behind in
+    let first : NodeShape types callees m1 = retargeted-shape types callees m0 form stands before in
+    let second : NodeShape types callees m2 = substituted-shape types callees m1 first.kinds first in
     record {
-      shape = retargeted-shape types callees (substituted (retargeted n)) form (substituted_step (retargeted n) then) second;
+      shape = pruned_shape types callees m3 (retargeted-shape types callees m2 form (substituted_step m1 (retargeted_step m0 stands)) second);
       new = h.new;
       calls =
-          retargeted-known types callees earlier (substituted (retargeted n))
-          (substituted-known types callees (retargeted n) first.kinds earlier (retargeted-known types callees earlier n h.calls));
+          pruned-all (λ (e : FlatEqn). CallIsKnown types callees earlier e.right) m3
+          (retargeted-known types callees earlier m2
+          (substituted-known types callees m1 first.kinds earlier (retargeted-known types callees earlier m0 (simple-known types callees earlier n h.calls))));
     }
 
 -- ---- equations in another order

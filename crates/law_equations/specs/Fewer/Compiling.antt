@@ -52,7 +52,7 @@ KindsLaw =
     (types : List ObcType) (callees : Callees) (variables : List Variable) (es : List FlatEqn) → TypesForm types → AllByRecursion (EqnKinds types callees variables) es
     → AllByRecursion (EqnForm types variables) es × CopiesAgree variables es
 
--- What a machine is made of: the equations in the order of their ranks, without needless copies. It is as the machine asks for, and reactions remain.
+-- What a machine is made of: the equations in the order of their ranks, without needless choices and copies and what nothing needs. It is as the machine asks for, and reactions remain.
 abbrev pub PassedLaw : Type 0
 PassedLaw =
     (types : List ObcType) (n : FlatNode) (scheduled : List FlatEqn) → FlatForm types n → IsPermutation n.eqns scheduled → IsInOrder scheduled
@@ -65,7 +65,7 @@ abbrev pub AreFlatNodes : List ObcType → List (List ℕ) → List FlatNode →
 AreFlatNodes types earlier [] = Unit {0}
 AreFlatNodes types earlier (n ∷ ns) = FlatForm types n × CallsOnly earlier n.eqns × AreFlatNodes types (n.name ∷ earlier) ns
 
--- A machine is made of a node: equations are put into the order of their ranks, needless copies taken out, commands made, and neighbouring cases joined.
+-- A machine is made of a node: equations are put into the order of their ranks, needless choices and copies and what nothing needs taken out, commands made, and neighbouring cases joined.
 pub record IsCompiled (types : List ObcType) (n : FlatNode) (m : Machine) : Type 0 where
   pub scheduled : List FlatEqn
   pub same : IsPermutation n.eqns scheduled

@@ -46,7 +46,7 @@ ReorderedLaw =
     (n m : FlatNode) → IsReordered n m → (answers : Answers) (takes : Names (List KindData)) (inputs : List (List Value)) (instants : List Instant)
     → AllByRecursion (Fits takes n) instants → Reaction answers n inputs instants → Reaction answers m inputs instants × AllByRecursion (Fits takes m) instants
 
--- ---- fewer copies
+-- ---- fewer choices, copies and equations
 
 -- equations that are scheduled, that define no input, and whose numbers are those of variables
 pub record IsRegular (n : FlatNode) : Type 0 where
@@ -54,6 +54,6 @@ pub record IsRegular (n : FlatNode) : Type 0 where
   pub no_inputs : DefinesNoInput n
   pub scheduled : IsScheduled n.eqns
 
--- Without needless copies each reaction remains, and what was regular is.
+-- Without needless choices and copies and what nothing needs each reaction remains, and what was regular is.
 abbrev pub NormalLaw : Type 0
 NormalLaw = (n : FlatNode) → IsRegular n → IsRegular (normal n) × KeepsReactions n (normal n)

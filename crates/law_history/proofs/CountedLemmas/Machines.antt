@@ -1,5 +1,5 @@
 -- The instances of a machine are the calls of its equations: order does not matter, and what is taken away calls nothing more.
-use Rattle.std.proofs.Common.{◌≡◌, ◌≤◌, ℕ, ◌+◌, max, Bool, true, false, not, cond, List, [], ◌∷◌, ◌++◌, map, refl, sym, ap, ap₂, subst, ◌∙◌, arith}
+use Rattle.std.proofs.Common.{◌≡◌, ◌≤◌, ℕ, ◌+◌, max, Bool, true, false, not, cond, Option, None, Some, List, [], ◌∷◌, ◌++◌, map, refl, sym, ap, ap₂, subst, ◌∙◌, arith}
 use Rattle.std.specs.List.{All, filter, sum_by}
 use Rattle.std.specs.List.Sorted.{IsPermutation}
 use Rattle.std.proofs.lemmas.List.Sorted.{sum_by-IsPermutation, All-permutation}
@@ -7,10 +7,15 @@ use Rattle.std.proofs.lemmas.List.Sums.{sum_by-cons}
 use Rattle.std.proofs.lemmas.List.Elements.{All-nil, All-cons, All-head, All-tail}
 use Rattle.hp_flat.specs.Equations.{Right, operator, register, called, FlatEqn}
 use Rattle.hp_flat.specs.Nodes.{FlatNode}
+use Rattle.hp_normal.specs.Choices.{choice_of, copying, needless, simplified, choice_meanings, simple}
+use Rattle.hp_normal.specs.Needing.{is_idle, needed, pruned}
 use Rattle.hp_normal.specs.Normal.{normal}
 use Rattle.hp_normal.specs.Retargeting.{ends, is_moved, with_targets, retargeted}
 use Rattle.hp_normal.specs.Substituting.{Meanings, meanings, is_replaced, read_eqn, read_right, substituted}
+use Rattle.hp_normal.proofs.ChoiceLaws.{Needless, needless-is}
+use Rattle.hp_flat.specs.declared.equation.Atom.{Atom}
 use Rattle.hp_flat.specs.declared.equation.Atom.TheVariants.{Variable}
+use Rattle.hp_flat.specs.declared.node.Variable.{Variable as Declared}
 use Rattle.hp_toobc.specs.Making.{inst_of, insts}
 use Rattle.law_history.specs.Counted.Counted.{Joins, in_right, in_flat, in_instances}
 use Rattle.law_history.proofs.CountedLemmas.Joining.{nothing_left, below_right}
@@ -55,12 +60,28 @@ module _ (join : ℕ → ℕ → ℕ) (joins : Joins join) (known : List ℕ →
       let s = meanings n n.eqns (λ x. Variable x) in
       subst (λ m. in_flat join known (substituted n).eqns ≤ m) (mapped (read_eqn s) (λ e. read_right_counts s e.right) n.eqns) (filtered (λ e. not (is_replaced s e)) (map (read_eqn s) n.eqns))
 
+  -- an operator calls nothing, and neither does a copy
+  copying_counts : (variables : List Declared) (s : Meanings) (e : FlatEqn) (o : Option Atom) → needless variables s (choice_of e) ≡ o → in_right join known (copying o e).right ≡ in_right join known e.right
+  copying_counts variables s e None q = refl
+  copying_counts variables s e (Some a) q = let is : Needless variables s e a = needless-is variables s e a q in sym (ap (in_right join known) is.right)
+
+  simple_counts : (n : FlatNode) → in_flat join known (simple n).eqns ≡ in_flat join known n.eqns
+  simple_counts n =
+      let s = choice_meanings n n.eqns (λ x. Variable x) in
+      mapped (simplified n.variables s) (λ e. copying_counts n.variables s e (needless n.variables s (choice_of e)) refl) n.eqns
+
+  pruned_counts : (n : FlatNode) → in_flat join known (pruned n).eqns ≤ in_flat join known n.eqns
+  pruned_counts n = filtered (λ e. not (is_idle n (needed n n.eqns) e)) n.eqns
+
   pub normal_counts : (n : FlatNode) → in_flat join known (normal n).eqns ≤ in_flat join known n.eqns
   normal_counts n =
-      let a = retargeted_counts n in
-      let b = substituted_counts (retargeted n) in
-      let c = retargeted_counts (substituted (retargeted n)) in
-      omega (arith, a, b, c)
+      let m = retargeted (simple n) in
+      let same = simple_counts n in
+      let a = retargeted_counts (simple n) in
+      let b = substituted_counts m in
+      let c = retargeted_counts (substituted m) in
+      let d = pruned_counts (retargeted (substituted m)) in
+      omega (arith, same, a, b, c, d)
 
 -- ---- in another order
 
