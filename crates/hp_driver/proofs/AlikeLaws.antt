@@ -16,7 +16,7 @@ use Rattle.hp_obctext.specs.MemoryKinds.{memory_text}
 use Rattle.law_controlled.specs.Alike.{IsOneOf}
 use Rattle.law_controlled.specs.One.{AreOne}
 use Rattle.hp_driver.specs.Answers.{IsAnswer}
-use Rattle.hp_driver.specs.Checkpoints.{IsCheckpointOf}
+use Rattle.hp_driver.specs.Checkpoints.{IsCheckpointOf, memory_behind, memory_past}
 use Rattle.hp_driver.specs.Systems.{from_memory, inputs_of, machine_kinds, of_machine}
 use Rattle.hp_driver.specs.Values.{first_bad, inputs_until}
 use Rattle.hp_driver.proofs.SpellingLaws.{AllOfKinds, all_of_kinds}
@@ -30,6 +30,12 @@ module _ (ins outs : List KindData) (keeps : MemoryKinds) (b other : Behaviour) 
       let here = agree.steps kept values has fits.0 in
       (λ i. (here i).outputs ∷ outputs_from other (here i).kept inputs)
       ∙ ap (λ (rest : List (List Value)). (b.step kept values).outputs ∷ rest) (same_outputs (b.step kept values).kept inputs (kinded.kept_is kept values has fits.0) fits.1)
+
+  same_memory : (kept : Memory) (inputs : List (List Value)) → HasKinds keeps kept → AllOfKinds ins inputs → memory_behind other kept inputs ≡ memory_behind b kept inputs
+  same_memory kept [] has fits = refl
+  same_memory kept (values ∷ inputs) has fits =
+      let here = agree.steps kept values has fits.0 in
+      (λ i. memory_behind other (here i).kept inputs) ∙ same_memory (b.step kept values).kept inputs (kinded.kept_is kept values has fits.0) fits.1
 
 -- ---- two machines of one name
 
@@ -65,21 +71,33 @@ module _ (o p : Obc) (node : List ℕ) (m l : Machine) (form : HasObcForm o.type
     spelled = is.spelled ∙ ap (λ (types : List ObcType). memory_text types node (flattened kept)) one.types;
   }
 
-  -- and what the one says from its memory on, the other one says
-  pub answer_moved : (kept : Memory) → HasKinds (machine_keeps o node) kept → (lines : List (List ℕ)) (bytes : List ℕ) → IsAnswer (from_memory p node kept) lines bytes → IsAnswer (from_memory o node kept) lines bytes
-  answer_moved kept has lines bytes a =
-      let kinded : StepsInKind (kinds_in o.types m.inputs) (kinds_in o.types m.outputs) (machine_keeps o node) (machine_behaviour o node) = file-kinded o form node m named in
-      let ins = inputs_of (of_machine o node) in
-      let fits : AllOfKinds (kinds_in o.types m.inputs) (inputs_until ins 1 lines) = subst (λ ks. AllOfKinds ks (inputs_until ins 1 lines)) its_inputs (all_of_kinds ins 1 lines) in
-      record {
-        outputs = a.outputs;
-        run =
-            a.run
-            ∙ ap (λ ks. outputs_from (machine_behaviour p node) kept (inputs_until ks 1 lines)) (sym inputs_same)
-            ∙ same_outputs (kinds_in o.types m.inputs) (kinds_in o.types m.outputs) (machine_keeps o node) (machine_behaviour o node) (machine_behaviour p node) does.does kinded kept (inputs_until ins 1 lines) has fits;
-        kinds = subst (λ ks. AllByRecursion (AreOfKinds ks) a.outputs) (sym (kinds_same (λ (x : Machine). x.outputs) outputs)) a.kinds;
-        said = a.said ∙ ap (λ ks. flat_map (line_of ks) a.outputs) (sym (kinds_same (λ (x : Machine). x.outputs) outputs));
-      }
+  module _ (kept : Memory) (has : HasKinds (machine_keeps o node) kept) (lines : List (List ℕ)) where
+    abbrev ins : List KindData
+    ins = inputs_of (of_machine o node)
+
+    steps_kinded : StepsInKind (kinds_in o.types m.inputs) (kinds_in o.types m.outputs) (machine_keeps o node) (machine_behaviour o node)
+    steps_kinded = file-kinded o form node m named
+
+    fits : AllOfKinds (kinds_in o.types m.inputs) (inputs_until ins 1 lines)
+    fits = subst (λ ks. AllOfKinds ks (inputs_until ins 1 lines)) its_inputs (all_of_kinds ins 1 lines)
+
+    -- and what the one says from its memory on, the other one says,
+    pub answer_moved : (bytes : List ℕ) → IsAnswer (from_memory p node kept) lines bytes → IsAnswer (from_memory o node kept) lines bytes
+    answer_moved bytes a = record {
+      outputs = a.outputs;
+      run =
+          a.run
+          ∙ ap (λ ks. outputs_from (machine_behaviour p node) kept (inputs_until ks 1 lines)) (sym inputs_same)
+          ∙ same_outputs (kinds_in o.types m.inputs) (kinds_in o.types m.outputs) (machine_keeps o node) (machine_behaviour o node) (machine_behaviour p node) does.does steps_kinded kept (inputs_until ins 1 lines) has fits;
+      kinds = subst (λ ks. AllByRecursion (AreOfKinds ks) a.outputs) (sym (kinds_same (λ (x : Machine). x.outputs) outputs)) a.kinds;
+      said = a.said ∙ ap (λ ks. flat_map (line_of ks) a.outputs) (sym (kinds_same (λ (x : Machine). x.outputs) outputs));
+    }
+
+    -- and they leave one memory
+    pub memory_moved : memory_past p node kept lines ≡ memory_past o node kept lines
+    memory_moved =
+        ap (λ ks. memory_behind (machine_behaviour p node) kept (inputs_until ks 1 lines)) (sym inputs_same)
+        ∙ same_memory (kinds_in o.types m.inputs) (kinds_in o.types m.outputs) (machine_keeps o node) (machine_behaviour o node) (machine_behaviour p node) does.does steps_kinded kept (inputs_until ins 1 lines) has fits
 
   pub good_moved : (lines : List (List ℕ)) → first_bad (inputs_of (of_machine p node)) 1 lines ≡ None → first_bad (inputs_of (of_machine o node)) 1 lines ≡ None
   good_moved lines good = ap (λ ks. first_bad ks 1 lines) inputs_same ∙ good

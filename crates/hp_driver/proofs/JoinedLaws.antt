@@ -1,12 +1,11 @@
 -- Lines that are answered in two parts are answered as one.
-use Rattle.std.proofs.Common.{◌≡◌, ◌≤◌, ℕ, suc, ◌+◌, nat_lt, List, [], ◌∷◌, ◌++◌, length, None, Some, refl, sym, ap, subst, ◌∙◌, arith}
-use Rattle.std.specs.Prelude.{Option, Result, Ok, Err}
+use Rattle.std.proofs.Common.{◌≡◌, ◌≤◌, ℕ, suc, ◌+◌, nat_lt, List, [], ◌∷◌, ◌++◌, length, None, Some, refl, sym, ap, ◌∙◌, arith}
+use Rattle.std.specs.Prelude.{Result, Ok, Err}
 use Rattle.std.proofs.lemmas.Bool.{le-ltb}
 use Rattle.std.proofs.lemmas.Grind.{flat_map-append}
-use Rattle.std.specs.List.{AllByRecursion, flat_map}
+use Rattle.std.specs.List.{AllByRecursion}
 use Rattle.hp_base.specs.Kinds.{KindData, AreOfKinds}
 use Rattle.hp_base.specs.declared.value.Value.{Value}
-use Rattle.hp_io.specs.Files.{Files}
 use Rattle.hp_lines.specs.Lines.{line_of}
 use Rattle.hp_lines.specs.declared.read.TheConstants.{MAX_LINE}
 use Rattle.hp_obc.specs.Machines.{Obc}
@@ -15,11 +14,10 @@ use Rattle.law_decided.specs.Promised.{RunLaw}
 use Rattle.law_history.specs.Streams.Texts.{TextLaw}
 use Rattle.hp_driver.specs.Answers.{IsAnswer}
 use Rattle.hp_driver.specs.Checkpoints.{memory_behind}
-use Rattle.hp_driver.specs.Joined.{AreGoodLines, AnswersBoth, JoinedLaw, JoinedRunLaw, memory_past}
+use Rattle.hp_driver.specs.Joined.{AreGoodLines, JoinedLaw, JoinedRunLaw, memory_past}
 use Rattle.hp_driver.specs.LineFaults.{bad}
-use Rattle.hp_driver.specs.Outcome.{IsMachine}
 use Rattle.hp_driver.specs.Segments.{AreRun}
-use Rattle.hp_driver.specs.Systems.{System, of_machine, from_memory, inputs_of, line_in, outputs_of}
+use Rattle.hp_driver.specs.Systems.{of_machine, from_memory, inputs_of, outputs_of}
 use Rattle.hp_driver.specs.Values.{reading, inputs_on, inputs_until, first_bad}
 use Rattle.hp_driver.specs.declared.trace_limits.Fault.{Fault}
 use Rattle.hp_driver.specs.declared.trace_limits.TheConstants.{MAX_LINES}
@@ -30,7 +28,7 @@ use Rattle.hp_driver.proofs.WrittenLaws.{as_machine}
 -- ---- steps in two parts
 
 module _ (b : Behaviour) where
-  memory_both : (kept : Memory) (xs ys : List (List Value)) → memory_behind b kept (xs ++ ys) ≡ memory_behind b (memory_behind b kept xs) ys
+  pub memory_both : (kept : Memory) (xs ys : List (List Value)) → memory_behind b kept (xs ++ ys) ≡ memory_behind b (memory_behind b kept xs) ys
   memory_both kept [] ys = refl
   memory_both kept (x ∷ xs) ys = memory_both (b.step kept x).kept xs ys
 

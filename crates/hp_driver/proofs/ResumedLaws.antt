@@ -1,5 +1,5 @@
 -- A run that `save` stops and `resume` resumes is one run.
-use Rattle.std.proofs.Common.{◌≡◌, ℕ, ◌+◌, ◌≤◌, Bool, true, false, cond, List, [], ◌∷◌, ◌++◌, length, None, Some, refl, sym, ap, ap₂, subst, ◌∙◌, inl, inr, arith}
+use Rattle.std.proofs.Common.{◌≡◌, ℕ, ◌+◌, ◌≤◌, Bool, true, false, cond, List, [], ◌∷◌, ◌++◌, length, length-append, None, Some, refl, sym, ap, ap₂, subst, ◌∙◌, inl, inr, arith}
 use Rattle.std.specs.Prelude.{Option}
 use Rattle.std.specs.FinMap as map
 use Rattle.std.proofs.lemmas.Cmp.{nat_list_cmp_total}
@@ -28,19 +28,19 @@ use Rattle.law_controlled.specs.One.{AreOne, OneTextListLaw}
 use Rattle.law_decided.specs.Promised.{RunLaw}
 use Rattle.law_history.specs.Streams.Texts.{TextLaw}
 use Rattle.hp_driver.specs.Answers.{IsAnswer}
-use Rattle.hp_driver.specs.Checkpoints.{IsCheckpointOf}
+use Rattle.hp_driver.specs.Checkpoints.{IsCheckpointOf, IsTaken, memory_behind}
 use Rattle.hp_driver.specs.Controls.{has_controls}
 use Rattle.hp_driver.specs.Given.{Gives}
-use Rattle.hp_driver.specs.Joined.{AreGoodLines, IsOneRun, ResumedLaw, TakenAgainLaw, memory_past}
+use Rattle.hp_driver.specs.Joined.{AreGoodLines, ContinuedLaw, IsContinued, IsOneRun, LeftLaw, ResumedLaw, TakenAgainLaw, memory_past}
 use Rattle.hp_driver.specs.Lines.{lines_of}
 use Rattle.hp_driver.specs.Log.{heard, said}
 use Rattle.hp_driver.specs.Outcome.{AreChosen, AreCompiled, IsHeld}
-use Rattle.hp_driver.specs.Segments.{AreRun, Begins, IsRunnable, SegmentRun, Traced}
+use Rattle.hp_driver.specs.Segments.{AreRun, Begins, IsRunnable, SegmentRun, Traced, memory_after}
 use Rattle.hp_driver.specs.Systems.{System, of_machine, from_memory, inputs_of}
-use Rattle.hp_driver.specs.Values.{first_bad}
+use Rattle.hp_driver.specs.Values.{first_bad, inputs_until}
 use Rattle.hp_driver.specs.WrittenText.{WritesText}
-use Rattle.hp_driver.proofs.AlikeLaws.{answer_moved, checkpoint_back, checkpoint_moved, good_moved}
-use Rattle.hp_driver.proofs.JoinedLaws.{joined_run}
+use Rattle.hp_driver.proofs.AlikeLaws.{answer_moved, checkpoint_back, checkpoint_moved, good_moved, memory_moved}
+use Rattle.hp_driver.proofs.JoinedLaws.{good_joined, inputs_joined, joined_run, memory_both}
 use Rattle.hp_driver.proofs.SegmentCalls.{one_memory}
 
 -- ---- one program with its clocks
@@ -69,16 +69,17 @@ get_inserted files name text =
 
 -- ---- what a call resumed
 
--- what the second call did with machines
-record Resumes (node : List ℕ) (text : List ℕ) (second : List Event) (o : Obc) : Type 0 where
+-- what the second call did with machines, and which checkpoint it left
+record Resumes (node : List ℕ) (text next : List ℕ) (second : List Event) (o : Obc) : Type 0 where
   kept : Memory
   is : IsCheckpointOf o node kept text
   answer : IsAnswer (from_memory o node kept) (lines_of true (heard second)) (said second)
   good : first_bad (inputs_of (of_machine o node)) 1 (lines_of true (heard second)) ≡ None
+  leaves : IsCheckpointOf o node (memory_past o node kept (lines_of true (heard second))) next
 
 -- ---- two calls
 
-module _ (file node mem out : List ℕ) (before found : Files) (source : map.get found file ≡ map.get before file) where
+module _ (file node : List ℕ) (before found : Files) (source : map.get found file ≡ map.get before file) where
   same_program : (p q : List Item) → IsHeld (Some before) file p → IsHeld (Some found) file q → p ≡ q
   same_program p q h k =
       let same : k.text ≡ h.text = some_same k.text h.text (sym k.held ∙ source ∙ h.held) in
@@ -98,7 +99,7 @@ module _ (file node mem out : List ℕ) (before found : Files) (source : map.get
   no_plain p q h k some none = let both : true ≡ false = sym some ∙ ap has_controls (same_program p q h k) ∙ none in absurd (cc)
 
   -- what a call resumed with machines of the program, the machines of the other call resume
-  module _ (shortest : OneShortestLaw) (one : OneMachinesLaw) (choosing : OneTextListLaw) (text : List ℕ) (second : List Event) where
+  module _ (shortest : OneShortestLaw) (one : OneMachinesLaw) (choosing : OneTextListLaw) (text next : List ℕ) (second : List Event) where
     module _ (o p : Obc) (a : AreChosen (Some before) file o) (b : AreChosen (Some found) file p) (n k : Node) (named : node_among a.held.clocked node ≡ Some n) (its_name : node_among b.held.clocked node ≡ Some k) (is : IsChosen node o n)
         (its : IsChosen node p k) where
       -- two lists of machines of a program that chooses are one
@@ -121,14 +122,18 @@ module _ (file node mem out : List ℕ) (before found : Files) (source : map.get
       abbrev outputs : is.machine.outputs ≡ its.machine.outputs
       outputs = ap (λ (h : Heading). h.outputs) headed
 
-      chosen_moved : HasObcForm o.types o.machines → Resumes node text second p → Resumes node text second o
+      chosen_moved : HasObcForm o.types o.machines → Resumes node text next second p → Resumes node text next second o
       chosen_moved form r =
           let there = checkpoint_moved o p node is.machine its.machine form chosen_one is.named its.named inputs outputs r.kept text r.is in
+          let lines = lines_of true (heard second) in
           record {
             kept = r.kept;
             is = there;
-            answer = answer_moved o p node is.machine its.machine form chosen_one is.named its.named inputs outputs r.kept there.kinded (lines_of true (heard second)) (said second) r.answer;
-            good = good_moved o p node is.machine its.machine form chosen_one is.named its.named inputs outputs (lines_of true (heard second)) r.good;
+            answer = answer_moved o p node is.machine its.machine form chosen_one is.named its.named inputs outputs r.kept there.kinded lines (said second) r.answer;
+            good = good_moved o p node is.machine its.machine form chosen_one is.named its.named inputs outputs lines r.good;
+            leaves =
+                subst (λ memory. IsCheckpointOf o node memory next) (memory_moved o p node is.machine its.machine form chosen_one is.named its.named inputs outputs r.kept there.kinded lines)
+                (checkpoint_moved o p node is.machine its.machine form chosen_one is.named its.named inputs outputs (memory_past p node r.kept lines) next r.leaves);
           }
 
       chosen_taken : HasObcForm o.types o.machines → (memory : Memory) → IsCheckpointOf o node memory text → IsCheckpointOf p node memory text
@@ -137,8 +142,8 @@ module _ (file node mem out : List ℕ) (before found : Files) (source : map.get
     plain_one : (o p : Obc) → AreCompiled (Some before) file o → AreCompiled (Some found) file p → o ≡ p
     plain_one o p a b = one a.held.clocked o p a.machines (subst (λ items. AreMachinesOf items p) (sym (same_arranged shortest a.program b.program a.held b.held)) b.machines)
 
-    moved : (o p : Obc) (s z : System) → HasObcForm o.types o.machines → AreRun (Some before) file node o s → AreRun (Some found) file node p z → Resumes node text second p → Resumes node text second o
-    moved o p s z form (AreRun.of_program a) (AreRun.of_program b) r = subst (Resumes node text second) (sym (plain_one o p a b)) r
+    moved : (o p : Obc) (s z : System) → HasObcForm o.types o.machines → AreRun (Some before) file node o s → AreRun (Some found) file node p z → Resumes node text next second p → Resumes node text next second o
+    moved o p s z form (AreRun.of_program a) (AreRun.of_program b) r = subst (Resumes node text next second) (sym (plain_one o p a b)) r
     moved o p s z form (AreRun.of_program a) (AreRun.that_choose k b some its_name its) r = no_choice a.program b.program a.held b.held a.uncontrolled some
     moved o p s z form (AreRun.that_choose n a some named is) (AreRun.of_program b) r = no_plain a.program b.program a.held b.held some b.uncontrolled
     moved o p s z form (AreRun.that_choose n a some named is) (AreRun.that_choose k b some_too its_name its) r = chosen_moved o p a b n k named its_name is its form r
@@ -183,55 +188,134 @@ written text out before left status (WritesText.whole all) e = all
 written text out before left status (WritesText.part (inl five) others this) e = absurd (omega (arith, e, five))
 written text out before left status (WritesText.part (inr six) others this) e = absurd (omega (arith, e, six))
 
--- ---- both parts
-
-module _ (text_law : TextLaw) (run_law : RunLaw) (before : Files) (file node : List ℕ) (first second : List Event) (few : length (lines_of true (heard first)) + length (lines_of true (heard second)) ≤ 1000000000) where
-  both : (o : Obc) (there : IsRunnable (Some before) file node o) (text : List ℕ) → Answered there.system first → IsCheckpointOf o node (memory_past o node (machine_behaviour o node).reset (lines_of true (heard first))) text
-      → Resumes node text second o → IsOneRun before file node (lines_of true (heard first) ++ lines_of true (heard second)) (said first ++ said second)
-  both o there text a is r =
-      let l1 = lines_of true (heard first) in
-      let l2 = lines_of true (heard second) in
-      let behind = memory_past o node (machine_behaviour o node).reset l1 in
-      let memory : r.kept ≡ behind = one_memory (Some before) file node o text r.kept behind there r.is is in
-      let good : AreGoodLines (inputs_of (of_machine o node)) l1 l2 = record { few = few; first_good = ap (λ ks. first_bad ks 1 l1) there.inputs ∙ a.1; second_good = r.good } in
-      let answer : IsAnswer (from_memory o node behind) l2 (said second) = subst (λ kept. IsAnswer (from_memory o node kept) l2 (said second)) memory r.answer in
-      record {
-        o = o;
-        system = there.system;
-        are = there.are;
-        said = joined_run text_law run_law (Some before) file node o there.system l1 l2 (said first) (said second) there.are there.machine good a.0 answer;
-      }
-
-  module _ (shortest : OneShortestLaw) (one : OneMachinesLaw) (choosing : OneTextListLaw) (mem out : List ℕ) (left : Option Files) (found : Files) (after : Option Files)
-      (source : map.get found file ≡ map.get before file) (checkpoint : (held : Files) → left ≡ Some held → map.get found mem ≡ map.get held mem) where
-    -- the second call, over the machines of the first
-    second_part : (o : Obc) (there : IsRunnable (Some before) file node o) (text : List ℕ) → Gives (Some found) mem text → (from : Option (List ℕ)) (line : List ℕ) (status : ℕ)
-        → SegmentRun (Some found) after file node from out second line status → from ≡ Some mem → status ≡ 0 → Resumes node text second o
-    second_part o there text gives from line status (SegmentRun.stopped stops fails same) e zero = absurd (fails zero)
-    second_part o there text gives from line status (SegmentRun.written {o = p} {memory = kept} {s = s} begins traced is writes) e zero =
-        let r = restored (Some found) file node mem from p kept s begins e in
-        let texts : r.text ≡ text = some_same r.text text (sym r.gives ∙ gives) in
-        let a = answered s second [] 0 traced refl in
-        let at : Answered (from_memory p node kept) second = subst (λ z. Answered z second) r.system a in
-        moved file node mem out before found source shortest one choosing text second o p there.system r.there.system there.form there.are r.there.are
-        (record { kept = kept; is = subst (IsCheckpointOf p node kept) texts r.is; answer = at.0; good = at.1 })
-
-    first_part : (from : Option (List ℕ)) (line : List ℕ) (status : ℕ) → SegmentRun (Some before) left file node from mem first line status → from ≡ None → status ≡ 0
-        → SegmentRun (Some found) after file node (Some mem) out second [] 0 → IsOneRun before file node (lines_of true (heard first) ++ lines_of true (heard second)) (said first ++ said second)
-    first_part from line status (SegmentRun.stopped stops fails same) e zero r = absurd (fails zero)
-    first_part from line status (SegmentRun.written {o = o} {memory = kept} {s = s} {text = text} begins traced is writes) e zero r =
-        let b = begun (Some before) file node from o kept s begins e in
-        let a = answered s first [] 0 traced refl in
-        let at : Answered b.0.system first = subst (λ z. Answered z first) b.2 a in
-        let holds : map.get found mem ≡ Some text = checkpoint (map.insert before mem text) (written text mem before left status writes zero) ∙ get_inserted before mem text in
-        let here : IsCheckpointOf o node (memory_past o node (machine_behaviour o node).reset (lines_of true (heard first))) text =
-        subst (λ memory. IsCheckpointOf o node (memory_past o node memory (lines_of true (heard first))) text) b.1 is in
-        both o b.0 text at here (second_part o b.0 text holds (Some mem) [] 0 r refl refl)
+runnable : (files : Option Files) (file node : List ℕ) (from : Option (List ℕ)) (o : Obc) (kept : Memory) (s : System) → Begins files file node o from kept s → IsRunnable files file node o
+runnable files file node from o kept s (Begins.from_reset there) = there
+runnable files file node from o kept s (Begins.from_checkpoint there gives is) = there
 
 pub taken : OneShortestLaw → OneMachinesLaw → OneTextListLaw → TakenAgainLaw
 taken shortest one choosing before found file node o p memory text source there again is =
-    taken_again file node [] [] before found source shortest one choosing text [] o p there.system again.system there.form there.are again.are memory is
+    taken_again file node before found source shortest one choosing text [] [] o p there.system again.system there.form there.are again.are memory is
+
+-- ---- calls one after the other
+
+-- what one run does that hears what such calls heard
+record IsReached (before : Files) (file node : List ℕ) (left : Option Files) (mem : List ℕ) (lines : List (List ℕ)) (bytes : List ℕ) : Type 0 where
+  o : Obc
+  there : IsRunnable (Some before) file node o
+  answer : IsAnswer there.system lines bytes
+  good : first_bad (inputs_of (of_machine o node)) 1 lines ≡ None
+  text : List ℕ
+  is : IsCheckpointOf o node (memory_past o node (machine_behaviour o node).reset lines) text
+  held : Files
+  kept : left ≡ Some held
+  holds : map.get held mem ≡ Some text
+
+module _ (text_law : TextLaw) (run_law : RunLaw) (before : Files) (file node : List ℕ) where
+  first_call : (left : Option Files) (mem : List ℕ) (log : List Event) (from : Option (List ℕ)) (line : List ℕ) (status : ℕ) → SegmentRun (Some before) left file node from mem log line status → from ≡ None → status ≡ 0
+      → IsReached before file node left mem (lines_of true (heard log)) (said log)
+  first_call left mem log from line status (SegmentRun.stopped stops fails same) e zero = absurd (fails zero)
+  first_call left mem log from line status (SegmentRun.written {o = o} {memory = kept} {s = s} {text = text} begins traced is writes) e zero =
+      let lines = lines_of true (heard log) in
+      let b = begun (Some before) file node from o kept s begins e in
+      let a : Answered b.0.system log = subst (λ z. Answered z log) b.2 (answered s log [] 0 traced refl) in
+      record {
+        o = o;
+        there = b.0;
+        answer = a.0;
+        good = ap (λ ks. first_bad ks 1 lines) b.0.inputs ∙ a.1;
+        text = text;
+        is = subst (λ memory. IsCheckpointOf o node (memory_past o node memory lines) text) b.1 is;
+        held = map.insert before mem text;
+        kept = written text mem before left status writes zero;
+        holds = get_inserted before mem text;
+      }
+
+  module _ (shortest : OneShortestLaw) (one : OneMachinesLaw) (choosing : OneTextListLaw) where
+    -- behind them one more call, which did this with the machines of that run
+    module _ (left after : Option Files) (mem out : List ℕ) (lines : List (List ℕ)) (bytes : List ℕ) (log : List Event) (found : Files) (few : length (lines ++ lines_of true (heard log)) ≤ 1000000000)
+        (c : IsReached before file node left mem lines bytes) (next : List ℕ) (r : Resumes node c.text next log c.o) (writes : after ≡ Some (map.insert found out next)) where
+      abbrev more : List (List ℕ)
+      more = lines_of true (heard log)
+
+      abbrev past : Memory
+      past = memory_past c.o node (machine_behaviour c.o node).reset lines
+
+      memory : r.kept ≡ past
+      memory = one_memory (Some before) file node c.o c.text r.kept past c.there r.is c.is
+
+      both_good : AreGoodLines (inputs_of (of_machine c.o node)) lines more
+      both_good = let all = few in record { few = subst (λ n. n ≤ 1000000000) (length-append lines more) all; first_good = c.good; second_good = r.good }
+
+      memories : memory_past c.o node r.kept more ≡ memory_past c.o node (machine_behaviour c.o node).reset (lines ++ more)
+      memories =
+          let b = machine_behaviour c.o node in
+          let ins = inputs_of (of_machine c.o node) in
+          ap (λ k. memory_past c.o node k more) memory
+          ∙ sym (memory_both b b.reset (inputs_until ins 1 lines) (inputs_until ins 1 more))
+          ∙ ap (memory_behind b b.reset) (sym (inputs_joined ins lines more both_good))
+
+      one_more : IsReached before file node after out (lines ++ more) (bytes ++ said log)
+      one_more = record {
+        o = c.o;
+        there = c.there;
+        answer =
+            joined_run text_law run_law (Some before) file node c.o c.there.system lines more bytes (said log) c.there.are c.there.machine both_good c.answer
+            (subst (λ kept. IsAnswer (from_memory c.o node kept) more (said log)) memory r.answer);
+        good = good_joined (inputs_of (of_machine c.o node)) lines more both_good;
+        text = next;
+        is = subst (λ kept. IsCheckpointOf c.o node kept next) memories r.leaves;
+        held = map.insert found out next;
+        kept = writes;
+        holds = get_inserted found out next;
+      }
+
+    next_call : (left after : Option Files) (mem out : List ℕ) (lines : List (List ℕ)) (bytes : List ℕ) (log : List Event) (found : Files) → length (lines ++ lines_of true (heard log)) ≤ 1000000000
+        → IsReached before file node left mem lines bytes → map.get found file ≡ map.get before file → ((held : Files) → left ≡ Some held → map.get found mem ≡ map.get held mem)
+        → (from : Option (List ℕ)) (line : List ℕ) (status : ℕ) → SegmentRun (Some found) after file node from out log line status → from ≡ Some mem → status ≡ 0
+        → IsReached before file node after out (lines ++ lines_of true (heard log)) (bytes ++ said log)
+    next_call left after mem out lines bytes log found few c source checkpoint from line status (SegmentRun.stopped stops fails same) e zero = absurd (fails zero)
+    next_call left after mem out lines bytes log found few c source checkpoint from line status (SegmentRun.written {o = p} {memory = kept} {s = s} {text = next} begins traced is writes) e zero =
+        let r = restored (Some found) file node mem from p kept s begins e in
+        let gives : map.get found mem ≡ Some c.text = checkpoint c.held c.kept ∙ c.holds in
+        let texts : r.text ≡ c.text = some_same r.text c.text (sym r.gives ∙ gives) in
+        let a : Answered (from_memory p node kept) log = subst (λ z. Answered z log) r.system (answered s log [] 0 traced refl) in
+        let its : Resumes node c.text next log p = record { kept = kept; is = subst (IsCheckpointOf p node kept) texts r.is; answer = a.0; good = a.1; leaves = is } in
+        let ours = moved file node before found source shortest one choosing c.text next log c.o p c.there.system r.there.system c.there.form c.there.are r.there.are its in
+        one_more left after mem out lines bytes log found few c next ours (written next out found after status writes zero)
+
+    reached : (left : Option Files) (mem : List ℕ) (lines : List (List ℕ)) (bytes : List ℕ) → IsContinued before file node left mem lines bytes → length lines ≤ 1000000000 → IsReached before file node left mem lines bytes
+    reached left mem lines bytes (IsContinued.saved {log = log} run) few = first_call left mem log None [] 0 run refl refl
+    reached left mem lines bytes (IsContinued.resumed {left = earlier} {mem = name} {lines = heard_before} {bytes = said_before} {log = log} found calls source checkpoint run) few =
+        let all = length-append heard_before (lines_of true (heard log)) in
+        let c = reached earlier name heard_before said_before calls (omega (arith, all, few)) in
+        next_call earlier left name mem heard_before said_before log found few c source checkpoint (Some name) [] 0 run refl refl
+
+    one_run : (left : Option Files) (mem : List ℕ) (lines : List (List ℕ)) (bytes : List ℕ) → IsReached before file node left mem lines bytes → IsOneRun before file node lines bytes
+    one_run left mem lines bytes c = record { o = c.o; system = c.there.system; are = c.there.are; said = c.answer }
+
+pub continued : TextLaw → RunLaw → OneShortestLaw → OneMachinesLaw → OneTextListLaw → ContinuedLaw
+continued text_law run_law shortest one choosing before file node left mem lines bytes calls few =
+    one_run text_law run_law before file node shortest one choosing left mem lines bytes (reached text_law run_law before file node shortest one choosing left mem lines bytes calls few)
 
 pub resumed : TextLaw → RunLaw → OneShortestLaw → OneMachinesLaw → OneTextListLaw → ResumedLaw
 resumed text_law run_law shortest one choosing file node mem out first second r few =
-    first_part text_law run_law r.before file node first second few shortest one choosing mem out r.left r.found r.after r.source r.checkpoint None [] 0 r.saved refl refl r.resumed
+    let all = length-append (lines_of true (heard first)) (lines_of true (heard second)) in
+    continued text_law run_law shortest one choosing r.before file node r.after out (lines_of true (heard first) ++ lines_of true (heard second)) (said first ++ said second)
+    (IsContinued.resumed r.found (IsContinued.saved r.saved) r.source r.checkpoint r.resumed) (omega (arith, all, few))
+
+-- ---- what a call left
+
+left_by : OneShortestLaw → OneMachinesLaw → OneTextListLaw → (file node out : List ℕ) (from : Option (List ℕ)) (log : List Event) (before left found : Files) (o : Obc) (line : List ℕ) (status : ℕ)
+    → SegmentRun (Some before) (Some left) file node from out log line status → status ≡ 0 → map.get found file ≡ map.get before file → IsRunnable (Some found) file node o
+    → (text : List ℕ) × (map.get left out ≡ Some text) × IsTaken o node text
+left_by shortest one choosing file node out from log before left found o line status (SegmentRun.stopped stops fails same) zero source there = absurd (fails zero)
+left_by shortest one choosing file node out from log before left found o line status (SegmentRun.written {o = p} {memory = kept} {s = s} {text = text} begins traced is writes) zero source there =
+    let files : left ≡ map.insert before out text = some_same left (map.insert before out text) (written text out before (Some left) status writes zero) in
+    let memory = memory_after p node kept log in (
+      text,
+      ap (λ (f : Files). map.get f out) files ∙ get_inserted before out text,
+      (memory, taken shortest one choosing before found file node p o memory text source (runnable (Some before) file node from p kept s begins) there is),
+    )
+
+pub left_is_taken : OneShortestLaw → OneMachinesLaw → OneTextListLaw → LeftLaw
+left_is_taken shortest one choosing file node out from log before left found o run source there = left_by shortest one choosing file node out from log before left found o [] 0 run refl source there

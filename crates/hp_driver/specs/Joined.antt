@@ -81,3 +81,24 @@ abbrev pub ResumedLaw : Type 0
 ResumedLaw =
     (file node mem out : List ℕ) (first second : List Event) (r : IsResumed file node mem out first second) → length (lines_of true (heard first)) + length (lines_of true (heard second)) ≤ 1000000000
     → IsOneRun r.before file node (lines_of true (heard first) ++ lines_of true (heard second)) (said first ++ said second)
+
+-- ---- any number of calls
+
+-- Calls for a node over one source text, one after the other, all with status 0: `save`, and then each `resume` found, under the name that it was asked for, what the call before it had left there. So the last one left these files and, under this name, a checkpoint; these lines were heard, and this was said.
+pub data IsContinued (before : Files) (file node : List ℕ) : Option Files → List ℕ → List (List ℕ) → List ℕ → Type 0 where
+  saved : {left : Option Files} {mem : List ℕ} {log : List Event} → SegmentRun (Some before) left file node None mem log [] 0 → IsContinued before file node left mem (lines_of true (heard log)) (said log)
+  resumed : {left after : Option Files} {mem out : List ℕ} {lines : List (List ℕ)} {bytes : List ℕ} {log : List Event} (found : Files) → IsContinued before file node left mem lines bytes → map.get found file ≡ map.get before file
+      → ((held : Files) → left ≡ Some held → map.get found mem ≡ map.get held mem) → SegmentRun (Some found) after file node (Some mem) out log [] 0
+      → IsContinued before file node after out (lines ++ lines_of true (heard log)) (bytes ++ said log)
+
+-- However often a run is stopped, it says what one run says.
+abbrev pub ContinuedLaw : Type 0
+ContinuedLaw =
+    (before : Files) (file node : List ℕ) (left : Option Files) (mem : List ℕ) (lines : List (List ℕ)) (bytes : List ℕ) → IsContinued before file node left mem lines bytes → length lines ≤ 1000000000
+    → IsOneRun before file node lines bytes
+
+-- What a call left that ended with status 0, each machine takes that may be run for the node, in all files with that source text: so `resume` does not refuse it.
+abbrev pub LeftLaw : Type 0
+LeftLaw =
+    (file node out : List ℕ) (from : Option (List ℕ)) (log : List Event) (before left found : Files) (o : Obc) → SegmentRun (Some before) (Some left) file node from out log [] 0 → map.get found file ≡ map.get before file
+    → IsRunnable (Some found) file node o → (text : List ℕ) × (map.get left out ≡ Some text) × IsTaken o node text

@@ -1,6 +1,6 @@
 //! Laws on calls. The functions here do nothing: each is a law, which its contract states.
 ghost use Rattle.hp_driver.specs.GoodCalls.{PlainLaw, ProvedLaw};
-ghost use Rattle.hp_driver.specs.Joined.{JoinedLaw, JoinedRunLaw, OneMemoryLaw, ResumedLaw, TakenAgainLaw, TakenLaw};
+ghost use Rattle.hp_driver.specs.Joined.{ContinuedLaw, JoinedLaw, JoinedRunLaw, LeftLaw, OneMemoryLaw, ResumedLaw, TakenAgainLaw, TakenLaw};
 ghost use Rattle.hp_driver.specs.Mirrored.{MirrorLaw};
 ghost use Rattle.hp_driver.specs.Written.{CompiledLaw, WrittenLaw};
 
@@ -43,12 +43,14 @@ pub fn machines_of_contracts_mirror_nodes()
     machines_mirror_contracts();
 }
 
-/// A run that is stopped and resumed is one run. What is said to some lines, and from the memory behind them to more lines, is what is said to all of them, where none has a fault and they are few enough for one trace; and the memory behind them is the same. So it is of a call of `save` and one of `resume` over one text, and what the one leaves the other takes.
+/// A run that is stopped and resumed is one run. What is said to some lines, and from the memory behind them to more lines, is what is said to all of them, where none has a fault and they are few enough for one trace; and the memory behind them is the same. So it is of a call of `save` and one of `resume` over one text, and of any number of `resume` behind it; and what each leaves the next one takes.
 pub fn stopped_runs_are_joined()
     ensures lines { JoinedLaw }
     ensures runs { JoinedRunLaw }
     ensures resumed { ResumedLaw }
+    ensures continued { ContinuedLaw }
     ensures taken { TakenAgainLaw }
+    ensures left { LeftLaw }
 {
     machines_run_the_nodes_of_texts();
     machines_keep_contracts();

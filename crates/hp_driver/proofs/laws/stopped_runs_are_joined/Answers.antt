@@ -1,5 +1,5 @@
 use Rattle.hp_driver.proofs.JoinedLaws.{joined, joined_run}
-use Rattle.hp_driver.proofs.ResumedLaws.{resumed, taken}
+use Rattle.hp_driver.proofs.ResumedLaws.{continued, left_is_taken, resumed, taken}
 use Rattle.hp_driver.proofs.laws.stopped_runs_are_joined.Goals as goal
 
 pub returns-clause-lines : goal.returns-clause-lines
@@ -12,5 +12,12 @@ pub returns-clause-resumed : goal.returns-clause-resumed
 returns-clause-resumed c =
     resumed c.machines_run_the_nodes_of_texts.ensures c.machines_keep_contracts.ensures.run c.one_shortest_assignment.ensures c.programs_have_one_list_of_machines.ensures c.programs_that_choose_have_one_list_of_machines.ensures.texts
 
+pub returns-clause-continued : goal.returns-clause-continued
+returns-clause-continued c =
+    continued c.machines_run_the_nodes_of_texts.ensures c.machines_keep_contracts.ensures.run c.one_shortest_assignment.ensures c.programs_have_one_list_of_machines.ensures c.programs_that_choose_have_one_list_of_machines.ensures.texts
+
 pub returns-clause-taken : goal.returns-clause-taken
 returns-clause-taken c = taken c.one_shortest_assignment.ensures c.programs_have_one_list_of_machines.ensures c.programs_that_choose_have_one_list_of_machines.ensures.texts
+
+pub returns-clause-left : goal.returns-clause-left
+returns-clause-left c = left_is_taken c.one_shortest_assignment.ensures c.programs_have_one_list_of_machines.ensures c.programs_that_choose_have_one_list_of_machines.ensures.texts
