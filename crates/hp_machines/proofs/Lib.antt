@@ -2,7 +2,7 @@ mod MakingLaws
 mod Rules
 mod HeadingLaws
 mod NotBuiltLaws
-mod OneLaws
+pub mod OneLaws
 mod NeededLaws
 mod ApartLaws
 mod CopiesLaws

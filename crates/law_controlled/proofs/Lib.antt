@@ -10,7 +10,6 @@ pub mod KeepingLaws
 pub mod MachineLaws
 pub mod MadeLaws
 pub mod MadeNamesLaws
-mod MadeOnceLaws
 pub mod MirrorLaws
 pub mod NameLaws
 pub mod NearlyLaws

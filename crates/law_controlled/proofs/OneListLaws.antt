@@ -14,7 +14,7 @@ use Rattle.hp_complete.specs.Made.{AreMadeOf}
 use Rattle.hp_flat.specs.Nodes.{FlatNode}
 use Rattle.hp_form.specs.Regular.Regular.{RegularLaw}
 use Rattle.hp_machines.specs.Making.{AreMade}
-use Rattle.law_controlled.proofs.MadeOnceLaws.{one_within}
+use Rattle.hp_machines.proofs.OneLaws.{one_within}
 use Rattle.hp_watch.specs.Observing as observing
 use Rattle.law_automata.specs.Lowered.Removable.{IsRemovable}
 use Rattle.law_choices.specs.InTurn.Laws as turn

@@ -5,4 +5,4 @@ pub mod FollowedLemmas
 pub mod FewerLemmas
 pub mod ShapedLemmas
 pub mod AnsweredLemmas
-mod FittingLemmas
+pub mod FittingLemmas

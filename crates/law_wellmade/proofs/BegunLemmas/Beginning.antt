@@ -33,7 +33,7 @@ use Rattle.law_wellmade.proofs.BegunLemmas.FillsFit.{node_fits}
 use Rattle.law_wellmade.proofs.BegunLemmas.Grounds.{grounded}
 use Rattle.law_wellmade.proofs.BegunLemmas.Items.{no_variables, outputs_first}
 
-sound_at : (types : List TypeDecl) (later earlier : List Item) (n : Node) → SoundBehind types (later ++ NodeItem n ∷ earlier) → NodeSound types (node_among earlier) (scope_behind earlier) n
+pub sound_at : (types : List TypeDecl) (later earlier : List Item) (n : Node) → SoundBehind types (later ++ NodeItem n ∷ earlier) → NodeSound types (node_among earlier) (scope_behind earlier) n
 sound_at types [] earlier n h = h.0
 sound_at types (TypeItem t ∷ later) earlier n h = sound_at types later earlier n h
 sound_at types (NodeItem m ∷ later) earlier n h = sound_at types later earlier n h.1

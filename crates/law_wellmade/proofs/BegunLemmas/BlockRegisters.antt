@@ -125,7 +125,7 @@ module _ (k : Known) where
       by true e = type_declared_is (with_variables s ds) ds x t o h e
       by false e = see x t (sym (not_declared x ds s e) ∙ h)
 
-  layer_sees : (standing : Standing) (out : Sight) (at : Site) (ds : List Decl) (names : List (List ℕ)) (d : Sketch) (s : Scope) → OwnTypes (with_variables s ds) ds → SeesTypes k s out
+  pub layer_sees : (standing : Standing) (out : Sight) (at : Site) (ds : List Decl) (names : List (List ℕ)) (d : Sketch) (s : Scope) → OwnTypes (with_variables s ds) ds → SeesTypes k s out
       → SeesTypes k (with_variables s ds) (over (block_layer k standing out at ds names d).0 out)
   layer_sees standing out at ds names d s o see x t h =
       remember_all_same at out ds (own_names standing ds out names (declared k ds out, d)) x ∙ own_names_same standing ds out names (declared k ds out, d) x ∙ declared_sees s ds out o see x t h
@@ -152,7 +152,7 @@ module _ (k : Known) where
       (put_says d.name _ m.0 x t ds (λ e. ap (λ z. flat_type k.types z) (some_is d.ty t (sym o.0 ∙ ap (λ z. lookup s.variables z) (same_name d.name x e) ∙ h))) c)
 
   -- a name of the body is an output, a controllable variable or an input
-  around_sees : (types : List TypeDecl) (among : List ℕ → Option Node) (s : Scope) (n : Node) → s.variables ≡ [] → NodeSound types among s n → SeesTypes k (body_scope s n) (over (around_body k n).0 unknown)
+  pub around_sees : (types : List TypeDecl) (among : List ℕ → Option Node) (s : Scope) (n : Node) → s.variables ≡ [] → NodeSound types among s n → SeesTypes k (body_scope s n) (over (around_body k n).0 unknown)
   around_sees types among s n e ok x t h =
       let controls = controls_of n.contract in
       let m = signed k n.inputs (no_entry, nothing_made) in
