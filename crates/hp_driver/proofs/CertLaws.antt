@@ -34,6 +34,7 @@ use Rattle.hp_driver.specs.Leaves.{Leaves}
 use Rattle.hp_driver.specs.Leaving.{WritesText, TextLeaves, NodeLeaves, ContractLeaves}
 use Rattle.hp_driver.specs.Outcome.{Outcome, GivesMoreThan, HasNoProgram, HasContract}
 use Rattle.hp_driver.specs.Ran.{ReportsOrNot}
+use Rattle.hp_driver.specs.Readings.{NodeHasMachine, TextHasMachine}
 use Rattle.hp_driver.proofs.ContractLaws.{contract_told_by}
 use Rattle.hp_driver.proofs.GameLaws.{are_said}
 use Rattle.hp_driver.proofs.OutcomeLaws.{told_or_not}
@@ -274,3 +275,17 @@ pub verify_refused : (files : Option Files) (law : OutcomesLaw) (ordered : List 
 verify_refused files law ordered node cert cause before after result refuses reports memory =
     contract_told_as files (λ words file name. IsVerifyOf words file name cert) ordered node cause before after result
     (no_machine files (λ words file name. IsVerifyOf words file name cert) ordered node law (λ words file name w. IsOverContract.to_verify w) cause refuses) reports memory
+
+-- ---- the contract of a node of a text has a machine
+
+pub text_machine : (text : List ℕ) (ordered : List Item) (name : List ℕ) → IsOrdered text ordered → NodeHasMachine ordered name → TextHasMachine text name
+text_machine text ordered name o h files file gives = record {
+  there = record {
+    program = o.program;
+    held = record { text = text; held = gives; judged = o.judged; only = o.only; clocked = ordered; ranks = o.ranks; arranged = o.arranged };
+    node = h.0;
+    named = h.1;
+    some = h.2;
+  };
+  machine = h.3;
+}

@@ -264,11 +264,11 @@ long_source words before after file node from out w long same took told result r
     (found.0, found.1, not_run_call words before after file node from out w found.0 result found.2 (not_done_or_not took told (too_long_line Size) result reports) same)
 
 -- what was read, and where a read or a write failed
-pub segment_read : (words : List (List ℕ)) (file node : List ℕ) (from : Option (List ℕ)) (out : List ℕ) → IsSegmentOf words file node from out → (first before after : Option (List Reading)) →
-    Grows first before ((file, most Size) ∷ []) → ReadsFrom from before after → HasRead words first after
-segment_read words file node None out w first before after grew same = (_, subst (λ told. Grows first told ((file, most Size) ∷ [])) (sym same) grew, AreReadings.a_segment w)
-segment_read words file node (Some mem) out w first before after grew (inl same) = (_, subst (λ told. Grows first told ((file, most Size) ∷ [])) (sym same) grew, AreReadings.a_segment w)
-segment_read words file node (Some mem) out w first before after grew (inr more) = (_, Grows-trans first before after _ _ grew more, AreReadings.a_checkpoint w)
+pub segment_read : (words : List (List ℕ)) (files : Option Files) (file node : List ℕ) (from : Option (List ℕ)) (out : List ℕ) → IsSegmentOf words file node from out → (first before after : Option (List Reading)) →
+    Grows first before ((file, most Size) ∷ []) → ReadsFrom from before after → HasRead words files first after
+segment_read words files file node None out w first before after grew same = (_, subst (λ told. Grows first told ((file, most Size) ∷ [])) (sym same) grew, AreReadings.a_segment w)
+segment_read words files file node (Some mem) out w first before after grew (inl same) = (_, subst (λ told. Grows first told ((file, most Size) ∷ [])) (sym same) grew, AreReadings.a_segment w)
+segment_read words files file node (Some mem) out w first before after grew (inr more) = (_, Grows-trans first before after _ _ grew more, AreReadings.a_checkpoint w)
 
 pub segment_read_rose : (words : List (List ℕ)) (file node : List ℕ) (from : Option (List ℕ)) (out : List ℕ) → IsSegmentOf words file node from out → (before after : List ℕ → Faults) → RoseInRead from before after → ReadRose words before after
 segment_read_rose words file node None out w before after rose = absurd rose

@@ -16,7 +16,7 @@ pub nothing_done : (words : List (List ℕ)) (m : Moment) → IsCall words m m 6
 nothing_done words m = record {
   outcome = ([], [], Grows-nil m.events, heard_nothing m.left, Grows-nil m.took, CallOutcome.no_memory);
   leaves = Leaves.as_they_were refl (λ out w h. omega (arith, h));
-  readings = read_none words m.reads.gave;
+  readings = read_none words m.files m.reads.gave;
   reads = (search rules, search rules);
   writes = (search rules, search rules);
 }

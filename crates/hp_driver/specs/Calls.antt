@@ -32,6 +32,6 @@ moment files reads writes events left takes puts took tells =
 pub record IsCall (words : List (List ℕ)) (before after : Moment) (status : ℕ) : Type 0 where
   pub outcome : Happened before.events after.events before.left after.left before.took after.took (λ log line. CallOutcome words before.files after.files log line status)
   pub leaves : Leaves words before.files after.files status
-  pub readings : (gave : List Reading) × Grows before.reads.gave after.reads.gave gave × AreReadings words gave
+  pub readings : (gave : List Reading) × Grows before.reads.gave after.reads.gave gave × AreReadings words before.files gave
   pub reads : InputFaults (ReadRose words before.reads.faults after.reads.faults) status before.reads.faults after.reads.faults before.takes after.takes
   pub writes : OutputFaults (WriteRose words before.writes after.writes) status before.writes after.writes before.puts after.puts before.tells after.tells

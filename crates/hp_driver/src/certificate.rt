@@ -1,5 +1,5 @@
 //! The commands over the contract of one node: `prove`, which writes a certificate, and `verify`, which checks one.
-ghost use Rattle.std.specs.Prelude.{◌≡◌, ◌≢◌, ◌++◌, ℕ, List, [], None, Some, codes, decimal, is_some, IfOk, IfErr, IsTrue, MatchOption};
+ghost use Rattle.std.specs.Prelude.{◌≡◌, ◌≢◌, ◌⊎◌, ◌++◌, ℕ, List, [], None, Some, codes, decimal, is_some, IfOk, IfErr, IsTrue, MatchOption};
 ghost use Rattle.hp_io.specs.Events.{put_events};
 ghost use Rattle.hp_io.specs.Faults.{Same, AllSame};
 ghost use Rattle.hp_io.specs.Reads.{NothingRead};
@@ -8,6 +8,7 @@ ghost use Rattle.hp_compile.specs.Refusals.{IsRefused};
 ghost use Rattle.hp_compile.specs.declared.refusal.Refusal.TheVariants as refusal;
 ghost use Rattle.hp_tree.specs.Meaning.{node_among};
 ghost use Rattle.hp_cert.specs.declared.certtext.error.CertErr.TheVariants as certificate;
+ghost use Rattle.hp_verdicts.specs.Verified.{HasMachine};
 ghost use Rattle.hp_driver.specs.Command.{IsProveOf, IsVerifyOf, verdict_text};
 ghost use Rattle.hp_driver.specs.Diagnostics.{no_contract_line, certificate_line, certificate_status};
 ghost use Rattle.hp_driver.specs.Follows.{Accepts, IsArrangedText, IsNodeOfText, IsOrdered, TextOutcome, NodeOutcome, ContractOutcome, MachineOutcome, CertOutcome};
@@ -15,6 +16,7 @@ ghost use Rattle.hp_driver.specs.Leaving.{TextLeaves, NodeLeaves, ContractLeaves
 ghost use Rattle.hp_driver.specs.Found.{node_in};
 ghost use Rattle.hp_driver.specs.Outcome.{HasNoProgram};
 ghost use Rattle.hp_driver.specs.Ran.{ReportsOrNot};
+ghost use Rattle.hp_driver.specs.Readings.{NodeHasMachine, TextHasMachine};
 ghost use Rattle.hp_driver.specs.Faults.{PutFaults, BothPutFaults, ReadFaults, WriteOrPutFaults};
 ghost use Rattle.hp_driver.specs.Happened.{Happened};
 ghost use Rattle.hp_driver.specs.Status.{code_of};
@@ -287,6 +289,7 @@ fn verify_contract<F: Folder, C: Console, E: Sink>(
         (λ log line. ContractOutcome (F.files files.old) (λ words file name. IsVerifyOf words file name cert.now) ordered.now node.now log line (code_of result)) }
     ensures files { F.files files.new ≡ F.files files.old }
     ensures reads { ReadFaults cert.now (code_of result) (F.reads files.old) (F.reads files.new) }
+    ensures machine { ((F.reads files.new).gave ≡ (F.reads files.old).gave) ⊎ HasMachine ordered.now node.now }
     ensures writes { AllSame (F.write_faults files.old) (F.write_faults files.new) }
     ensures takes { Same (C.take_faults console.old) (C.take_faults console.new) }
     ensures puts { BothPutFaults (code_of result) (C.put_faults console.old) (C.put_faults console.new) (E.faults diag.old) (E.faults diag.new) }
@@ -314,6 +317,7 @@ fn verify_node<F: Folder, C: Console, E: Sink>(
         (λ log line. NodeOutcome (F.files files.old) (λ words file. IsVerifyOf words file name.now cert.now) ordered.now log line (code_of result)) }
     ensures files { F.files files.new ≡ F.files files.old }
     ensures reads { ReadFaults cert.now (code_of result) (F.reads files.old) (F.reads files.new) }
+    ensures machine { ((F.reads files.new).gave ≡ (F.reads files.old).gave) ⊎ NodeHasMachine ordered.now name.now }
     ensures writes { AllSame (F.write_faults files.old) (F.write_faults files.new) }
     ensures takes { Same (C.take_faults console.old) (C.take_faults console.new) }
     ensures puts { BothPutFaults (code_of result) (C.put_faults console.old) (C.put_faults console.new) (E.faults diag.old) (E.faults diag.new) }
@@ -341,6 +345,7 @@ pub(crate) fn run_verify<F: Folder, C: Console, E: Sink>(
         (λ log line. TextOutcome (F.files files.old) (λ words file. IsVerifyOf words file name.now cert.now) text.now log line (code_of result)) }
     ensures files { F.files files.new ≡ F.files files.old }
     ensures reads { ReadFaults cert.now (code_of result) (F.reads files.old) (F.reads files.new) }
+    ensures machine { ((F.reads files.new).gave ≡ (F.reads files.old).gave) ⊎ TextHasMachine text.now name.now }
     ensures writes { AllSame (F.write_faults files.old) (F.write_faults files.new) }
     ensures takes { Same (C.take_faults console.old) (C.take_faults console.new) }
     ensures puts { BothPutFaults (code_of result) (C.put_faults console.old) (C.put_faults console.new) (E.faults diag.old) (E.faults diag.new) }

@@ -49,7 +49,7 @@ fn run_text<N: Answers, F: Folder, C: Console, E: Sink>(
         Outcome words (F.files files.old) log line (code_of result)) }
     ensures leaves { (words : List (List ℕ)) → Spells words command.entry → Gives (F.files files.old) (file_of command.entry) text.now →
         Leaves words (F.files files.old) (F.files files.new) (code_of result) }
-    ensures readings { ReadsOn command.entry (F.reads files.old).gave (F.reads files.new).gave }
+    ensures readings { ReadsOn command.entry text.now (F.reads files.old).gave (F.reads files.new).gave }
     ensures reads { InputFaults ((words : List (List ℕ)) → Spells words command.entry → ReadRose words (F.reads files.old).faults (F.reads files.new).faults)
         (code_of result) (F.reads files.old).faults (F.reads files.new).faults (C.take_faults console.old) (C.take_faults console.new) }
     ensures writes { OutputFaults ((words : List (List ℕ)) → Spells words command.entry → WriteRose words (F.write_faults files.old) (F.write_faults files.new))
@@ -172,8 +172,8 @@ pub fn run_tool<F: Folder, C: Console, E: Sink>(
     // No file is changed but the one that is to be written, which then holds the machines of the program, its text without the formulas of its contracts, a certificate, or a checkpoint.
     ensures leaves { Leaves (map string_bytes words.now) (F.files files.old) (F.files files.new) result }
 
-    // What is read are the file, with the limit of its kind of text, and behind it, with its limit, the certificate of `verify` or the checkpoint of `resume`.
-    ensures readings { (gave : List Reading) × Grows (F.reads files.old).gave (F.reads files.new).gave gave × AreReadings (map string_bytes words.now) gave }
+    // What is read are the file, with the limit of its kind of text, and behind it, with its limit, the certificate of `verify`, where the contract of the node has a machine, or the checkpoint of `resume`.
+    ensures readings { (gave : List Reading) × Grows (F.reads files.old).gave (F.reads files.new).gave gave × AreReadings (map string_bytes words.now) (F.files files.old) gave }
 
     // Where the status is 4 or 5 one call failed of those that the words ask for, and it was the last on its object. On each other object none failed, and where the status is another one none failed at all.
     ensures read_fault { result ≡ 4 → (ReadRose (map string_bytes words.now) (F.reads files.old).faults (F.reads files.new).faults × Same (C.take_faults console.old) (C.take_faults console.new))

@@ -1,7 +1,7 @@
-use Rattle.std.proofs.Common.{[]}
+use Rattle.std.proofs.Common.{[], inl, inr, refl}
 use Rattle.hp_io.proofs.ToldLaws.{Grows-nil}
 use Rattle.hp_driver.specs.Command.{IsVerifyOf, IsOverContract}
-use Rattle.hp_driver.proofs.CertLaws.{text_refused, of_text}
+use Rattle.hp_driver.proofs.CertLaws.{text_refused, text_machine, of_text}
 use Rattle.hp_driver.proofs.RanLaws.{heard_nothing}
 use Rattle.hp_driver.specs.Status.{code_of}
 use Rattle.hp_driver.proofs.certificate.run_verify.Goals as goal
@@ -28,3 +28,13 @@ returns-in-Ok-clause-outcome g c =
 
 pub verify_node-requires : goal.verify_node-requires
 verify_node-requires g c = let o = c.in-Ok.ensures.ordered in (o.program, (c.args.text.now, o.ranks, o.judged, o.arranged))
+
+pub returns-in-Err-clause-machine : goal.returns-in-Err-clause-machine
+returns-in-Err-clause-machine g c = inl refl
+
+pub returns-in-Ok-clause-machine : goal.returns-in-Ok-clause-machine
+returns-in-Ok-clause-machine g c =
+    elim c.verify_node.ensures.machine [
+      | inl same ↦ inl same
+      | inr has ↦ inr (text_machine c.args.text.now c.in-Ok.ordered.program c.args.name.now c.in-Ok.ensures.ordered has)
+    ]

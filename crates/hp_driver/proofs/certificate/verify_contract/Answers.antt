@@ -1,4 +1,4 @@
-use Rattle.std.proofs.Common.{[]}
+use Rattle.std.proofs.Common.{[], inl, inr, refl}
 use Rattle.hp_io.proofs.ToldLaws.{Grows-nil}
 use Rattle.hp_driver.proofs.GameLaws.{contract_is_built}
 use Rattle.hp_driver.proofs.CertLaws.{of_machine, verify_refused}
@@ -25,3 +25,9 @@ returns-in-Err-clause-outcome g c =
 
 pub report_contract-requires : goal.report_contract-requires
 report_contract-requires g c = contract_is_built c.outcomes_are_so.ensures c.args.ordered.now c.args.node.now c.requires.1 c.in-Err.error c.in-Err.ensures.refused
+
+pub returns-in-Ok-clause-machine : goal.returns-in-Ok-clause-machine
+returns-in-Ok-clause-machine g c = inr (record { machine = c.in-Ok.m; is_machine = c.in-Ok.ensures.machine })
+
+pub returns-in-Err-clause-machine : goal.returns-in-Err-clause-machine
+returns-in-Err-clause-machine g c = inl refl

@@ -1,4 +1,4 @@
-use Rattle.std.proofs.Common.{◌≡◌, false, [], rules}
+use Rattle.std.proofs.Common.{◌≡◌, false, [], inl, inr, refl, rules}
 use Rattle.std.specs.Prelude.{is_some, IsTrue}
 use Rattle.std.proofs.lemmas.Option.{MatchOption-at_none, MatchOption-at_some}
 use Rattle.hp_io.proofs.ToldLaws.{Grows-nil}
@@ -44,3 +44,17 @@ pub verify_contract-requires : goal.verify_contract-requires
 verify_contract-requires g c =
     let some : IsTrue (is_some c.in-Some.node.now.contract) = search rules in
     (some, (c.requires.0, c.args.name.now, c.requires.1, MatchOption-at_some _ _ c.in-Some.node c.in-Some.is c.node_named.ensures))
+
+pub returns-in_default-clause-machine : goal.returns-in_default-clause-machine
+returns-in_default-clause-machine g c = inl refl
+
+pub returns-then-is_none-clause-machine : goal.returns-then-is_none-clause-machine
+returns-then-is_none-clause-machine g c = inl refl
+
+pub returns-clause-machine : goal.returns-clause-machine
+returns-clause-machine g c =
+    let some : IsTrue (is_some c.in-Some.node.now.contract) = search rules in
+    elim c.verify_contract.ensures.machine [
+      | inl same ↦ inl same
+      | inr has ↦ inr (c.in-Some.node.now, MatchOption-at_some _ _ c.in-Some.node c.in-Some.is c.node_named.ensures, some, has)
+    ]

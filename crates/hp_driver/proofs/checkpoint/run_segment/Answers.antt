@@ -42,7 +42,7 @@ returns-in-Ok g c = λ words w.
     record {
       outcome = (ran.0, ran.1, ran.2, ran.3, ran.4, segment_call words files files_after file node from out w ran.0 ran.1 status run);
       leaves = segment_leaves words files files_after file node from out w ran.0 ran.1 status run;
-      readings = segment_read words file node from out w (g.F.Folder.reads c.args.files.now).gave (g.F.Folder.reads c.read.new.self).gave (g.F.Folder.reads c.run_text.new.files).gave gave.0 c.run_text.ensures.gave;
+      readings = segment_read words files file node from out w (g.F.Folder.reads c.args.files.now).gave (g.F.Folder.reads c.read.new.self).gave (g.F.Folder.reads c.run_text.new.files).gave gave.0 c.run_text.ensures.gave;
       reads = (
         λ h. elim (c.run_text.ensures.reads.0 h) [
           | inl f ↦ inl (read_rose_before words before between after gave.1 (segment_read_rose words file node from out w between after f.0), f.1)
@@ -73,7 +73,7 @@ returns-in-Err-Failed g c = λ words w.
         unread_source words (g.F.Folder.files c.args.files.now) (g.F.Folder.files c.read.new.self) s.file.now s.node.now (option_copied s.from) s.out.now w c.read.ensures.files,
       );
       leaves = Leaves.as_they_were c.read.ensures.files (λ out asked h. omega (arith, h));
-      readings = read_nothing words (g.F.Folder.reads c.args.files.now).gave (g.F.Folder.reads c.read.new.self).gave failed.0;
+      readings = read_nothing words (g.F.Folder.files c.args.files.now) (g.F.Folder.reads c.args.files.now).gave (g.F.Folder.reads c.read.new.self).gave failed.0;
       reads = (λ h. inl (record { file = s.file.now; asked = IsOver.a_segment w; rose = failed.1 }, Same-refl (g.C.Console.take_faults c.args.console.now)), search rules);
       writes = (search rules, search rules);
     }
@@ -90,7 +90,7 @@ returns-in-Err-TooLong g c = λ words w.
     record {
       outcome = ([], told.0, Grows-nil (g.C.Console.events c.args.console.now), heard_nothing (g.C.Console.left c.args.console.now), told.1, told.2);
       leaves = Leaves.as_they_were c.read.ensures.files (λ out asked. not_done_or_not took took_after (too_long_line Size) status c.report_too_long.ensures.reports);
-      readings = read_nothing words (g.F.Folder.reads c.args.files.now).gave (g.F.Folder.reads c.read.new.self).gave (search rules);
+      readings = read_nothing words (g.F.Folder.files c.args.files.now) (g.F.Folder.reads c.args.files.now).gave (g.F.Folder.reads c.read.new.self).gave (search rules);
       reads = (search rules, search rules);
       writes = (search rules, search rules);
     }
@@ -100,7 +100,7 @@ returns g c = λ words w.
     record {
       outcome = ([], [], Grows-nil (g.C.Console.events c.args.console.now), heard_nothing (g.C.Console.left c.args.console.now), Grows-nil (g.E.Sink.took c.args.diag.now), CallOutcome.no_memory);
       leaves = Leaves.as_they_were c.read.ensures.files (λ out asked h. omega (arith, h));
-      readings = read_nothing words (g.F.Folder.reads c.args.files.now).gave (g.F.Folder.reads c.read.new.self).gave (search rules);
+      readings = read_nothing words (g.F.Folder.files c.args.files.now) (g.F.Folder.reads c.args.files.now).gave (g.F.Folder.reads c.read.new.self).gave (search rules);
       reads = (search rules, search rules);
       writes = (search rules, search rules);
     }

@@ -32,7 +32,7 @@ returns-in_default-found g c =
     record {
       outcome = ([], told.0, Grows-nil (g.C.Console.events c.args.console.now), heard_nothing (g.C.Console.left c.args.console.now), told.1, CallOutcome.command c.requires.segment told.2);
       leaves = no_command_leaves (map string_bytes c.args.words.now) (g.F.Folder.files c.args.files.now) (code_of c.report.result) (MatchOption-at_none _ _ c.in_default-found.is c.in-Ok.ensures);
-      readings = read_none words (g.F.Folder.reads c.args.files.now).gave;
+      readings = read_none words (g.F.Folder.files c.args.files.now) (g.F.Folder.reads c.args.files.now).gave;
       reads = (search rules, search rules);
       writes = (search rules, search rules);
     }
@@ -53,7 +53,7 @@ returns-in-Err-Failed g c =
         CallOutcome.command c.requires.segment (Outcome.unread (first_of (map string_bytes c.args.words.now) c.in-Some.command (MatchOption-at_some _ _ c.in-Some.command c.in-Some.is c.in-Ok.ensures))),
       );
       leaves = Leaves.as_they_were c.read.ensures.files (λ out w h. omega (arith, h));
-      readings = read_nothing words (g.F.Folder.reads c.args.files.now).gave (g.F.Folder.reads c.read.new.self).gave failed.0;
+      readings = read_nothing words (g.F.Folder.files c.args.files.now) (g.F.Folder.reads c.args.files.now).gave (g.F.Folder.reads c.read.new.self).gave failed.0;
       reads = (
         λ h. inl (
           record { file = file_of command; asked = over_of words command (MatchOption-at_some _ _ command c.in-Some.is c.in-Ok.ensures); rose = failed.1 },
@@ -77,7 +77,7 @@ returns-in-Err-TooLong g c =
       outcome = ([], told.0, Grows-nil (g.C.Console.events c.args.console.now), heard_nothing (g.C.Console.left c.args.console.now), told.1, CallOutcome.command c.requires.segment told.2);
       leaves = Leaves.as_they_were c.read.ensures.files (λ out w. not_done_or_not (g.E.Sink.took c.args.diag.now) (g.E.Sink.took c.report_too_long.new.diag)
           (too_long_line (limit_of c.in-Some.command)) (code_of c.report_too_long.result) (search rules));
-      readings = read_nothing words (g.F.Folder.reads c.args.files.now).gave (g.F.Folder.reads c.read.new.self).gave (search rules);
+      readings = read_nothing words (g.F.Folder.files c.args.files.now) (g.F.Folder.reads c.args.files.now).gave (g.F.Folder.reads c.read.new.self).gave (search rules);
       reads = (search rules, search rules);
       writes = (search rules, search rules);
     }
@@ -88,7 +88,7 @@ returns g c =
     record {
       outcome = ([], [], Grows-nil (g.C.Console.events c.args.console.now), heard_nothing (g.C.Console.left c.args.console.now), Grows-nil (g.E.Sink.took c.args.diag.now), CallOutcome.no_memory);
       leaves = Leaves.as_they_were c.read.ensures.files (λ out w h. omega (arith, h));
-      readings = read_nothing words (g.F.Folder.reads c.args.files.now).gave (g.F.Folder.reads c.read.new.self).gave (search rules);
+      readings = read_nothing words (g.F.Folder.files c.args.files.now) (g.F.Folder.reads c.args.files.now).gave (g.F.Folder.reads c.read.new.self).gave (search rules);
       reads = (search rules, search rules);
       writes = (search rules, search rules);
     }
@@ -120,7 +120,7 @@ returns-in-Ok-read g c =
         CallOutcome.command c.requires.segment (subst (λ z. Outcome words z ran.0 ran.1 (code_of c.run_text.result)) same (ran.5 words asked (subst (λ z. Gives z (file_of command) text) (sym same) gives))),
       );
       leaves = search rules;
-      readings = read_on words command (g.F.Folder.reads c.args.files.now).gave (g.F.Folder.reads c.read.new.self).gave (g.F.Folder.reads c.run_text.new.files).gave asked gave.0 c.run_text.ensures.readings;
+      readings = read_on words files text command (g.F.Folder.reads c.args.files.now).gave (g.F.Folder.reads c.read.new.self).gave (g.F.Folder.reads c.run_text.new.files).gave asked gives gave.0 c.run_text.ensures.readings;
       reads = (
         λ h. elim (c.run_text.ensures.reads.0 h) [
           | inl f ↦ inl (read_rose_before words before between after same_reads (f.0 words asked), f.1)

@@ -25,7 +25,7 @@ returns-in-Some g c =
     record {
       outcome = (ran.0, ran.1, ran.2, ran.3, ran.4, CallOutcome.command c.requires (ran.5 words files w));
       leaves = sweep_leaves words sweep.tasks sweep.instants files status w;
-      readings = read_none words (g.F.Folder.reads c.args.files.now).gave;
+      readings = read_none words (g.F.Folder.files c.args.files.now) (g.F.Folder.reads c.args.files.now).gave;
       reads = (λ h. absurd (c.run_sweep.ensures.status h), λ h. (AllSame-refl (g.F.Folder.reads c.args.files.now).faults, c.run_sweep.ensures.takes));
       writes = (
         λ h. inr (AllSame-refl (g.F.Folder.write_faults c.args.files.now), faults.0 h),

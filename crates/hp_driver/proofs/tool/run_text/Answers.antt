@@ -8,6 +8,7 @@ use Rattle.hp_driver.specs.Readings.{ReadsOn}
 use Rattle.hp_driver.specs.declared.words.Command.{Command}
 use Rattle.hp_driver.proofs.MachineLaws.{exec_leaves, verify_leaves, write_rose, past_rose, prove_rose, verify_rose}
 use Rattle.hp_driver.proofs.RanLaws.{heard_nothing}
+use Rattle.hp_driver.proofs.ReadingLaws.{both_read}
 use Rattle.hp_driver.specs.Status.{code_of}
 use Rattle.hp_driver.proofs.tool.run_text.Goals as goal
 
@@ -62,7 +63,7 @@ returns-in-Past-clause-writes g c =
 
 pub returns-in-Past-clause-readings : goal.returns-in-Past-clause-readings
 returns-in-Past-clause-readings g c =
-    subst (λ (command : Command). ReadsOn command (g.F.Folder.reads c.args.files.now).gave (g.F.Folder.reads c.run_past.new.files).gave) (sym c.in-Past.is) c.run_past.ensures.reads.0
+    subst (λ (command : Command). ReadsOn command c.args.text.now (g.F.Folder.reads c.args.files.now).gave (g.F.Folder.reads c.run_past.new.files).gave) (sym c.in-Past.is) c.run_past.ensures.reads.0
 
 pub returns-in-Prove-clause-outcome : goal.returns-in-Prove-clause-outcome
 returns-in-Prove-clause-outcome g c =
@@ -130,16 +131,16 @@ returns-in-Verify-clause-reads g c =
 
 pub returns-in-Source-clause-readings : goal.returns-in-Source-clause-readings
 returns-in-Source-clause-readings g c =
-    subst (λ (command : Command). ReadsOn command (g.F.Folder.reads c.args.files.now).gave (g.F.Folder.reads c.run_source.new.files).gave) (sym c.in-Source.is) c.run_source.ensures.reads.0
+    subst (λ (command : Command). ReadsOn command c.args.text.now (g.F.Folder.reads c.args.files.now).gave (g.F.Folder.reads c.run_source.new.files).gave) (sym c.in-Source.is) c.run_source.ensures.reads.0
 
 pub returns-in-Exec-clause-readings : goal.returns-in-Exec-clause-readings
 returns-in-Exec-clause-readings g c =
-    subst (λ (command : Command). ReadsOn command (g.F.Folder.reads c.args.files.now).gave (g.F.Folder.reads c.args.files.now).gave) (sym c.in-Exec.is) refl
+    subst (λ (command : Command). ReadsOn command c.args.text.now (g.F.Folder.reads c.args.files.now).gave (g.F.Folder.reads c.args.files.now).gave) (sym c.in-Exec.is) refl
 
 pub returns-in-Prove-clause-readings : goal.returns-in-Prove-clause-readings
 returns-in-Prove-clause-readings g c =
-    subst (λ (command : Command). ReadsOn command (g.F.Folder.reads c.args.files.now).gave (g.F.Folder.reads c.run_prove.new.files).gave) (sym c.in-Prove.is) c.run_prove.ensures.reads.0
+    subst (λ (command : Command). ReadsOn command c.args.text.now (g.F.Folder.reads c.args.files.now).gave (g.F.Folder.reads c.run_prove.new.files).gave) (sym c.in-Prove.is) c.run_prove.ensures.reads.0
 
 pub returns-in-Verify-clause-readings : goal.returns-in-Verify-clause-readings
 returns-in-Verify-clause-readings g c =
-    subst (λ (command : Command). ReadsOn command (g.F.Folder.reads c.args.files.now).gave (g.F.Folder.reads c.run_verify.new.files).gave) (sym c.in-Verify.is) c.run_verify.ensures.reads.1
+    subst (λ (command : Command). ReadsOn command c.args.text.now (g.F.Folder.reads c.args.files.now).gave (g.F.Folder.reads c.run_verify.new.files).gave) (sym c.in-Verify.is) (both_read c.run_verify.ensures.reads.1 c.run_verify.ensures.machine)
