@@ -49,7 +49,7 @@ use Rattle.hp_driver.specs.Status.{code_of}
 use Rattle.hp_driver.specs.Systems.{System, inputs_of, of_machine, Gives}
 use Rattle.hp_driver.specs.Values.{first_bad, inputs_until}
 use Rattle.hp_driver.specs.WrittenText.{WritesText}
-use Rattle.hp_driver.specs.Written.{CompiledLaw, WrittenLaw}
+use Rattle.hp_driver.specs.Written.{WrittenLaw}
 use Rattle.hp_driver.specs.declared.status.Status.{Status}
 use Rattle.hp_driver.specs.declared.status.Status.TheVariants.{NoMemory, ReadFailed}
 use Rattle.hp_driver.specs.declared.trace_limits.BadLine.{BadLine}
@@ -423,11 +423,11 @@ answered s log line status (Traced.bad_line bad step answer fault) e = absurd (o
 answered s log line status (Traced.take_failed step answer good) e = absurd (omega (arith, e))
 answered s log line status (Traced.put_failed rest step answer) e = absurd (omega (arith, e))
 
-module _ (law : CompiledLaw) (files : Files) (file node : List ℕ) (o : Obc) where
+module _ (files : Files) (file node : List ℕ) (o : Obc) where
   -- what is run, and the program
   runs_by : (s : System) → AreRun (Some files) file node o s → (m : Machine) → machine_named o.machines node ≡ Some m → (p : Program files file) × Runs p o node s
   runs_by s (AreRun.of_program compiled) m named =
-      (program_of files file compiled.program compiled.held, Runs.the_node compiled.uncontrolled compiled.kept.safe (law (Some files) file o compiled node m named))
+      (program_of files file compiled.program compiled.held, Runs.the_node compiled.uncontrolled compiled.kept.safe (compiled.agree node m named))
   runs_by s (AreRun.that_choose n chosen some found is) m named =
       (program_of files file chosen.program chosen.held, Runs.the_machine some (choosing files file o chosen) (IsOwnOf.own n found is))
 
@@ -438,7 +438,7 @@ module _ (law : CompiledLaw) (files : Files) (file node : List ℕ) (o : Obc) wh
   starts_of from memory s (Begins.from_reset there) = let r = runs_of there in (r.0, Starts.anew r.1)
   starts_of from memory s (Begins.from_checkpoint there gives is) = let r = runs_of there in (r.0, Starts.again r.1 gives is)
 
-module _ (words : List (List ℕ)) (files : Files) (input : List ℕ) (law : WrittenLaw) (compiled : CompiledLaw) (file node : List ℕ) (from : Option (List ℕ)) (out : List ℕ) (asked : IsSegmentOf words file node from out) where
+module _ (words : List (List ℕ)) (files : Files) (input : List ℕ) (law : WrittenLaw) (file node : List ℕ) (from : Option (List ℕ)) (out : List ℕ) (asked : IsSegmentOf words file node from out) where
   asked_from : (mem : List ℕ) → from ≡ Some mem → IsSegmentOf words file node (Some mem) out
   asked_from mem e = subst (λ z. IsSegmentOf words file node z out) e asked
 
@@ -447,7 +447,7 @@ module _ (words : List (List ℕ)) (files : Files) (input : List ℕ) (law : Wri
       status ≢ 0 → status ≢ 4 → status ≢ 5 → Ends words files input (said log) line files status
   trace_stopped o memory s log line status begins (Traced.done step end answer good) h d e f = absurd (d refl)
   trace_stopped o memory s log line status begins (Traced.bad_line bad step answer fault) h d e f =
-      let start = starts_of compiled files file node o from memory s begins in Ends.stopped start.0 asked start.1 (broken_trace input log h s bad answer fault)
+      let start = starts_of files file node o from memory s begins in Ends.stopped start.0 asked start.1 (broken_trace input log h s bad answer fault)
   trace_stopped o memory s log line status begins (Traced.take_failed step answer good) h d e f = absurd (e refl)
   trace_stopped o memory s log line status begins (Traced.put_failed rest step answer) h d e f = absurd (f refl)
 
@@ -460,7 +460,7 @@ module _ (words : List (List ℕ)) (files : Files) (input : List ℕ) (law : Wri
   stops log line status (Stops.unread_checkpoint k there) h d e f g = absurd (e refl)
   stops log line status (Stops.long_checkpoint {mem = m} k there long) h d e f g = Ends.long_checkpoint (asked_from m k) long
   stops log line status (Stops.checkpoint_refused {mem = m} {o = o} text cause k there gives refuses) h d e f g =
-      let r = runs_of compiled files file node o there in Ends.checkpoint_refused cause r.0 (asked_from m k) r.1 gives refuses
+      let r = runs_of files file node o there in Ends.checkpoint_refused cause r.0 (asked_from m k) r.1 gives refuses
   stops log line status (Stops.traced {o = o} {memory = memory} {s = s} begins traced) h d e f g = trace_stopped o memory s log line status begins traced h d e f
   stops log line status (Stops.line_failed told b rest r) h d e f g = absurd (f refl)
 
@@ -468,7 +468,7 @@ module _ (words : List (List ℕ)) (files : Files) (input : List ℕ) (law : Wri
   saves : (o : Obc) (memory : Memory) (s : System) (log : List Event) (text : List ℕ) → Begins (Some files) file node o from memory s → IsAnswered s log → IsHeard input log →
       IsCheckpointOf o node (memory_after o node memory log) text → Ends words files input (said log) [] (finmap.insert files out text) 0
   saves o memory s log text begins a h is =
-      let start = starts_of compiled files file node o from memory s begins in
+      let start = starts_of files file node o from memory s begins in
       Ends.saved start.0 asked start.1 (whole_trace input log h s a.end a.answer a.good)
       (subst (λ z. IsCheckpointOf o node (memory_past o node memory (lines_of true z)) text) (all_heard input log h a.end) is)
 
@@ -481,13 +481,13 @@ module _ (words : List (List ℕ)) (files : Files) (input : List ℕ) (law : Wri
       subst (λ y. Ends words files input (said log) [] y 0) (sym (some_same left z same)) (saves o memory s log text begins (answered s log [] 0 traced refl) h is)
   segment_ended left log line status (SegmentRun.written begins traced is (WritesText.part why b c)) h e f g = absurd (elim why [ inl k ↦ f k | inr k ↦ g k ])
 
-module _ (words : List (List ℕ)) (files left : Files) (input : List ℕ) (law : WrittenLaw) (compiled : CompiledLaw) where
+module _ (words : List (List ℕ)) (files left : Files) (input : List ℕ) (law : WrittenLaw) where
   -- the call ends so, where it is not for want of memory
   call_ended : (log : List Event) (line : List ℕ) (status : ℕ) → IsHeard input log → CallOutcome words (Some files) (Some left) log line status → Leaves words (Some files) (Some left) status →
       status ≢ 4 → status ≢ 5 → status ≢ 6 → Ends words files input (said log) line left status
   call_ended log line status h CallOutcome.no_memory leaves e f g = absurd (g refl)
   call_ended log line status h (CallOutcome.command none o) leaves e f g = Ends.does (ended words files left input law none log line status o h leaves e f g)
-  call_ended log line status h (CallOutcome.segment s) leaves e f g = segment_ended words files input law compiled s.file s.node s.from s.out s.asked left log line status s.ran h e f g
+  call_ended log line status h (CallOutcome.segment s) leaves e f g = segment_ended words files input law s.file s.node s.from s.out s.asked left log line status s.ran h e f g
 
   -- the numbers of a status that is told
   told_status : (log : List Event) (line : List ℕ) (status : ℕ) → IsHeard input log → CallOutcome words (Some files) (Some left) log line status → Leaves words (Some files) (Some left) status →
@@ -508,28 +508,28 @@ same_said (Said b ∷ log) = ap (λ z. b ∷ z) (same_said log)
 
 module _ (words : List (List ℕ)) (files left : Files) (input : List ℕ) where
   -- a call in which no call of the outside failed
-  in_memory : WrittenLaw → CompiledLaw → (events : List Event) (rest took : List ℕ) (status : ℕ) → Happened (Some []) (Some events) (Some input) (Some rest) (Some []) (Some took) (λ log line. CallOutcome words (Some files) (Some left) log line status) →
+  in_memory : WrittenLaw → (events : List Event) (rest took : List ℕ) (status : ℕ) → Happened (Some []) (Some events) (Some input) (Some rest) (Some []) (Some took) (λ log line. CallOutcome words (Some files) (Some left) log line status) →
       Leaves words (Some files) (Some left) status → status ≢ 4 → status ≢ 5 → Ends words files input (said_bytes events) took left status
-  in_memory law compiled events rest took status o leaves e f =
+  in_memory law events rest took status o leaves e f =
       let log = o.0 in
       let line = o.1 in
       let events_are : events ≡ log = some_same events log o.2 in
       let took_is : took ≡ line = some_same took line o.4 in
       let h : IsHeard input log = record { rest = rest; are = some_same input (heard log ++ rest) o.3.0; end = o.3.1 } in
       subst (λ z. Ends words files input z took left status) (sym (ap said_bytes events_are ∙ same_said log))
-      (subst (λ z. Ends words files input (said log) z left status) (sym took_is) (told_status words files left input law compiled log line status h o.5 leaves e f))
+      (subst (λ z. Ends words files input (said log) z left status) (sym took_is) (told_status words files left input law log line status h o.5 leaves e f))
 
   -- what is answered then: what the objects took that were new
-  pub told_answer : WrittenLaw → CompiledLaw → (none events : List Event) (given rest nothing took : List ℕ) (status : ℕ) → none ≡ [] → given ≡ input → nothing ≡ [] →
+  pub told_answer : WrittenLaw → (none events : List Event) (given rest nothing took : List ℕ) (status : ℕ) → none ≡ [] → given ≡ input → nothing ≡ [] →
       Happened (Some none) (Some events) (Some given) (Some rest) (Some nothing) (Some took) (λ log line. CallOutcome words (Some files) (Some left) log line status) →
       Leaves words (Some files) (Some left) status → status ≢ 4 → status ≢ 5 → (bytes line : List ℕ) (number : ℕ) → bytes ≡ said_bytes events → line ≡ took → number ≡ status →
       Ends words files input bytes line left number
-  told_answer law compiled none events given rest nothing took status p q r o leaves e f bytes line number u v w =
+  told_answer law none events given rest nothing took status p q r o leaves e f bytes line number u v w =
       let done = λ (a : List Event) (b c : List ℕ). Happened (Some a) (Some events) (Some b) (Some rest) (Some c) (Some took) (λ log told. CallOutcome words (Some files) (Some left) log told status) in
       let new : done [] input [] = subst (λ a. done a input []) p (subst (λ b. done none b []) q (subst (λ c. done none given c) r o)) in
       subst (λ z. Ends words files input z line left number) (sym u)
       (subst (λ z. Ends words files input (said_bytes events) z left number) (sym v)
-      (subst (λ z. Ends words files input (said_bytes events) took left z) (sym w) (in_memory law compiled events rest took status new leaves e f)))
+      (subst (λ z. Ends words files input (said_bytes events) took left z) (sym w) (in_memory law events rest took status new leaves e f)))
 
   -- what is answered where a read or a take failed
   pub unread_answer : (status : ℕ) → status ≡ 4 → Leaves words (Some files) (Some left) status → (why : Status) → (why ≡ NoMemory) ⊎ ((why ≡ ReadFailed) × LacksFile words left) →

@@ -20,7 +20,9 @@ use Rattle.hp_compile.specs.Judged.{IsJudged}
 use Rattle.hp_meaning.specs.Causal.Runs.{NoControls}
 use Rattle.law_wellmade.specs.Timely.Kinds.{kinds_of_decls}
 use Rattle.law_history.specs.Streams.Texts.{IsAccepted, RunsNode, TextLaw, BuiltLaw, WithinLaw}
+use Rattle.hp_machines.specs.Machined.{AreMachinesOf}
 use Rattle.hp_machines.specs.NotBuilt.{HasNoMachines}
+use Rattle.law_decided.specs.Outcomes.{AreKeptInGames}
 use Rattle.law_decided.specs.Promised.{KeepsContracts, RunLaw}
 use Rattle.hp_exec.specs.Bounds.{longest_chain, instance_count}
 use Rattle.hp_driver.specs.Answers.{IsAnswer}
@@ -81,19 +83,23 @@ stays_within law files file o compiled node =
 
 -- ---- the machine of a node
 
+pub runs_held : TextLaw → (files : Option Files) (file : List ℕ) (program : List Item) (held : IsHeld files file program) → has_controls program ≡ false → (o : Obc) → AreMachinesOf held.clocked o
+    → (node : List ℕ) (m : Machine) → machine_named o.machines node ≡ Some m → RunsNode held.clocked o node m
+runs_held law files file program held none o machines node m named =
+    law held.text held.judged.program_of.tokens program held.clocked held.ranks o (accepted_program files file program held none) machines node m named
+
 pub runs_node : TextLaw → (files : Option Files) (file : List ℕ) (o : Obc) (compiled : AreCompiled files file o) → (node : List ℕ) (m : Machine) → machine_named o.machines node ≡ Some m → RunsNode compiled.held.clocked o node m
-runs_node text_law files file o compiled node m named =
-    let held = compiled.held in
-    text_law held.text held.judged.program_of.tokens compiled.program held.clocked held.ranks o (accepted_program files file compiled.program held compiled.uncontrolled) compiled.machines node m named
+runs_node law files file o compiled = runs_held law files file compiled.program compiled.held compiled.uncontrolled o compiled.machines
 
 -- runs of a node keep contracts
 abbrev pub Keeping : List Item → List ℕ → Type 0
 Keeping program node = (inputs outputs : List (List Value)) → IsRun program node inputs outputs → KeepsContracts program node inputs
 
+pub keeping_held : RunLaw → (files : Option Files) (file : List ℕ) (program : List Item) (held : IsHeld files file program) → has_controls program ≡ false → AreKeptInGames held.clocked → (node : List ℕ) → Keeping held.clocked node
+keeping_held law files file program held none kept node = law held.text held.judged.program_of.tokens program held.clocked held.ranks (accepted_program files file program held none) kept node
+
 pub keeping : RunLaw → (files : Option Files) (file : List ℕ) (o : Obc) (compiled : AreCompiled files file o) → (node : List ℕ) → Keeping compiled.held.clocked node
-keeping law files file o compiled node =
-    let held = compiled.held in
-    law held.text held.judged.program_of.tokens compiled.program held.clocked held.ranks (accepted_program files file compiled.program held compiled.uncontrolled) compiled.kept node
+keeping law files file o compiled = keeping_held law files file compiled.program compiled.held compiled.uncontrolled compiled.kept
 
 module _ (program : List Item) (o : Obc) (node : List ℕ) (m : Machine) (named : machine_named o.machines node ≡ Some m) (r : RunsNode program o node m) where
   pub inputs_same : inputs_of (of_machine o node) ≡ inputs_of (of_node program node)

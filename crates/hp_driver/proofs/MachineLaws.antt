@@ -46,6 +46,7 @@ use Rattle.hp_driver.proofs.NamedLaws.{no_node_named}
 use Rattle.hp_driver.proofs.OutcomeLaws.{told_or_not, Mirrors, outcome}
 use Rattle.hp_driver.proofs.WordLaws.{run_writes, exec_writes, check_writes, verify_writes, tell_writes, sweep_writes}
 use Rattle.hp_driver.proofs.HistoryLaws.{keeping, runs_node, stays_within, node_mirrors}
+use Rattle.hp_driver.proofs.WrittenLaws.{agree_with_nodes}
 
 -- the types of a text of machines have form
 pub types_of_text : (text : List ℕ) (o : Obc) → IsTextOf text o → TypesForm o.types
@@ -135,21 +136,22 @@ pub wrote_machines : (o : Obc) (out text : List ℕ) (before after : Option File
 wrote_machines o out text before after status printed (WritesText.whole all) = WritesMachines.whole printed all
 wrote_machines o out text before after status printed (WritesText.part why others this) = WritesMachines.part why printed others this
 
-module _ (ordered : List Item) (o : Obc) (m : AreMachinesOf ordered o) where
-  abbrev compiled_of : (files : Option Files) (file : List ℕ) (program : List Item) (held : IsHeld files file program) → held.clocked ≡ ordered → has_controls program ≡ false → AreKeptInGames held.clocked → AreCompiled files file o
+module _ (law : TextLaw) (run_law : RunLaw) (ordered : List Item) (o : Obc) (m : AreMachinesOf ordered o) where
+  abbrev pub compiled_of : (files : Option Files) (file : List ℕ) (program : List Item) (held : IsHeld files file program) → held.clocked ≡ ordered → has_controls program ≡ false → AreKeptInGames held.clocked → AreCompiled files file o
   compiled_of files file program held e none kept =
-      record { program = program; held = held; uncontrolled = none; kept = kept; machines = subst (λ (z : List Item). AreMachinesOf z o) (sym e) m }
+      let machines : AreMachinesOf held.clocked o = subst (λ (z : List Item). AreMachinesOf z o) (sym e) m in
+      record { program = program; held = held; uncontrolled = none; kept = kept; agree = agree_with_nodes law run_law files file program held none kept o machines; machines = machines }
 
   -- one is run
   pub of_program : (node : List ℕ) (log : List Event) (line : List ℕ) (status : ℕ) → MachinesOutcome o node log line status → OrderedRun node ordered log line status
   of_program node log line status f words files file program held e none kept w = f words files (AreAskedFor.of_program w (compiled_of files file program held e none kept))
 
 -- they are written, alone or among those of contracts
-module _ (ordered : List Item) (o own : Obc) (m : AreMachinesOf ordered own) (others : (o ≡ own) ⊎ AreWithContracts ordered own o) where
+module _ (law : TextLaw) (run_law : RunLaw) (ordered : List Item) (o own : Obc) (m : AreMachinesOf ordered own) (others : (o ≡ own) ⊎ AreWithContracts ordered own o) where
   abbrev written_of : (files : Option Files) (file : List ℕ) (program : List Item) (held : IsHeld files file program) → held.clocked ≡ ordered → has_controls program ≡ false → AreKeptInGames held.clocked → AreWritten files file o
   written_of files file program held e none kept = record {
     own = own;
-    compiled = compiled_of ordered own m files file program held e none kept;
+    compiled = compiled_of law run_law ordered own m files file program held e none kept;
     others = subst (λ (z : List Item). (o ≡ own) ⊎ AreWithContracts z own o) (sym e) others;
   }
 

@@ -12,6 +12,8 @@ use Rattle.hp_tree.specs.declared.program.Item.{Item}
 use Rattle.hp_verdicts.specs.Decided.{AreKept}
 use Rattle.law_controlled.specs.Said.{GreatestSaidLaw}
 use Rattle.law_decided.specs.Outcomes.{OutcomesLaw}
+use Rattle.law_decided.specs.Promised.{RunLaw}
+use Rattle.law_history.specs.Streams.Texts.{TextLaw}
 use Rattle.hp_driver.specs.Controls.{has_controls}
 use Rattle.hp_driver.specs.Outcome.{IsOnly}
 use Rattle.hp_driver.specs.Restoring.{Ends, RunDecided, RunProgram, RunText}
@@ -22,6 +24,7 @@ use Rattle.hp_driver.specs.declared.runnable.Runnable.{Runnable}
 use Rattle.hp_driver.specs.declared.status.Status.{Status}
 use Rattle.hp_driver.proofs.ChoosingLaws.{chosen_of}
 use Rattle.hp_driver.proofs.ContractLaws.{in_games}
+use Rattle.hp_driver.proofs.MachineLaws.{compiled_of}
 
 -- what is known of the line and the status where it ends
 pub ends_map : {X : Type 0} (P Q : List ℕ → ℕ → Type 0) → ((line : List ℕ) (status : ℕ) → P line status → Q line status) → (r : Result X Status) (line : List ℕ) → Ends P r line → Ends Q r line
@@ -47,17 +50,11 @@ module _ (law : OutcomesLaw) (program ordered : List Item) (kept : AreKept order
   all_choosing said some (Ok x) machines found = choosing_are said some x.machines machines found
   all_choosing said some (Err s) machines found = tt
 
+module _ (law : OutcomesLaw) (text_law : TextLaw) (run_law : RunLaw) (program ordered : List Item) (kept : AreKept ordered ordered) (node : List ℕ) where
   plain_are : has_controls program ≡ false → (o : Obc) → AreMachinesOf ordered o → RunDecided node program ordered o
   plain_are none o machines files file held same = (
     of_node held.clocked node,
-    AreRun.of_program
-        (record {
-          program = program;
-          held = held;
-          uncontrolled = none;
-          kept = in_games law program ordered kept files file held same;
-          machines = subst (λ (z : List Item). AreMachinesOf z o) (sym same) machines;
-        }),
+    AreRun.of_program (compiled_of text_law run_law ordered o machines files file program held same none (in_games law program ordered kept files file held same)),
   )
 
   pub all_plain : has_controls program ≡ false → (r : Result Runnable Status) → IfOk r (λ x. AreMachinesOf ordered x.machines) → IfOk r (λ x. RunDecided node program ordered x.machines)

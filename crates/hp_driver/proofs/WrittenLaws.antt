@@ -8,6 +8,7 @@ use Rattle.hp_lines.specs.Lines.{line_of}
 use Rattle.hp_io.specs.Files.{Files}
 use Rattle.hp_controlled.specs.Among.{FormLaw, call_earlier}
 use Rattle.hp_controlled.specs.Joining.{AreWithContracts, SameLaw}
+use Rattle.hp_machines.specs.Machined.{AreMachinesOf}
 use Rattle.hp_machines.specs.Making.{AreMade}
 use Rattle.hp_machines.specs.NotBuilt.{HasNoMachines}
 use Rattle.hp_obc.specs.Form.{HasObcForm, machine_named}
@@ -18,13 +19,16 @@ use Rattle.hp_obctext.proofs.Answering.{same_machines}
 use Rattle.hp_tree.specs.Reaction.{IsRun}
 use Rattle.hp_tree.specs.declared.program.Item.{Item}
 use Rattle.law_history.specs.Streams.Texts.{BuiltLaw, RunsNode, TextLaw}
+use Rattle.law_decided.specs.Outcomes.{AreKeptInGames}
 use Rattle.law_decided.specs.Promised.{RunLaw}
+use Rattle.hp_driver.specs.Agreeing.{AgreesWith, AgreeWithNodes}
 use Rattle.hp_driver.specs.Answers.{IsAnswer}
-use Rattle.hp_driver.specs.Outcome.{AreCompiled, AreWritten}
+use Rattle.hp_driver.specs.Controls.{has_controls}
+use Rattle.hp_driver.specs.Outcome.{AreCompiled, AreWritten, IsHeld}
 use Rattle.hp_driver.specs.Systems.{System, of_node, of_machine, inputs_of, outputs_of}
 use Rattle.hp_driver.specs.Values.{inputs_until, first_bad}
-use Rattle.hp_driver.specs.Written.{AgreesWith, CompiledLaw, WrittenLaw}
-use Rattle.hp_driver.proofs.HistoryLaws.{Keeping, accepted_program, keeping, runs_node, inputs_same, outputs_same, fitting, as_node}
+use Rattle.hp_driver.specs.Written.{WrittenLaw}
+use Rattle.hp_driver.proofs.HistoryLaws.{Keeping, accepted_program, keeping_held, runs_held, inputs_same, outputs_same, fitting, as_node}
 
 -- a node has one run
 one_run : (program : List Item) (f : List ℕ) (inputs first second : List (List Value)) → IsRun program f inputs first → IsRun program f inputs second → first ≡ second
@@ -48,6 +52,12 @@ module _ (program : List Item) (o : Obc) (node : List ℕ) (m : Machine) (named 
     refuses = λ lines. ap (λ ks. first_bad ks 1 lines) (inputs_same program o node m named r);
     answers = λ lines bytes. (as_node program o node m named r keeps lines bytes, as_machine lines bytes);
   }
+
+-- the machines of a program agree with its nodes
+pub agree_with_nodes : TextLaw → RunLaw → (files : Option Files) (file : List ℕ) (program : List Item) (held : IsHeld files file program) → has_controls program ≡ false → AreKeptInGames held.clocked → (o : Obc)
+    → AreMachinesOf held.clocked o → AgreeWithNodes held.clocked o
+agree_with_nodes law run_law files file program held none kept o machines node m named =
+    agrees held.clocked o node m named (runs_held law files file program held none o machines node m named) (keeping_held run_law files file program held none kept node)
 
 -- ---- a machine that does the same in two files
 
@@ -113,17 +123,12 @@ does_there built form_law same_law files file o written node m named = by writte
         let same = same_law written.compiled.held.clocked written.own o w (calls_own built form_law files file written.own written.compiled) node m named in
         record { types = w.types; named = same.0; does = same.1 }
 
-pub written_agrees : TextLaw → RunLaw → BuiltLaw → FormLaw → SameLaw → WrittenLaw
-written_agrees law run_law built form_law same_law files file o read text node m written printed stands named =
+pub written_agrees : BuiltLaw → FormLaw → SameLaw → WrittenLaw
+written_agrees built form_law same_law files file o read text node m written printed stands named =
     let same : read ≡ o = same_machines text stands.file_is read o stands.spelled stands.machines (printed.stands stands.within) in
     let own = written.own in
     let compiled = written.compiled in
     let there = does_there built form_law same_law files file o written node m named in
     let program = compiled.held.clocked in
-    let by_itself = agrees program own node m named (runs_node law files file own compiled node m named) (keeping run_law files file own compiled node) in
-    let among = agrees_too o own node there.types (there.named ∙ sym named) there.does (of_node program node) by_itself in
+    let among = agrees_too o own node there.types (there.named ∙ sym named) there.does (of_node program node) (compiled.agree node m named) in
     (ap (λ (z : Obc). machine_named z.machines node) same ∙ there.named, subst (λ z. AgreesWith (of_machine z node) (of_node program node)) (sym same) among)
-
-pub compiled_agrees : TextLaw → RunLaw → CompiledLaw
-compiled_agrees law run_law files file o compiled node m named =
-    agrees compiled.held.clocked o node m named (runs_node law files file o compiled node m named) (keeping run_law files file o compiled node)

@@ -28,13 +28,13 @@ use Rattle.hp_verdicts.specs.declared.error.ContractErr.{ContractErr}
 use Rattle.hp_verdicts.specs.declared.error.ContractErr.TheVariants as contract
 use Rattle.law_drawing.specs.Mirrors.Assumptions.{AssumesControl}
 use Rattle.law_drawing.specs.Mirrors.Limits.{IsOver as PassesLimit}
+use Rattle.hp_driver.specs.Agreeing.{AgreesWith}
 use Rattle.hp_driver.specs.Answers.{IsAnswer}
 use Rattle.hp_driver.specs.BadLines.{bad_line_line}
 use Rattle.hp_driver.specs.Command.{IsPastOf, IsExecOf, IsVerifyOf, IsOver, ReadsSource}
 use Rattle.hp_driver.specs.Controls.{has_controls}
 use Rattle.hp_driver.specs.Systems.{System, of_node, of_machine, that_tells, from_memory, inputs_of}
 use Rattle.hp_driver.specs.Values.{first_bad}
-use Rattle.hp_driver.specs.Written.{AgreesWith}
 use Rattle.hp_driver.specs.declared.trace_limits.BadLine.{BadLine}
 use Rattle.hp_obc.specs.Steps.{Memory, machine_behaviour}
 use Rattle.hp_controlled.specs.Chosen.{IsChosen, IsToldBy}

@@ -9,6 +9,7 @@ pub mod Reader
 pub mod NodeKinds
 pub mod Systems
 pub mod Answers
+pub mod Agreeing
 pub mod BadLines
 pub mod Command
 pub mod Commanded

@@ -11,6 +11,7 @@ use Rattle.hp_tree.specs.declared.program.Item.{Item}
 use Rattle.hp_driver.specs.Lines.{whole_lines, lines_of}
 use Rattle.hp_driver.specs.Log.{heard, said, has_ended}
 use Rattle.hp_driver.specs.Values.{first_bad}
+use Rattle.hp_driver.specs.Agreeing.{AgreeWithNodes}
 use Rattle.hp_driver.specs.Answers.{IsAnswer}
 use Rattle.hp_driver.specs.Systems.{System, of_node, of_machine, that_tells, inputs_of}
 use Rattle.hp_driver.specs.declared.telling.Ending.TheVariants as ending
@@ -80,12 +81,13 @@ pub record AreMachines (files : Option Files) (file : List ℕ) (o : Obc) : Type
   pub held : Gives files file text
   pub read : IsTextOf text o
 
--- the machines of the program that the file holds, which has no controllable variables, and of which each contract is kept
+-- the machines of the program that the file holds, which has no controllable variables, and of which each contract is kept: each does what its node does. Which machines do so, of the many that might, is told by `machines`: two calls over one text have the same, so each takes the checkpoints of the other
 pub record AreCompiled (files : Option Files) (file : List ℕ) (o : Obc) : Type 0 where
   pub program : List Item
   pub held : IsHeld files file program
   pub uncontrolled : has_controls program ≡ false
   pub kept : AreKeptInGames held.clocked
+  pub agree : AgreeWithNodes held.clocked o
   pub machines : AreMachinesOf held.clocked o
 
 -- the machines of such a program as they are written: those of its nodes alone, or between them those of its contracts too. That they are ever left out is not said here; no program has shown it

@@ -2,7 +2,7 @@
 ghost use Rattle.hp_driver.specs.GoodCalls.{PlainLaw, ProvedLaw};
 ghost use Rattle.hp_driver.specs.Joined.{ContinuedLaw, JoinedLaw, JoinedRunLaw, LeftLaw, OneMemoryLaw, ResumedLaw, TakenAgainLaw, TakenLaw};
 ghost use Rattle.hp_driver.specs.Mirrored.{MirrorLaw};
-ghost use Rattle.hp_driver.specs.Written.{CompiledLaw, WrittenLaw};
+ghost use Rattle.hp_driver.specs.Written.{WrittenLaw};
 
 use hp_controlled::{machines_do_the_same_among_others, own_machines_do_the_same};
 use hp_machines::programs_have_one_list_of_machines;
@@ -12,13 +12,10 @@ use law_decided::{machines_keep_contracts, machines_mirror_contracts};
 use law_history::streams::{machines_of_texts_are_built, machines_run_the_nodes_of_texts};
 use law_wellmade::lettered::names_are_spelled;
 
-/// `exec` says of the text that `compile` writes what `run` says of its program, also where machines of contracts stand in it. The machine of a node agrees with it, be its text written or not.
+/// `exec` says of the text that `compile` writes what `run` says of its program, also where machines of contracts stand in it.
 pub fn written_machines_agree_with_nodes()
-    ensures written { WrittenLaw }
-    ensures compiled { CompiledLaw }
+    ensures { WrittenLaw }
 {
-    machines_run_the_nodes_of_texts();
-    machines_keep_contracts();
     machines_of_texts_are_built();
     machines_do_the_same_among_others();
     own_machines_do_the_same();

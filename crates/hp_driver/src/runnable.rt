@@ -32,8 +32,8 @@ use hp_obc::Obc;
 use hp_tree::{Node, Program};
 use hp_verdicts::decide;
 use law_controlled::machines_of_texts_choose_the_greatest;
-use law_decided::outcomes_are_so;
-use law_history::streams::machines_of_texts_are_built;
+use law_decided::{machines_keep_contracts, outcomes_are_so};
+use law_history::streams::{machines_of_texts_are_built, machines_run_the_nodes_of_texts};
 use std::alloc::Global;
 
 /// A machine that is to be run, and the machines among which it stands.
@@ -58,8 +58,10 @@ fn plain_runnable<E: Sink>(
     ensures status { IfErr result (λ status. code_of status ≢ 4) }
     ensures faults { PutFaults (ending result) (E.faults diag.old) (E.faults diag.new) }
 {
-    // A law: nothing is in the way of the machines.
+    // Laws: nothing is in the way of the machines, and they do what the nodes do.
     machines_of_texts_are_built();
+    machines_run_the_nodes_of_texts();
+    machines_keep_contracts();
     let machines = match machines(alloc, ordered.program) {
         Ok(machines) => machines,
         Err(MachineErr::NotBuilt) => unreachable!(),
@@ -141,8 +143,10 @@ fn decided_runnable<E: Sink>(
     ensures status { IfErr result (λ status. code_of status ≢ 4) }
     ensures faults { PutFaults (ending result) (E.faults diag.old) (E.faults diag.new) }
 {
-    // Laws: what is found of contracts says so of their games, and each line that machines say is one that the program allows; where nothing is free but inputs, with the greatest permitted values.
+    // Laws: what is found of contracts says so of their games; machines do what nodes do; and each line that machines say which choose is one that the program allows, where nothing is free but inputs with the greatest permitted values.
     outcomes_are_so();
+    machines_run_the_nodes_of_texts();
+    machines_keep_contracts();
     machines_of_texts_choose_the_greatest();
     if let Err(error) = decide(alloc, &ordered.program) {
         return Err(report_contract(alloc, diag, &error));

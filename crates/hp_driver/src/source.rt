@@ -34,8 +34,8 @@ use hp_obctext::print_obc;
 use hp_print::print;
 use hp_tree::{Contract, Item, Program};
 use hp_verdicts::decide;
-use law_decided::outcomes_are_so;
-use law_history::streams::machines_of_texts_are_built;
+use law_decided::{machines_keep_contracts, outcomes_are_so};
+use law_history::streams::{machines_of_texts_are_built, machines_run_the_nodes_of_texts};
 use std::alloc::{AllocError, Global};
 
 const ACCEPTED: &[u8] = b"accepted\n";
@@ -182,8 +182,10 @@ fn run_ordered<N: Answers, C: Console, E: Sink>(
     ensures takes { TakeFaults (code_of result) (C.take_faults console.old) (C.take_faults console.new) }
     ensures puts { BothPutFaults (code_of result) (C.put_faults console.old) (C.put_faults console.new) (E.faults diag.old) (E.faults diag.new) }
 {
-    // A law: nothing is in the way of the machines.
+    // Laws: nothing is in the way of the machines, and they do what the nodes do.
     machines_of_texts_are_built();
+    machines_run_the_nodes_of_texts();
+    machines_keep_contracts();
     match machines(resources.alloc, ordered.program) {
         Ok(machines) => run_machines(resources, &machines, node, console, diag),
         Err(MachineErr::NotBuilt) => unreachable!(),
@@ -327,8 +329,10 @@ fn compile_plain<F: Folder, E: Sink>(
     ensures reads { NothingRead (F.reads files.old) (F.reads files.new) }
     ensures writes { WriteOrPutFaults out.now (code_of result) (F.write_faults files.old) (F.write_faults files.new) (E.faults diag.old) (E.faults diag.new) }
 {
-    // A law: nothing is in the way of the machines.
+    // Laws: nothing is in the way of the machines, and they do what the nodes do.
     machines_of_texts_are_built();
+    machines_run_the_nodes_of_texts();
+    machines_keep_contracts();
     match machines(alloc, ordered.program) {
         Ok(machines) => write_machines(alloc, &machines, out, files),
         Err(MachineErr::NotBuilt) => unreachable!(),
@@ -351,6 +355,9 @@ fn compile_contracts<F: Folder, E: Sink>(
     ensures reads { NothingRead (F.reads files.old) (F.reads files.new) }
     ensures writes { WriteOrPutFaults out.now (code_of result) (F.write_faults files.old) (F.write_faults files.new) (E.faults diag.old) (E.faults diag.new) }
 {
+    // Laws: the machines of nodes do what the nodes do.
+    machines_run_the_nodes_of_texts();
+    machines_keep_contracts();
     match machines_with_contracts(alloc, &ordered.program) {
         Ok(machines) => write_machines(alloc, &machines, out, files),
         Err(ControlledErr::NotBuilt) => compile_plain(alloc, ordered, out, files, diag),

@@ -38,7 +38,7 @@ pub returns-clause-are : goal.returns-clause-are
 returns-clause-are g c =
     let program = c.args.program.now in
     let none : has_controls program ≡ false = search rules in
-    all_plain c.outcomes_are_so.ensures program c.args.ordered.program c.in_default.ensures.kept c.args.node.now none c.plain_runnable.result c.plain_runnable.ensures.machines
+    all_plain c.outcomes_are_so.ensures c.machines_run_the_nodes_of_texts.ensures c.machines_keep_contracts.ensures.run program c.args.ordered.program c.in_default.ensures.kept c.args.node.now none c.plain_runnable.result c.plain_runnable.ensures.machines
 
 pub returns-clause-told : goal.returns-clause-told
 returns-clause-told g c =

@@ -16,4 +16,4 @@ returns-clause-told g c =
     let o = c.in-Ok.machines in
     let node = c.args.node.now in
     let told = c.report_machine.ensures.told in
-    (told.0, told.1, of_program c.args.ordered.program o c.in-Ok.ensures.machines node [] told.0 (code_of c.report_machine.result) (told.2 o c.in-Err.ensures))
+    (told.0, told.1, of_program c.machines_run_the_nodes_of_texts.ensures c.machines_keep_contracts.ensures.run c.args.ordered.program o c.in-Ok.ensures.machines node [] told.0 (code_of c.report_machine.result) (told.2 o c.in-Err.ensures))

@@ -7,11 +7,11 @@ use Rattle.hp_driver.proofs.source.compile_plain.Goals as goal
 
 pub returns-in-Ok-clause-outcome : goal.returns-in-Ok-clause-outcome
 returns-in-Ok-clause-outcome g c =
-    ([], Grows-nil (g.E.Sink.took c.args.diag.now), written c.args.ordered.program c.in-Ok.machines c.in-Ok.machines c.in-Ok.ensures.machines (inl refl) c.args.out.now (code_of c.write_machines.result) c.write_machines.ensures.status)
+    ([], Grows-nil (g.E.Sink.took c.args.diag.now), written c.machines_run_the_nodes_of_texts.ensures c.machines_keep_contracts.ensures.run c.args.ordered.program c.in-Ok.machines c.in-Ok.machines c.in-Ok.ensures.machines (inl refl) c.args.out.now (code_of c.write_machines.result) c.write_machines.ensures.status)
 
 pub returns-in-Ok-clause-leaves : goal.returns-in-Ok-clause-leaves
 returns-in-Ok-clause-leaves g c =
-    leaves c.args.ordered.program c.in-Ok.machines c.in-Ok.machines c.in-Ok.ensures.machines (inl refl) c.args.out.now (g.F.Folder.files c.args.files.now) (g.F.Folder.files c.write_machines.new.files) (code_of c.write_machines.result) c.write_machines.ensures.leaves
+    leaves c.machines_run_the_nodes_of_texts.ensures c.machines_keep_contracts.ensures.run c.args.ordered.program c.in-Ok.machines c.in-Ok.machines c.in-Ok.ensures.machines (inl refl) c.args.out.now (g.F.Folder.files c.args.files.now) (g.F.Folder.files c.write_machines.new.files) (code_of c.write_machines.result) c.write_machines.ensures.leaves
 
 pub unreachable-requires : goal.unreachable-requires
 unreachable-requires g c = is_built c.machines_of_texts_are_built.ensures c.args.ordered.program c.requires (c.in-Err-NotBuilt.ensures.not_built c.in-Err-NotBuilt.field-0-is)

@@ -14,7 +14,7 @@ returns-in-Ok-clause-outcome g c =
       ran.2,
       ran.3,
       ran.4,
-      of_program c.args.ordered.program c.in-Ok.machines c.in-Ok.ensures.machines c.args.node.now ran.0 ran.1 (code_of c.run_machines.result) ran.5,
+      of_program c.machines_run_the_nodes_of_texts.ensures c.machines_keep_contracts.ensures.run c.args.ordered.program c.in-Ok.machines c.in-Ok.ensures.machines c.args.node.now ran.0 ran.1 (code_of c.run_machines.result) ran.5,
     )
 
 pub unreachable-requires : goal.unreachable-requires

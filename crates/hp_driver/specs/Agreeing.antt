@@ -1,0 +1,17 @@
+-- That machines do what the nodes of a program do.
+use Rattle.std.specs.Prelude.{◌≡◌, ◌↔◌, ℕ, List, Some}
+use Rattle.hp_obc.specs.Form.{machine_named}
+use Rattle.hp_obc.specs.Machines.{Machine, Obc}
+use Rattle.hp_tree.specs.declared.program.Item.{Item}
+use Rattle.hp_driver.specs.Answers.{IsAnswer}
+use Rattle.hp_driver.specs.Systems.{System, of_node, of_machine, inputs_of}
+use Rattle.hp_driver.specs.Values.{first_bad}
+
+-- A machine and the node of its name refuse the same lines, and answer the same to lines.
+pub record AgreesWith (machine node : System) : Type 0 where
+  pub refuses : (lines : List (List ℕ)) → first_bad (inputs_of machine) 1 lines ≡ first_bad (inputs_of node) 1 lines
+  pub answers : (lines : List (List ℕ)) (bytes : List ℕ) → IsAnswer machine lines bytes ↔ IsAnswer node lines bytes
+
+-- each of these machines does what the node of its name does
+abbrev pub AgreeWithNodes : List Item → Obc → Type 0
+AgreeWithNodes program o = (node : List ℕ) (m : Machine) → machine_named o.machines node ≡ Some m → AgreesWith (of_machine o node) (of_node program node)
