@@ -12,9 +12,9 @@ def counter():
     return "node counter(up, again : bool) returns (n : int)\nlet reset n = (0 fby n) + (if up then 1 else 0) every again tel\n"
 
 
-def states():
+def states(count=STATES):
     """Goes from state to state while its input is true, and adds up the numbers of the states."""
-    bodies = "".join(f"    state S{k} do n = last n + {k} until up then S{(k + 1) % STATES}\n" for k in range(STATES))
+    bodies = "".join(f"    state S{k} do n = last n + {k} until up then S{(k + 1) % count}\n" for k in range(count))
     return f"node states(up : bool) returns (last n : int = 0)\nlet\n  automaton\n{bodies}  end\ntel\n"
 
 
@@ -56,7 +56,7 @@ def calls():
     return first + others
 
 
-PROGRAMS = {"counter": counter, "states": states, "nested": nested, "filtered": filtered, "calls": calls}
+PROGRAMS = {"counter": counter, "states": states, "states200": lambda: states(200), "nested": nested, "filtered": filtered, "calls": calls}
 
 
 def word(test):
@@ -66,6 +66,7 @@ def word(test):
 WORDS = {
     "counter": lambda k: f"{word(k % 3)} {word(k % 1000 == 999)}",
     "states": lambda k: word(k % 3),
+    "states200": lambda k: word(k % 3),
     "nested": lambda k: f"{word(k % 17 == 0)} {word(k % 5 == 0)}",
     "filtered": lambda k: f"{(k * 7919) % 20011 - 10000} {word(k % 4 == 0)}",
     "calls": lambda k: str((k * 7919) % 20011 - 10000),
