@@ -2,6 +2,7 @@
 """Tries the wrong bodies of docs/edits, which are too dear for the gate: the prover has to refuse each. Run it at the top of a clone, by hand.
 
     bench/edits/run.py [near] [LANES [CRATE ..]]      the edits of these crates, or of all, of so many crates at once (as many as there are processors)
+    bench/edits/run.py --write                        writes what refused each edit, as it was kept, into the list of docs/edits/README.md, and says how many it knows
 
 With `near` each edit is tried on the functions alone whose text it changes, which takes half a minute; where these are all proved, or it changes what stands in no function, on the whole crate.
 What refused an edit is kept in the machine's folder for temporary files, by the checksums of the edit, of the crate and of all libraries below it: a later run, in any clone, says it again and tries the others. The last line says how many were kept.
@@ -139,7 +140,33 @@ def tries(rt, crate, results, is_near):
     return found
 
 
+def shown(text):
+    """What refused an edit, for the list: what could not be proved any more, by its name."""
+    told = text.partition('refused, as it must be')[2]
+    if 'proof file names' in told:
+        return 'a proof file names a fact that is gone'
+    goal = re.search(r'`([^`]+)`', told)
+    return f'`{goal[1]}`' if goal else re.sub(r'^: (note: )?(\S+:\d+:\d+: )?', '', told)
+
+
+def write(results, crates):
+    """Writes what refused each edit into the list. A row whose edit was not tried over these files stays as it is."""
+    of_crate, lines, known = {crate.name: crate for crate in crates}, [], 0
+    for line in open(f'{EDITS}/README.md', encoding='utf-8'):
+        row = re.match(r'\| `((\w+)/\w+)` \| ([^|]*) \|', line)
+        text = row and row[2] in of_crate and results.of(of_crate[row[2]], f'{EDITS}/{row[1]}.edit')
+        if text:
+            known += 1
+            line = f'| `{row[1]}` | {row[3]} | {shown(text)} |\n'
+        lines.append(line)
+    with open(f'{EDITS}/README.md', 'w', encoding='utf-8') as file:
+        file.writelines(lines)
+    print(f'{known} of {sum(len(edits_of(crate.name)) for crate in crates)} are known')
+
+
 def main(words):
+    is_writing = words == ['--write']
+    words = words[is_writing:]
     is_near = words[:1] == ['near']
     words = words[is_near:]
     lanes = int(words[0]) if words else len(os.sched_getaffinity(0))
@@ -152,11 +179,14 @@ def main(words):
     rt.Crate.cuts_libraries = True
     crates = [it for it in known.below(rt, TOP, names) if it.name in names]
     lacking = sorted({dep.name for crate in crates for dep in crate.below() if not dep.is_built()})
-    if lacking:
+    if lacking and not is_writing:
         print(f'to be built first: {" ".join(lacking)}', flush=True)
         if subprocess.run([sys.executable, f'{TOP}/bench/gate/libraries.py', 'build', str(lanes), *lacking]).returncode:
             return 1
     results = Results(rt, list({it.name: it for crate in crates for it in [*crate.below(), crate]}.values()))
+    if is_writing:
+        write(results, [crate for crate in crates if all(dep.is_built() for dep in crate.below())])
+        return 0
     with ThreadPoolExecutor(lanes) as pool:
         found = [well for of_crate in pool.map(lambda crate: tries(rt, crate, results, is_near), crates) for well in of_crate]
     print(f'{sum(found)} of {len(found)} wrong bodies are refused, in {len(crates)} crates; {results.count} of them by earlier runs of the same files')
