@@ -114,23 +114,26 @@ cool_promise = record {
   controls = declared (codes "m") (ty.Enum (codes "mode")) ∷ [];
 }
 
--- its one comparison of integers has a name
+-- its comparisons of integers have names
 abbrev is_cold : Eqn
 is_cold = equals (codes "cold") (two somewhere Lt (read (codes "temperature")) (constant somewhere (const.I (pos 5))))
+
+abbrev is_frozen : Eqn
+is_frozen = equals (codes "frozen") (two somewhere Eq (read (codes "temperature")) (constant somewhere (const.I (pos 0))))
 
 abbrev pub cooler : Node
 cooler = record {
   name = codes "cooler";
   inputs = declared (codes "temperature") ty.Int ∷ [];
-  outputs = declared (codes "cold") ty.Bool ∷ declared (codes "level") (ty.Enum (codes "mode")) ∷ declared (codes "idle") ty.Bool ∷ [];
+  outputs = declared (codes "cold") ty.Bool ∷ declared (codes "frozen") ty.Bool ∷ declared (codes "level") (ty.Enum (codes "mode")) ∷ declared (codes "idle") ty.Bool ∷ [];
   contract = Some cool_promise;
-  body = block [] (eqns_of (is_cold ∷ equals (codes "level") (read (codes "m")) ∷ equals (codes "idle") (one somewhere Not (one somewhere Not (at_mode (codes "Off")))) ∷ []));
+  body = block [] (eqns_of (is_cold ∷ is_frozen ∷ equals (codes "level") (read (codes "m")) ∷ equals (codes "idle") (one somewhere Not (one somewhere Not (at_mode (codes "Off")))) ∷ []));
   span = somewhere;
 }
 
 abbrev pub cooling : List Item
 cooling = TypeItem mode ∷ NodeItem cooler ∷ []
 
--- It has a contract, nothing is free in it but its input and this comparison, and it calls nothing.
+-- It has a contract, nothing is free in it but its input and these comparisons, and it calls nothing.
 abbrev pub CoolerLaw : Type 0
 CoolerLaw = HasContract cooler × ComparesByName cooling cooler × (calls_of cooler ≡ [])

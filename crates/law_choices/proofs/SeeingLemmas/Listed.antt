@@ -1,4 +1,4 @@
--- Of a node whose comparisons have names, what is watched are the inputs and the comparisons by order, and these hold values of their types: the instant's own wherever it looks.
+-- Of a node whose comparisons have names, what is watched are the inputs and the comparisons, and these hold values of their types: the instant's own wherever it looks.
 use Rattle.std.proofs.Common.{◌≡◌, ◌⊎◌, inl, inr, ℕ, suc, ◌+◌, ◌≤◌, ◌<◌, Bool, true, if◌then◌else◌, List, [], ◌∷◌, ◌++◌, length, map, slice_get, Option, None, Some, refl, sym, ap, ap₂, subst, ◌∙◌, arith}
 use Rattle.std.specs.Prelude.{⊤}
 use Rattle.std.specs.List.{AllByRecursion, flat_map, range_with_len}
@@ -8,18 +8,18 @@ use Rattle.hp_base.specs.declared.ty.Ty.{Ty}
 use Rattle.hp_base.specs.declared.ty.Ty.TheVariants as ty
 use Rattle.hp_base.specs.declared.value.Value.{Value}
 use Rattle.hp_base.specs.declared.value.Value.TheVariants.{B, E, I, Star}
-use Rattle.hp_obc.specs.Form.{binary_kind, for_ints, result_kind}
+use Rattle.hp_obc.specs.Form.{binary_kind, result_kind}
 use Rattle.hp_obc.specs.Machines.{ObcType}
 use Rattle.hp_tree.specs.declared.expr.Op2.{Op2}
 use Rattle.hp_tree.specs.declared.expr.Op2.TheVariants as op
 use Rattle.hp_tree.specs.Blocks.{Decl}
 use Rattle.hp_tree.specs.Programs.{Node, TypeDecl}
-use Rattle.hp_tree.specs.Operators.{marked}
+use Rattle.hp_tree.specs.Operators.{is_comparison, marked}
 use Rattle.hp_tree.specs.Instant.{Body, Head, Instant, Named, Place, Tail, alone, in_row}
 use Rattle.hp_tree.specs.Meaning.{Nodes}
 use Rattle.hp_tree.specs.Values.{AreOf, IsOf}
 use Rattle.hp_flat.specs.declared.equation.Atom.{Atom}
-use Rattle.hp_flat.specs.declared.equation.Atom.TheVariants.{Variable as Read, Value as Fixed}
+use Rattle.hp_flat.specs.declared.equation.Atom.TheVariants.{Variable as Read}
 use Rattle.hp_flat.specs.declared.node.FlatTy.{FlatTy}
 use Rattle.hp_flat.specs.declared.node.FlatTy.TheVariants as flat
 use Rattle.hp_flat.specs.Equations.{Clock, FlatEqn, Right, operator}
@@ -31,17 +31,17 @@ use Rattle.hp_meaning.specs.Contract.FreePlaces.{IsFree}
 use Rattle.hp_meaning.specs.Contract.Slots.{FreePlace, Slot, control, free, free_among, input, register}
 use Rattle.law_automata.specs.Lowered.Standing.{Along}
 use Rattle.law_equations.specs.Flattened.Flatten.{obc_two}
-use Rattle.law_equations.specs.Made.Making.{Known}
+use Rattle.law_equations.specs.Made.Making.{Known, sketch_node}
 use Rattle.law_equations.specs.Meaning.Instants as flows
-use Rattle.law_equations.specs.Meaning.Kinding.{AtomHasKind, Callees, EqnKinds, HaveKinds, RightHasKinds, kind_of_type, variable_kind}
+use Rattle.law_equations.specs.Meaning.Kinding.{Callees, EqnKinds, HaveKinds, RightHasKinds, kind_of_type, variable_kind}
 use Rattle.law_equations.specs.Meaning.Reactions.{Answers, Holds}
 use Rattle.law_equations.specs.Meaning.Scheduling.{EqnWithin}
 use Rattle.law_games.specs.Mirror.Memories.{SlotsFit}
 use Rattle.law_values.specs.Filled.Under.{Under}
 use Rattle.law_wellmade.specs.Timely.Kinds.{kind_of, kinds_of_decls}
-use Rattle.hp_watch.specs.Adding.{some_value, type_at}
+use Rattle.hp_watch.specs.Adding.{some_value, type_at, type_of as type_in}
 use Rattle.hp_watch.specs.Embedding.{embedded}
-use Rattle.hp_watch.specs.Watching.{Observing, Placed, Surveyed, called_by, clock_by, clock_of, compares_integers, free_by, free_input, free_moved, free_placed, free_placed_by, free_target, is_integer, own_site, placed, reads_integer, shift_at}
+use Rattle.hp_watch.specs.Watching.{Observing, Placed, Surveyed, called_by, clock_by, clock_of, free_by, free_input, free_moved, free_placed, free_placed_by, free_target, is_integer, own_site, placed, shift_at}
 use Rattle.hp_watch.specs.declared.watching.Free.{Free}
 use Rattle.law_choices.specs.Adding.Lifts.{HaveBytes}
 use Rattle.law_choices.specs.Chosen.Laws.{is_seen}
@@ -51,7 +51,7 @@ use Rattle.law_choices.specs.Coded.Laws.{IsTypedAt}
 use Rattle.law_choices.specs.Flat.Names.{is_body_name, variable_of}
 use Rattle.law_choices.specs.InTurn.Nodes.{Contracted}
 use Rattle.law_choices.specs.Playing.Inputs.{placed as place_of, places_in_row}
-use Rattle.law_choices.specs.Seeing.Comparing.{Comparison, is_order}
+use Rattle.law_choices.specs.Seeing.Comparing.{Comparison}
 use Rattle.law_choices.specs.Seeing.Held.{AreHeld}
 use Rattle.law_choices.proofs.AddingLemmas.One.{kind-at}
 use Rattle.law_choices.proofs.AddingLemmas.Surveyed.{at_number, get_front, number_below}
@@ -203,32 +203,37 @@ module _ (types : List ObcType) (decls : List TypeDecl) (bytes : HaveBytes types
       (one-held (w (Head ∷ [])) f (type_at plant first) d.ty kind bits)
       (inputs-held ds (first + 1) vs (below Tail w) (λ x l. same x (omega (arith, l))) behind others (λ q. are (Tail ∷ q)))
 
--- ---- comparisons by order
+-- ---- comparisons of integers
 
--- they take integers, and give truth values
-ordered-ints : (j k m : KindData) → for_ints Bools j k ≡ Some m → (j ≡ Ints) × (m ≡ Bools)
-ordered-ints Ints Ints m e = (refl, cc)
-ordered-ints Ints Bools m e = absurd cc
-ordered-ints Ints (Constructors t cs) m e = absurd cc
-ordered-ints Bools k m e = absurd cc
-ordered-ints (Constructors t cs) k m e = absurd cc
-
-ordered-kinds : (o : Op2) (j k m : KindData) → is_order o ≡ true → binary_kind (obc_two o) j k ≡ Some m → (j ≡ Ints) × (m ≡ Bools)
-ordered-kinds op.Lt j k m c e = ordered-ints j k m e
-ordered-kinds op.Le j k m c e = ordered-ints j k m e
-ordered-kinds op.Gt j k m c e = ordered-ints j k m e
-ordered-kinds op.Ge j k m c e = ordered-ints j k m e
-ordered-kinds op.Eq j k m c e = absurd cc
-ordered-kinds op.Ne j k m c e = absurd cc
-ordered-kinds op.And j k m c e = absurd cc
-ordered-kinds op.Or j k m c e = absurd cc
-ordered-kinds op.Xor j k m c e = absurd cc
-ordered-kinds op.Imp j k m c e = absurd cc
-ordered-kinds op.Add j k m c e = absurd cc
-ordered-kinds op.Sub j k m c e = absurd cc
-ordered-kinds op.Mul j k m c e = absurd cc
-ordered-kinds op.Div j k m c e = absurd cc
-ordered-kinds op.Rem j k m c e = absurd cc
+-- they give truth values
+compared-kinds : (o : Op2) (k m : KindData) → is_comparison o ≡ true → binary_kind (obc_two o) Ints k ≡ Some m → m ≡ Bools
+compared-kinds op.Eq Ints m c e = cc
+compared-kinds op.Ne Ints m c e = cc
+compared-kinds op.Lt Ints m c e = cc
+compared-kinds op.Le Ints m c e = cc
+compared-kinds op.Gt Ints m c e = cc
+compared-kinds op.Ge Ints m c e = cc
+compared-kinds op.Eq Bools m c e = absurd cc
+compared-kinds op.Ne Bools m c e = absurd cc
+compared-kinds op.Lt Bools m c e = absurd cc
+compared-kinds op.Le Bools m c e = absurd cc
+compared-kinds op.Gt Bools m c e = absurd cc
+compared-kinds op.Ge Bools m c e = absurd cc
+compared-kinds op.Eq (Constructors t cs) m c e = absurd cc
+compared-kinds op.Ne (Constructors t cs) m c e = absurd cc
+compared-kinds op.Lt (Constructors t cs) m c e = absurd cc
+compared-kinds op.Le (Constructors t cs) m c e = absurd cc
+compared-kinds op.Gt (Constructors t cs) m c e = absurd cc
+compared-kinds op.Ge (Constructors t cs) m c e = absurd cc
+compared-kinds op.And k m c e = absurd cc
+compared-kinds op.Or k m c e = absurd cc
+compared-kinds op.Xor k m c e = absurd cc
+compared-kinds op.Imp k m c e = absurd cc
+compared-kinds op.Add k m c e = absurd cc
+compared-kinds op.Sub k m c e = absurd cc
+compared-kinds op.Mul k m c e = absurd cc
+compared-kinds op.Div k m c e = absurd cc
+compared-kinds op.Rem k m c e = absurd cc
 
 no-copy : (o : Op2) (args : List Atom) → IsCopy (operator (obc_two o) args) → ⊥
 no-copy op.Lt args c = c
@@ -247,11 +252,6 @@ no-copy op.Mul args c = c
 no-copy op.Div args c = c
 no-copy op.Rem args c = c
 
-integer-type : (types : List ObcType) (t : FlatTy) → kind_of_type types t ≡ Ints → is_integer t ≡ true
-integer-type types flat.Int e = refl
-integer-type types flat.Bool e = absurd cc
-integer-type types (flat.Enum x) e = absurd cc
-
 truth-type : (types : List ObcType) (t : FlatTy) → kind_of_type types t ≡ Bools → t ≡ flat.Bool
 truth-type types flat.Bool e = refl
 truth-type types flat.Int e = absurd cc
@@ -261,29 +261,23 @@ truth-of : (v : Value) → IsOfKind Bools v → (b : Bool) × (v ≡ B b)
 truth-of (B b) h = (b, refl)
 truth-of v h = absurd h
 
--- what is made of it gives a free place
-module _ (types : List ObcType) (callees : Callees) (n : FlatNode) where
-  integer-read : (a : Atom) → AtomHasKind types callees n.variables a Ints → reads_integer n a ≡ true
-  integer-read (Read x) h = integer-type types (type_at n x) (sym (kind-at types n x) ∙ h)
-  integer-read (Fixed (I v)) h = refl
-  integer-read (Fixed v) h = absurd h.0
-
-  -- its operands are integers, and its target is a truth value
-  pub order-typed : (o : Op2) (a b : Atom) (x : ℕ) → is_order o ≡ true → RightHasKinds types callees n.variables (operator (obc_two o) (a ∷ b ∷ [])) (variable_kind types n.variables x ∷ []) → (compares_integers n (a ∷ b ∷ []) ≡ true) × (type_at n x ≡ flat.Bool)
-  order-typed o a b x c h = by h.0 h.1 h.2 h.3 h.4
-    where
-      by : (js : List KindData) → HaveKinds types callees n.variables (a ∷ b ∷ []) js → (k : KindData) → result_kind (obc_two o) js ≡ Some k → variable_kind types n.variables x ∷ [] ≡ k ∷ [] → (reads_integer n a ≡ true) × (type_at n x ≡ flat.Bool)
-      by (j ∷ l ∷ []) g k r e =
-          let kinds = ordered-kinds o j l k c r in
-          let same : variable_kind types n.variables x ≡ k = cc in
-          (integer-read a (subst (AtomHasKind types callees n.variables a) kinds.0 g.0), truth-type types (type_at n x) (sym (kind-at types n x) ∙ same ∙ kinds.1))
-      by [] g k r e = absurd g
-      by (j ∷ []) g k r e = absurd g.1
-      by (j ∷ l ∷ m ∷ js) g k r e = absurd g.1.1
+-- its target is a truth value
+compared-typed : (types : List ObcType) (callees : Callees) (n : FlatNode) (o : Op2) (a : ℕ) (b : Atom) (x : ℕ) → is_comparison o ≡ true → type_at n a ≡ flat.Int
+    → RightHasKinds types callees n.variables (operator (obc_two o) (Read a ∷ b ∷ [])) (variable_kind types n.variables x ∷ []) → type_at n x ≡ flat.Bool
+compared-typed types callees n o a b x c is h = by h.0 h.1 h.2 h.3 h.4
+  where
+    by : (js : List KindData) → HaveKinds types callees n.variables (Read a ∷ b ∷ []) js → (k : KindData) → result_kind (obc_two o) js ≡ Some k → variable_kind types n.variables x ∷ [] ≡ k ∷ [] → type_at n x ≡ flat.Bool
+    by (j ∷ l ∷ []) g k r e =
+        let first : j ≡ Ints = sym g.0 ∙ kind-at types n a ∙ ap (kind_of_type types) is in
+        let same : variable_kind types n.variables x ≡ k = cc in
+        truth-type types (type_at n x) (sym (kind-at types n x) ∙ same ∙ compared-kinds o l k c (sym (ap (λ z. binary_kind (obc_two o) z l) first) ∙ r))
+    by [] g k r e = absurd g
+    by (j ∷ []) g k r e = absurd g.1
+    by (j ∷ l ∷ m ∷ js) g k r e = absurd g.1.1
 
 -- ---- the node that is watched
 
-module _ (laws : NodeLaws) (types : List ObcType) (all : Callees) (observers : Observing) (n : Node) (c : Contracted) (g : Ground types all observers n c) (k : Known) (low : Node) where
+module _ (laws : NodeLaws) (types : List ObcType) (all : Callees) (observers : Observing) (n : Node) (c : Contracted) (g : Ground types all observers n c) (k : Known) (low : Node) (made : c.plant.variables ≡ (sketch_node k low).variables) where
   abbrev plant : FlatNode
   plant = c.plant
 
@@ -342,26 +336,32 @@ module _ (laws : NodeLaws) (types : List ObcType) (all : Callees) (observers : O
       where
         by : (g.clock (target_of m r x) ≡ e.clock) ⊎ IsCopy e.right → g.clock (target_of m r x) ≡ []
         by (inl q) = q ∙ x.2.clock
-        by (inr q) = absurd (no-copy r.1 (x.2.first ∷ x.2.second ∷ []) (subst IsCopy x.2.right q))
+        by (inr q) = absurd (no-copy r.1 (Read x.2.first ∷ x.2.second ∷ []) (subst IsCopy x.2.right q))
 
-    typed-row : (compares_integers s.node (x.2.first ∷ x.2.second ∷ []) ≡ true) × (type_at s.node (target_of m r x) ≡ flat.Bool)
+    -- its first operand is an integer
+    first-typed : type_at s.node x.2.first ≡ flat.Int
+    first-typed =
+        let h = x.2.integer in
+        let at = ap (λ vs. slice_get vs x.2.first) made ∙ h.1 in
+        same-type x.2.first (number_below plant.variables x.2.first h.0 at) ∙ ap type_in at ∙ h.2
+
+    typed-row : type_at s.node (target_of m r x) ≡ flat.Bool
     typed-row =
         let keeps = (seen laws types all observers n c g).keeps in
         let w = (keeps.built).well in
         let h = at_number (EqnKinds types all s.node.variables) s.node.eqns m e there w.kinds in
-        order-typed types all s.node r.1 x.2.first x.2.second (target_of m r x) x.2.by_order
-        (subst (λ ts. RightHasKinds types all s.node.variables (operator (obc_two r.1) (x.2.first ∷ x.2.second ∷ [])) (map (variable_kind types s.node.variables) ts)) x.2.targets
+        compared-typed types all s.node r.1 x.2.first x.2.second (target_of m r x) x.2.compares first-typed
+        (subst (λ ts. RightHasKinds types all s.node.variables (operator (obc_two r.1) (Read x.2.first ∷ x.2.second ∷ [])) (map (variable_kind types s.node.variables) ts)) x.2.targets
         (subst (λ q. RightHasKinds types all s.node.variables q (map (variable_kind types s.node.variables) e.targets)) x.2.right h.right))
 
-    -- one that compares by order gives one free place
+    -- so it gives one free place
     one-free : free_by_number m ≡ place_at m r x ∷ []
     one-free =
-        let t = typed-row in
         let shift = shift_at own_places.shifts m in
         ap (free_placed_by observers own_places m) there
         ∙ ap₂ (λ (q : Right) ts. free_by s.node m q ts ++ free_moved (called_by observers q) shift) x.2.right x.2.targets
-        ∙ ap (λ b. (if b then flat_map (free_target s.node m) (target_of m r x ∷ []) else []) ++ []) t.0
-        ∙ ap (λ ty. ((if is_integer ty then [] else place_at m r x ∷ []) ++ []) ++ []) t.1
+        ∙ ap (λ ty. (if is_integer ty then flat_map (free_target s.node m) (target_of m r x ∷ []) else []) ++ []) first-typed
+        ∙ ap (λ ty. ((if is_integer ty then [] else place_at m r x ∷ []) ++ []) ++ []) typed-row
 
   -- ---- the list of free places
 
@@ -423,7 +423,7 @@ module _ (laws : NodeLaws) (types : List ObcType) (all : Callees) (observers : O
         let e = ap length v.1 in
         let below = target-below m r x in
         let h = typed (target_of m r x) (omega (arith, below, long, e)) (ap (λ d. flows.holds d i) (target-clock m r x)) in
-        truth-of (i (target_of m r x)) (subst (λ t. IsOfKind (kind_of_type types t) (i (target_of m r x))) (typed-row m r x).1 h)
+        truth-of (i (target_of m r x)) (subst (λ t. IsOfKind (kind_of_type types t) (i (target_of m r x))) (typed-row m r x) h)
 
     -- and that of the right side, if the instant looks there
     row-own : (m : ℕ) (r : Comparison) (x : Row m r) (p : Place) → Its r p → is_body_name n r.0 ≡ true → is_seen (erased now) p ≡ true → i (target_of m r x) ≡ now p
@@ -498,7 +498,7 @@ module _ (laws : NodeLaws) (types : List ObcType) (all : Callees) (observers : O
     row-held given m r x p at =
         let t = row-truth m r x in
         let clock : clock_of s.node (Some m) ≡ [] = ap clock_by (there m r x) ∙ x.2.clock in
-        ap (λ ty. bits_of_value types ty (if flows.holds (clock_of s.node (Some m)) i then i (target_of m r x) else some_value ty)) (typed-row m r x).1
+        ap (λ ty. bits_of_value types ty (if flows.holds (clock_of s.node (Some m)) i then i (target_of m r x) else some_value ty)) (typed-row m r x)
         ∙ ap (λ d. bits_of_value types flat.Bool (if flows.holds d i then i (target_of m r x) else some_value flat.Bool)) clock
         ∙ ap (bits_of_value types flat.Bool) t.1
         ∙ sym (ap (code decls ty.Bool) (at ∙ t.1))

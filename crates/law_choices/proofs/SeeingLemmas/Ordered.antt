@@ -1,10 +1,14 @@
--- The events of a node whose comparisons have names are those of the names, in turn; and its free places are the right sides that compare by order.
+-- The events of a node whose comparisons have names are those of the names, in turn; and its free places are the right sides that compare integers.
 use Rattle.std.proofs.Common.{◌≡◌, ℕ, List, [], ◌∷◌, length, Option, None, Some, sym, ap, subst, ◌∙◌, arith}
 use Rattle.std.specs.Prelude.{⊤, Bool, true}
 use Rattle.std.specs.List.{AllByRecursion}
 use Rattle.std.proofs.lemmas.List.{append-nil}
 use Rattle.hp_base.specs.declared.value.Value.{Value}
 use Rattle.hp_base.specs.declared.value.Value.TheVariants.{Absent}
+use Rattle.hp_base.specs.declared.ty.Ty.TheVariants as ty
+use Rattle.hp_typing.specs.Types.{type_of}
+use Rattle.hp_tree.specs.Expressions.{Expr}
+use Rattle.hp_tree.specs.Operators.{is_comparison}
 use Rattle.hp_tree.specs.Blocks.{Block, block, Decl, Eqn, Eqns, eqns_of}
 use Rattle.hp_tree.specs.Programs.{Node}
 use Rattle.hp_tree.specs.Instant.{Head, Instant, Place, Right, Tail}
@@ -14,15 +18,20 @@ use Rattle.hp_automata.specs.Lowering.{Enumerations, Types, declaring, lowered_b
 use Rattle.hp_automata.specs.Renaming.{renamed_decls}
 use Rattle.law_automata.specs.Lowered.Standing.{Along}
 use Rattle.hp_flat.specs.declared.equation.Atom.{Atom}
+use Rattle.hp_flat.specs.declared.equation.Atom.TheVariants.{Variable}
+use Rattle.hp_flat.specs.declared.node.FlatTy.TheVariants as flat
 use Rattle.hp_flat.specs.Equations.{FlatEqn, operator}
 use Rattle.law_equations.specs.Flattened.Flatten.{obc_two}
 use Rattle.law_equations.specs.Made.Blocks.{locals_of}
-use Rattle.law_equations.specs.Made.Making.{Known, path_of}
+use Rattle.law_equations.specs.Made.Making.{Known, path_of, sketch_node}
+use Rattle.law_judged.specs.Typed.Scopes.{Scope}
+use Rattle.law_wellmade.proofs.BegunLemmas.Keeping.{HasType}
+use Rattle.law_wellmade.proofs.BegunLemmas.Typing.{Grounded, SeesTypes}
 use Rattle.hp_watch.specs.Walk.{events_from, walk_block, walk_eqns}
-use Rattle.law_choices.specs.Flat.Names.{variable_of}
+use Rattle.law_choices.specs.Flat.Names.{body_sight, variable_of}
 use Rattle.law_choices.specs.Places.Laws.{AreMadeOf, KnowsOutputs}
 use Rattle.law_choices.specs.Places.Named.{HasCopy}
-use Rattle.law_choices.specs.Seeing.Comparing.{Comparison, is_order}
+use Rattle.law_choices.specs.Seeing.Comparing.{Comparison}
 use Rattle.law_choices.proofs.PlacesLemmas.Named.{MayBeLabelled, labelled_law}
 use Rattle.law_choices.proofs.PlacesLemmas.Numbers.{AtNumber, numbered}
 use Rattle.law_choices.proofs.PlacesLemmas.Relating.{block-goes}
@@ -39,40 +48,42 @@ at_both v i (Tail ∷ p) = i p
 at_both v i p = v
 
 -- some values, one at each right side
-abbrev pub at_rights : (known : List ℕ → Bool) (ds : List Decl) (es : Eqns) (cs : List Comparison) → NamesOf known ds es cs → List Value → Instant
-at_rights known ds every all no_more vs = λ p'. Absent
-at_rights known ds every all (other e es cs q h) vs = at_tail (at_rights known ds es cs h vs)
-at_rights known ds every all (comparison s t u y o a b es cs p k q h) [] = λ p'. Absent
-at_rights known ds every all (comparison s t u y o a b es cs p k q h) (v ∷ vs) = at_both v (at_rights known ds es cs h vs)
+abbrev pub at_rights : (integer : Expr → Bool) (known : List ℕ → Bool) (ds : List Decl) (es : Eqns) (cs : List Comparison) → NamesOf integer known ds es cs → List Value → Instant
+at_rights integer known ds every all no_more vs = λ p'. Absent
+at_rights integer known ds every all (other e es cs q h) vs = at_tail (at_rights integer known ds es cs h vs)
+at_rights integer known ds every all (comparison s t u y o a b es cs p int k q h) [] = λ p'. Absent
+at_rights integer known ds every all (comparison s t u y o a b es cs p int k q h) (v ∷ vs) = at_both v (at_rights integer known ds es cs h vs)
 
-pub rights-hold : (known : List ℕ → Bool) (ds : List Decl) (es : Eqns) (cs : List Comparison) (h : NamesOf known ds es cs) (vs : List Value) (w : Place → Place) (values : Instant) → length vs ≡ length cs → ((q : Place) → values (w q) ≡ at_rights known ds es cs h vs q)
-    → Along (λ (p : Place) (v : Value). values p ≡ v) (rights known ds es cs h w) vs
-rights-hold known ds every all no_more [] w values l are = tt
-rights-hold known ds every all no_more (v ∷ vs) w values l are = absurd (omega (arith, l))
-rights-hold known ds every all (other e es cs q h) vs w values l are = rights-hold known ds es cs h vs (below Tail w) values l (λ r. are (Tail ∷ r))
-rights-hold known ds every all (comparison s t u y o a b es cs p k q h) [] w values l are = absurd (omega (arith, l))
-rights-hold known ds every all (comparison s t u y o a b es cs p k q h) (v ∷ vs) w values l are = (are (Head ∷ Right ∷ []), rights-hold known ds es cs h vs (below Tail w) values (omega (arith, l)) (λ r. are (Tail ∷ r)))
+pub rights-hold : (integer : Expr → Bool) (known : List ℕ → Bool) (ds : List Decl) (es : Eqns) (cs : List Comparison) (h : NamesOf integer known ds es cs) (vs : List Value) (w : Place → Place) (values : Instant) → length vs ≡ length cs → ((q : Place) → values (w q) ≡ at_rights integer known ds es cs h vs q)
+    → Along (λ (p : Place) (v : Value). values p ≡ v) (rights integer known ds es cs h w) vs
+rights-hold integer known ds every all no_more [] w values l are = tt
+rights-hold integer known ds every all no_more (v ∷ vs) w values l are = absurd (omega (arith, l))
+rights-hold integer known ds every all (other e es cs q h) vs w values l are = rights-hold integer known ds es cs h vs (below Tail w) values l (λ r. are (Tail ∷ r))
+rights-hold integer known ds every all (comparison s t u y o a b es cs p int k q h) [] w values l are = absurd (omega (arith, l))
+rights-hold integer known ds every all (comparison s t u y o a b es cs p int k q h) (v ∷ vs) w values l are = (are (Head ∷ Right ∷ []), rights-hold integer known ds es cs h vs (below Tail w) values (omega (arith, l)) (λ r. are (Tail ∷ r)))
 
 -- ---- events
 
--- An event is a comparison on the base clock, whose target is copied to the variable of its name.
+-- An event is a comparison of integers on the base clock, whose target is copied to the variable of its name.
 pub record IsRow (k : Known) (n : Node) (es : List FlatEqn) (e : FlatEqn) (c : Comparison) : Type 0 where
-  pub first : Atom
+  pub first : ℕ
   pub second : Atom
-  pub right : e.right ≡ operator (obc_two c.1) (first ∷ second ∷ [])
+  pub right : e.right ≡ operator (obc_two c.1) (Variable first ∷ second ∷ [])
+  pub integer : HasType (sketch_node k n) first flat.Int
   pub target : ℕ
   pub targets : e.targets ≡ target ∷ []
   pub clock : e.clock ≡ []
   pub copied : (x : ℕ) → variable_of k n c.0 ≡ Some x → HasCopy es e target x
-  pub by_order : is_order c.1 ≡ true
+  pub compares : is_comparison c.1 ≡ true
 
 -- of other events nothing is said
 abbrev pub MayBeRow : Known → Node → List FlatEqn → FlatEqn → Option Comparison → Type 0
 MayBeRow k n es e None = ⊤
 MayBeRow k n es e (Some c) = IsRow k n es e c
 
-module _ (outputs : List ℕ → List (List ℕ)) (k : Known) (enums : Enumerations) (n : Node) (es : List FlatEqn) (knows : KnowsOutputs outputs k) (are : AreMadeOf k (lowered_node enums n) es) (known : List ℕ → Bool) (ds : List Decl) (body : Eqns) (is_body : n.body ≡ block ds body)
-    (cs : List Comparison) (h : NamesOf known ds body cs) where
+module _ (outputs : List ℕ → List (List ℕ)) (k : Known) (enums : Enumerations) (n : Node) (es : List FlatEqn) (knows : KnowsOutputs outputs k) (are : AreMadeOf k (lowered_node enums n) es) (integer : Expr → Bool) (known : List ℕ → Bool) (ds : List Decl) (body : Eqns) (is_body : n.body ≡ block ds body)
+    (cs : List Comparison) (h : NamesOf integer known ds body cs) (types : Scope) (ground : Grounded k types) (sees : SeesTypes k types (body_sight k (lowered_node enums n)))
+    (ints : AllByRecursion (λ (c : Comparison). type_of types c.2 ≡ Some ty.Int) cs) where
   abbrev low : Node
   low = lowered_node enums n
 
@@ -92,33 +103,50 @@ module _ (outputs : List ℕ → List (List ℕ)) (k : Known) (enums : Enumerati
   Labelled m l = AtNumber (MayBeLabelled k low es) es m l
 
   abbrev Fine : List Comparison → Type 0
-  Fine = λ rs. AllByRecursion (IsFine known ds) rs
+  Fine = λ rs. AllByRecursion (IsFine integer known ds) rs
 
-  all-rows : (ms : List ℕ) (ls : List (Option Comparison)) → Fine (somes ls) → Along Labelled ms ls → Along (AtNumber (MayBeRow k low es) es) ms ls
-  all-rows [] [] f a = tt
-  all-rows [] (l ∷ ls) f a = absurd a
-  all-rows (m ∷ ms) [] f a = absurd a
-  all-rows (m ∷ ms) (None ∷ ls) f a = ((a.0.0, a.0.1, tt), all-rows ms ls f a.1)
-  all-rows (m ∷ ms) (Some c ∷ ls) f a =
+  abbrev Ints : List Comparison → Type 0
+  Ints = λ rs. AllByRecursion (λ (c : Comparison). type_of types c.2 ≡ Some ty.Int) rs
+
+  all-rows : (ms : List ℕ) (ls : List (Option Comparison)) → Fine (somes ls) → Ints (somes ls) → Along Labelled ms ls → Along (AtNumber (MayBeRow k low es) es) ms ls
+  all-rows [] [] f t a = tt
+  all-rows [] (l ∷ ls) f t a = absurd a
+  all-rows (m ∷ ms) [] f t a = absurd a
+  all-rows (m ∷ ms) (None ∷ ls) f t a = ((a.0.0, a.0.1, tt), all-rows ms ls f t a.1)
+  all-rows (m ∷ ms) (Some c ∷ ls) f t a =
       let x = a.0.2 in
       let y = x.copied in (
-        (a.0.0, a.0.1, record { first = x.first; second = x.second; right = x.right; target = y.target; targets = y.targets; clock = y.based (based c.0 f.0.2); copied = y.copied; by_order = f.0.1 }),
-        all-rows ms ls f.1 a.1,
+        (
+          a.0.0,
+          a.0.1,
+          record {
+            first = x.first;
+            second = x.second;
+            right = x.right;
+            integer = x.typed types ground sees ty.Int t.0;
+            target = y.target;
+            targets = y.targets;
+            clock = y.based (based c.0 f.0.2);
+            copied = y.copied;
+            compares = f.0.1;
+          },
+        ),
+        all-rows ms ls f.1 t.1 a.1,
       )
 
   abbrev pub labels : List (Option Comparison)
-  labels = walked_labels outputs enums own_types known ds body cs h
+  labels = walked_labels outputs enums own_types integer known ds body cs h
 
   pub labels-are : somes labels ≡ cs
-  labels-are = somes-are outputs enums own_types known ds body cs h
+  labels-are = somes-are outputs enums own_types integer known ds body cs h
 
   -- so are the numbers that a walk finds
   pub order-rows : Along (AtNumber (MayBeRow k low es) es) (walk_block n.body (events_from 0 es)).0 labels
   order-rows =
-      let made = made_labels outputs enums own_types known ds body cs h in
-      let at = numbered (MayBeLabelled k low es) [] es made (labelled_law outputs k low (renamed_decls same_name ds) (eqns_of low_eqns) made es knows are low-body (are-labelled outputs enums own_types known ds body cs h)) in
+      let made = made_labels outputs enums own_types integer known ds body cs h in
+      let at = numbered (MayBeLabelled k low es) [] es made (labelled_law outputs k low (renamed_decls same_name ds) (eqns_of low_eqns) made es knows are low-body (are-labelled outputs enums own_types integer known ds body cs h)) in
       let g = block-goes Labelled n.body (events_from 0 es) made at in
       let walked : walk_block n.body made ≡ (labels, []) =
-      ap (λ (b : Block). walk_block b made) is_body ∙ ap (walk_eqns body) (sym (append-nil made)) ∙ walk-labels outputs enums own_types known ds body cs h [] in
+      ap (λ (b : Block). walk_block b made) is_body ∙ ap (walk_eqns body) (sym (append-nil made)) ∙ walk-labels outputs enums own_types integer known ds body cs h [] in
       let found : Along Labelled (walk_block n.body (events_from 0 es)).0 labels = subst (Along Labelled (walk_block n.body (events_from 0 es)).0) (ap (λ (x : List (Option Comparison) × List (Option Comparison)). x.0) walked) g.0 in
-      all-rows (walk_block n.body (events_from 0 es)).0 labels (subst Fine (sym labels-are) (names-fine known ds body cs h)) found
+      all-rows (walk_block n.body (events_from 0 es)).0 labels (subst Fine (sym labels-are) (names-fine integer known ds body cs h)) (subst Ints (sym labels-are) ints) found
