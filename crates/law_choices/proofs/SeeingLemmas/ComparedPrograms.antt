@@ -238,6 +238,8 @@ compared_law laws program after ranks observers ms order h allowed f n rows past
     let have : (y : List ℕ) → is_body_name n y ≡ true → (v : ℕ) × (variable_in after n y ≡ Some v) × AreUnder (values_of y past) (values_at v js) = (λ y d.
     let v = keeps.names y d in
     (v.variable, v.is_its, subst (λ is. AreUnder (values_of y past) (values_at v.variable is)) (sym same_js) (subst (λ vs. AreUnder vs (values_at v.variable keeps.instants)) (sym (values-same y past before.past same_past)) v.under))) in
-    let scopes = scoped program after h.ready h.removable (some_of (types_of program) (h.form).counts) earlier n stands in
+    let full = some_of (types_of program) (h.form).counts in
+    let scopes : (ds : List Decl) (es : Eqns) → n.body ≡ block ds es → (cs : List Comparison) → NamesOf (is_integer after (typed_in ds (types_around n))) (is_body_name n) ds es cs → IsScoped (known_of low) (lowered_node (enumerations [] after) n) cs =
+    (λ ds es is_body cs k. scoped program after h.ready h.removable full earlier n stands ds es is_body (is_body_name n) cs k) in
     let body = each_found NodeOk (reverse after) n.name n (each_reverse NodeOk after (each-removable after h.removable)) own in
     all-hold nodes types all observers after earlier n c g (enumerations [] after) (its.equations).eqns (its.equations).variables scopes (x.mirrors).is_early x.flags kinds_in compares body.body choices answers rows instants past of r possible runs typed plant have
