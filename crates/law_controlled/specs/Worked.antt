@@ -114,7 +114,7 @@ cool_promise = record {
   controls = declared (codes "m") (ty.Enum (codes "mode")) ∷ [];
 }
 
--- its comparisons of integers have names
+-- its comparisons of integers have names; those of modes may have some, or none
 abbrev is_cold : Eqn
 is_cold = equals (codes "cold") (two somewhere Lt (read (codes "temperature")) (constant somewhere (const.I (pos 5))))
 
@@ -125,9 +125,9 @@ abbrev pub cooler : Node
 cooler = record {
   name = codes "cooler";
   inputs = declared (codes "temperature") ty.Int ∷ [];
-  outputs = declared (codes "cold") ty.Bool ∷ declared (codes "frozen") ty.Bool ∷ declared (codes "level") (ty.Enum (codes "mode")) ∷ declared (codes "idle") ty.Bool ∷ [];
+  outputs = declared (codes "cold") ty.Bool ∷ declared (codes "frozen") ty.Bool ∷ declared (codes "level") (ty.Enum (codes "mode")) ∷ declared (codes "idle") ty.Bool ∷ declared (codes "busy") ty.Bool ∷ [];
   contract = Some cool_promise;
-  body = block [] (eqns_of (is_cold ∷ is_frozen ∷ equals (codes "level") (read (codes "m")) ∷ equals (codes "idle") (one somewhere Not (one somewhere Not (at_mode (codes "Off")))) ∷ []));
+  body = block [] (eqns_of (is_cold ∷ is_frozen ∷ equals (codes "level") (read (codes "m")) ∷ equals (codes "idle") (at_mode (codes "Off")) ∷ equals (codes "busy") (one somewhere Not (at_mode (codes "Off"))) ∷ []));
   span = somewhere;
 }
 
