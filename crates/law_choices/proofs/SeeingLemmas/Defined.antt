@@ -93,20 +93,20 @@ module _ (known : List ℕ → Bool) (types : List TypeDecl) (N : Nodes) (ds : L
         by true q = absurd (let z : true ≡ false = sym n.0 ∙ once c.0 q in cc)
         by false q = q
 
-    all-named : (integer : Expr → Bool) (es : Eqns) (cs : List Comparison) (h : NamesOf integer known ds es cs) (outer : Outer) (d : ℕ) → EqnsOk outer d es → (w : Place → Place) (g : Given) (i : Instant)
+    all-named : (integer : Expr → Bool) (es : Eqns) (cs : List Comparison) (h : NamesOf integer known es cs) (outer : Outer) (d : ℕ) → EqnsOk outer d es → (w : Place → Place) (g : Given) (i : Instant)
         → ((q : Place) → now (w q) ≡ equations types real N ds es names last g i q) → ((q : Place) → is_seen (erased now) (w q) ≡ is_seen (λ r. erased now (w r)) q)
-        → Along (IsNamedAt es g i) cs (rights integer known ds es cs h w)
+        → Along (IsNamedAt es g i) cs (rights integer known es cs h w)
     all-named integer every all no_more outer d ok w g i are seen = tt
     all-named integer every all (other e es cs q h) outer d ok w g i are seen =
-        along-weaker (IsNamedAt es (at Tail g) (part Tail i)) (IsNamedAt (more_eqns e es) g i) (later e es ok.0 g i) cs (rights integer known ds es cs h (below Tail w))
+        along-weaker (IsNamedAt es (at Tail g) (part Tail i)) (IsNamedAt (more_eqns e es) g i) (later e es ok.0 g i) cs (rights integer known es cs h (below Tail w))
         (all-named integer es cs h outer d ok.2 (below Tail w) (at Tail g) (part Tail i) (λ r. are (Tail ∷ r)) (λ r. seen (Tail ∷ r)))
-    all-named integer every all (comparison s t u y o a b es cs c int k q h) outer d ok w g i are seen = (
+    all-named integer every all (comparison s t u y o a b es cs c int k h) outer d ok w g i are seen = (
       (
         ap (λ f. (f || false) || some_defines es y) own,
         ap (λ f. if f || false then gives types real N ds e names last (at Head g) (part Head i) y else value_in es (at Tail g) (part Tail i) y) own ∙ sym (are (Head ∷ Right ∷ [])),
         truth,
       ),
-      along-weaker (IsNamedAt es (at Tail g) (part Tail i)) (IsNamedAt (more_eqns e es) g i) (later e es ok.0 g i) cs (rights integer known ds es cs h (below Tail w))
+      along-weaker (IsNamedAt es (at Tail g) (part Tail i)) (IsNamedAt (more_eqns e es) g i) (later e es ok.0 g i) cs (rights integer known es cs h (below Tail w))
           (all-named integer es cs h outer d ok.2 (below Tail w) (at Tail g) (part Tail i) (λ r. are (Tail ∷ r)) (λ r. seen (Tail ∷ r))),
     )
       where
@@ -130,13 +130,13 @@ module _ (known : List ℕ → Bool) (types : List TypeDecl) (N : Nodes) (ds : L
   abbrev pub HasItsValue : Comparison → Place → Type 0
   HasItsValue c p = (now (Body ∷ Named c.0 ∷ []) ≡ now p) × IsTruthWhereSeen p
 
-  pub block-named : (integer : Expr → Bool) (es : Eqns) (cs : List Comparison) (h : NamesOf integer known ds es cs) (outer : Outer) (d : ℕ) → EqnsOk outer d es → (fresh : Bool) (out last : Names) (g : Given)
-      → ((q : Place) → now (Body ∷ q) ≡ scope types real N (block ds es) fresh out last g (part Body now) q) → Along HasItsValue cs (rights integer known ds es cs h (below Equations (below Body (λ p. p))))
+  pub block-named : (integer : Expr → Bool) (es : Eqns) (cs : List Comparison) (h : NamesOf integer known es cs) (outer : Outer) (d : ℕ) → EqnsOk outer d es → (fresh : Bool) (out last : Names) (g : Given)
+      → ((q : Place) → now (Body ∷ q) ≡ scope types real N (block ds es) fresh out last g (part Body now) q) → Along HasItsValue cs (rights integer known es cs h (below Equations (below Body (λ p. p))))
   block-named integer es cs h outer d ok fresh out last g are =
       let names' : Names = inside es out (part Body now) in
       let last' : Names = lasts (constant_of types) ds g.past last in
       let h' = at Equations g in
       let i : Instant = part Equations (part Body now) in
       along-weaker (IsNamedAt names' last' es h' i) HasItsValue
-      (λ c p n. (are (Named c.0 ∷ []) ∙ ap (λ b. if b then value_in names' last' es h' i c.0 else Absent) n.0 ∙ n.1, n.2)) cs (rights integer known ds es cs h (below Equations (below Body (λ p. p))))
+      (λ c p n. (are (Named c.0 ∷ []) ∙ ap (λ b. if b then value_in names' last' es h' i c.0 else Absent) n.0 ∙ n.1, n.2)) cs (rights integer known es cs h (below Equations (below Body (λ p. p))))
       (all-named names' last' integer es cs h outer d ok (below Equations (below Body (λ p. p))) h' i (λ q. are (Equations ∷ q)) (λ q. refl))

@@ -24,6 +24,7 @@ use Rattle.law_wellmade.proofs.PartedLemmas.Blocks.{Named, eqns-add}
 use Rattle.law_wellmade.proofs.PartedLemmas.Expressions.{expr-adds, path-adds}
 use Rattle.law_wellmade.proofs.PartedLemmas.Owning.{Owned, declared-value, nothing-owned, owned-declared, owned-later, owned-signed, owning-names, remembering}
 use Rattle.law_choices.specs.Flat.Names.{variable_of}
+use Rattle.law_choices.specs.Places.Named.{IsIn}
 use Rattle.law_choices.proofs.AddingLemmas.Adding.{both as each-both}
 
 -- ---- where a variable is defined
@@ -70,6 +71,12 @@ off-unset x c (e ∷ es) now h off = by (holds e.clock now) (has e.targets x) re
     by true false f g rest = ap (λ b. (b && has e.targets x) || is_set es now x) f ∙ ap (λ b. b || is_set es now x) g ∙ rest
     by true true f g rest = absurd (let z : true ≡ false = sym f ∙ ap (λ d. holds d now) (h.0 g) ∙ off in cc)
 
+-- one of the equations that define it is on the clock
+pub on-its : (x : ℕ) (c : Clock) (es : List FlatEqn) (q : FlatEqn) → IsOn x c es → IsIn es q → has q.targets x ≡ true → q.clock ≡ c
+on-its x c [] q h i t = absurd i
+on-its x c (e ∷ es) q h (inl s) t = ap (λ (r : FlatEqn). r.clock) s ∙ h.0 (sym (ap (λ (r : FlatEqn). has r.targets x) s) ∙ t)
+on-its x c (e ∷ es) q h (inr i) t = on-its x c es q h.1 i t
+
 -- ---- steps
 
 -- a step that defines neither a new variable nor one of others does not define it
@@ -85,12 +92,12 @@ still-on May d e x c a never h =
 
 -- an equation of two operands defines the name, and nothing else
 pub data IsSole (y : List ℕ) : Eqns → Type 0 where
-  here : (s t u : Span) (o : Op2) (a b : Expr) (es : Eqns) → IsSole y (more_eqns (define s ((y, t) ∷ []) (two u o a b)) es)
-  later : (e : Eqn) (es : Eqns) → IsSole y es → IsSole y (more_eqns e es)
+  its_equation : (s t u : Span) (o : Op2) (a b : Expr) (es : Eqns) → IsSole y (more_eqns (define s ((y, t) ∷ []) (two u o a b)) es)
+  another : (e : Eqn) (es : Eqns) → IsSole y es → IsSole y (more_eqns e es)
 
 sole-defines : (y : List ℕ) (es : Eqns) → IsSole y es → some_defines es y ≡ true
-sole-defines y every (here s t u o a b es) = ap (λ f. (f || false) || some_defines es y) ((bytes_eq-Decides y y).1 refl)
-sole-defines y every (later e es r) = or-right (defines e y) (some_defines es y) (sole-defines y es r)
+sole-defines y every (its_equation s t u o a b es) = ap (λ f. (f || false) || some_defines es y) ((bytes_eq-Decides y y).1 refl)
+sole-defines y every (another e es r) = or-right (defines e y) (some_defines es y) (sole-defines y es r)
   where
     or-right : (p q : Bool) → q ≡ true → (p || q) ≡ true
     or-right true q h = refl
@@ -117,12 +124,12 @@ module _ (types : List TypeDecl) (differ : ConstructorsDiffer types) (outputs : 
         still-on (Named see (some_defines es)) d f x c (eqns-add types differ outputs k knows s es ds see at d p h w) (never d f (some_defines es) w other) on
 
     sole : (es : Eqns) → IsSole y es → (d : Sketch) → ArePlain es → EqnsTested types s ds es → Owned see (next d) → Undefined x d.eqns → HasOneClock x (sketch_eqns k see at ds es d).eqns
-    sole every (later e es r) d p h w none =
+    sole every (another e es r) d p h w none =
         let m = sketch_eqn k see at ds e d in
         let a = one-adds e d p.1.0 h.0 w in
         let other : (defines e y || false) ≡ true → ⊥ = (λ t. absurd (let q : true ≡ false = sym (sole-defines y es r) ∙ p.0 y (or-none (defines e y) t) in cc)) in
         sole es r m p.1.1 h.1 (owned-later see (next d) (next m) a.grown w) (still (Named see (some_defines (more_eqns e no_eqn))) d m x a (never d m (some_defines (more_eqns e no_eqn)) w other) none)
-    sole every (here s' t u o a b es) d p h w none =
+    sole every (its_equation s' t u o a b es) d p h w none =
         let e = two u o a b in
         let q = enter_path k see (path_for ds ((y, t) ∷ []) e) at d in
         let i = sketch_expr k see q.0 e q.1 in
