@@ -35,7 +35,7 @@ use Rattle.law_choices.proofs.PlacesLemmas.Numbers.{AtNumber, numbered}
 use Rattle.law_choices.proofs.PlacesLemmas.Relating.{block-goes}
 use Rattle.law_choices.proofs.SeeingLemmas.Integers.{IsScoped}
 use Rattle.law_choices.proofs.SeeingLemmas.Labels.{IsFine, Names as NamesOf, are-labelled, comparison, made_labels, names-fine, no_more, other, rights, somes, somes-are, walk-labels, walked_labels}
-use Rattle.law_choices.proofs.SeeingLemmas.Sole.{HasOneClock, IsOn, on-its, one-clock-alike}
+use Rattle.law_choices.proofs.SeeingLemmas.Sole.{HasOneClock, IsOn, each-in, one-clock-alike}
 
 -- ---- values at the right sides
 
@@ -111,7 +111,7 @@ module _ (outputs : List ℕ → List (List ℕ)) (k : Known) (enums : Enumerati
   sole-on : (e : FlatEqn) (target x : ℕ) → HasCopy es e target x → HasOneClock x (sketch_node k low).eqns → IsOn x e.clock es
   sole-on e target x copy one =
       let h = one-clock-alike x es (sketch_node k low).eqns are one in
-      let clock = on-its x h.0 es copy.copy h.1 copy.is_in (ap (λ ts. has ts x) copy.targets ∙ has-first x []) in
+      let clock = each-in (λ (q : FlatEqn). has q.targets x ≡ true → q.clock ≡ h.0) es copy.copy h.1 copy.is_in (ap (λ ts. has ts x) copy.targets ∙ has-first x []) in
       subst (λ c. IsOn x c es) (sym clock ∙ copy.clock) h.1
 
   all-rows : (ms : List ℕ) (ls : List (Option Comparison)) → Fine (somes ls) → Ints (somes ls) → Soles (somes ls) → Along Labelled ms ls → Along (AtNumber (MayBeRow k low es) es) ms ls

@@ -71,11 +71,11 @@ off-unset x c (e ∷ es) now h off = by (holds e.clock now) (has e.targets x) re
     by true false f g rest = ap (λ b. (b && has e.targets x) || is_set es now x) f ∙ ap (λ b. b || is_set es now x) g ∙ rest
     by true true f g rest = absurd (let z : true ≡ false = sym f ∙ ap (λ d. holds d now) (h.0 g) ∙ off in cc)
 
--- one of the equations that define it is on the clock
-pub on-its : (x : ℕ) (c : Clock) (es : List FlatEqn) (q : FlatEqn) → IsOn x c es → IsIn es q → has q.targets x ≡ true → q.clock ≡ c
-on-its x c [] q h i t = absurd i
-on-its x c (e ∷ es) q h (inl s) t = ap (λ (r : FlatEqn). r.clock) s ∙ h.0 (sym (ap (λ (r : FlatEqn). has r.targets x) s) ∙ t)
-on-its x c (e ∷ es) q h (inr i) t = on-its x c es q h.1 i t
+-- what holds of some equations holds of each
+pub each-in : (P : FlatEqn → Type 0) (es : List FlatEqn) (q : FlatEqn) → AllByRecursion P es → IsIn es q → P q
+each-in P [] q h i = absurd i
+each-in P (e ∷ es) q h (inl s) = subst P (sym s) h.0
+each-in P (e ∷ es) q h (inr i) = each-in P es q h.1 i
 
 -- ---- steps
 
