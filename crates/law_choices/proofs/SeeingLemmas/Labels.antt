@@ -1,25 +1,23 @@
 -- The events of a body, of which some are comparisons that have names, in the order of making and in that of a walk.
 use Rattle.std.proofs.Common.{◌≡◌, ℕ, Bool, true, false, ◌&&◌, if◌then◌else◌, List, [], ◌∷◌, ◌++◌, length, map, Option, None, Some, refl, sym, ap, ap₂, ◌∙◌, arith}
-use Rattle.std.specs.Prelude.{drop, reverse, option_map}
+use Rattle.std.specs.Prelude.{drop}
 use Rattle.std.specs.List.{AllByRecursion}
 use Rattle.std.specs.Str.{bytes_eq}
-use Rattle.std.proofs.lemmas.List.{append_assoc, length-append, length-map, length-drop, reverse-reverse}
+use Rattle.std.proofs.lemmas.List.{append_assoc, length-append, length-map, length-drop}
 use Rattle.hp_base.specs.declared.span.Span.{Span}
 use Rattle.hp_base.specs.declared.ty.Ty.TheVariants as ty
-use Rattle.hp_tree.specs.declared.decl.Cons.{Cons}
 use Rattle.hp_tree.specs.declared.expr.Op2.{Op2}
 use Rattle.hp_tree.specs.declared.expr.Op2.TheVariants as op
 use Rattle.hp_tree.specs.Expressions.{Expr, constant, variable, last_of, one, two, choose, pre, fby, arrow, when_is, merge, call}
-use Rattle.hp_tree.specs.Blocks.{Decl, Eqns, no_eqn, more_eqns, eqns_of, Eqn, define, switch, reset, automaton}
+use Rattle.hp_tree.specs.Blocks.{Eqns, no_eqn, more_eqns, eqns_of, Eqn, define, switch, reset, automaton}
 use Rattle.hp_tree.specs.Operators.{is_comparison}
-use Rattle.hp_tree.specs.Instant.{Clock, Head, Place, Right, Tail}
+use Rattle.hp_tree.specs.Instant.{Head, Place, Right, Tail}
 use Rattle.hp_meaning.specs.Causal.Sources.{below}
 use Rattle.hp_meaning.specs.Contract.Slots.{FreePlace}
 use Rattle.hp_automata.specs.Lowering.{Enumerations, Types, lowered_eqn, lowered_eqns, same_name}
-use Rattle.hp_automata.specs.Renaming.{renamed, renamed_decls, renamed_path}
+use Rattle.hp_automata.specs.Renaming.{renamed}
 use Rattle.law_automata.specs.Lowered.Standing.{Along}
 use Rattle.law_automata.proofs.LoweredLemmas.Nodes.{itself}
-use Rattle.law_equations.specs.Made.Making.{path_of, path_written}
 use Rattle.hp_watch.specs.Walk.{compares, Walked, behind, in_eqn, in_expr, in_front, walk, walk_eqn, walk_eqns}
 use Rattle.law_choices.specs.Places.Spots.{Spot, compared, spots, spots_of_eqn}
 use Rattle.law_choices.specs.Seeing.Comparing.{Comparison, if_named, named_by, named_in}

@@ -14,7 +14,7 @@ use Rattle.law_judged.specs.Typed.Scopes.{Scope}
 use Rattle.law_values.specs.Valued.Judged.{body_scope}
 use Rattle.law_equations.specs.Made.Blocks.{ArePlain, IsPlain, OnePlain}
 use Rattle.law_equations.specs.Made.Laws.{around_body, unplaced}
-use Rattle.law_equations.specs.Made.Making.{Body, Known, Seen, Sight, Site, Sketch, atom_of, base_site, bind, block_layer, copy_of, declared, each_once, enter_path, flat_type, names_of_eqns, next, no_entry, nothing_made, over, own_names, path_for, put, remember_all, signature, signed, sketch_block, sketch_eqn, sketch_eqns, sketch_expr, sketch_node, unknown, with_variable}
+use Rattle.law_equations.specs.Made.Making.{Body, Known, Seen, Sight, Site, Sketch, atom_of, base_site, bind, block_layer, copy_of, declared, each_once, enter_path, flat_type, names_of_eqns, next, no_entry, nothing_made, over, own_names, path_for, put, signature, signed, sketch_block, sketch_eqn, sketch_eqns, sketch_expr, sketch_node, unknown, with_variable}
 use Rattle.law_equations.specs.Made.Standing.{Knows}
 use Rattle.law_equations.specs.Meaning.Instants.{Instant, holds}
 use Rattle.law_equations.specs.Meaning.Reactions.{has, is_set}
