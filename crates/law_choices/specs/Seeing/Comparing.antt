@@ -1,6 +1,6 @@
 -- Nodes of which nothing is free but the inputs and comparisons of integers, each of which has a name.
 -- Source: own; a comparison of integers is free in the Boolean abstraction, and the equation of a name tells its value.
-use Rattle.std.specs.Prelude.{ℕ, ◌≡◌, Bool, true, false, ◌&&◌, if◌then◌else◌, List, [], ◌∷◌, ◌++◌, reverse, Option, None, Some}
+use Rattle.std.specs.Prelude.{ℕ, ◌≡◌, Bool, ◌&&◌, if◌then◌else◌, List, [], ◌∷◌, ◌++◌, reverse, Option, None, Some}
 use Rattle.hp_base.specs.declared.ty.Ty.TheVariants as ty
 use Rattle.hp_tree.specs.declared.expr.Op2.{Op2}
 use Rattle.hp_tree.specs.declared.program.Item.{Item}
