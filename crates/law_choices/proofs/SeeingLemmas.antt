@@ -9,6 +9,8 @@ pub mod Named
 pub mod Local
 pub mod Labels
 pub mod Defined
+pub mod Sole
+pub mod Integers
 pub mod Ordered
 pub mod Listed
 pub mod PlantRuns

@@ -118,7 +118,7 @@ pub fn contracts_that_are_seen_are_told()
     machine_choices_are_kept();
 }
 
-/// In these nodes, if nothing is free in a node but its inputs and comparisons of integers by their order that have names on the base clock, the equations hold values of the free places: of their types, and the reaction's own wherever an instant looks at them.
+/// In these nodes, if nothing is free in a node but its inputs and comparisons of integers that have names, the equations hold values of the free places: of their types, and the reaction's own wherever an instant looks at them.
 pub fn named_comparisons_are_seen()
     ensures { ComparedLaw }
 {

@@ -18,16 +18,16 @@ use Rattle.hp_flat.specs.Nodes.{FlatNode}
 use Rattle.hp_watch.specs.declared.watching.Free.{Free}
 use Rattle.hp_watch.specs.Adding.{type_at, next_variable, added_variable, with_variable, with_eqn, operator_eqn, with_operator, with_copy}
 use Rattle.hp_watch.specs.Embedding.{Site, moved_eqn, with_variables, with_inputs, with_moved, with_room, embedded}
-use Rattle.hp_watch.specs.Lifting.{count_of, with_each, case_eqn, with_cases, with_step, lifted, Valued, has_bit, with_test, with_either, either, with_bit, Spelled, with_bits, width_of, with_code, with_spelling, spelled}
+use Rattle.hp_watch.specs.Lifting.{count_of, with_each, case_eqn, with_step, lifted, Valued, has_bit, with_test, with_either, either, with_bit, with_bits, width_of, with_code, with_spelling}
 use Rattle.hp_watch.specs.Watching.{Observing, Observed, Placed, called_by, site_of, with_observer, with_called, with_called_at, placed, own_site, surveyed, clock_of, spelled_place, Watched, with_place, with_places, unwatched, watched_by, IsWatched, walked}
 use Rattle.hp_controller.specs.declared.decoding.Control.{Control}
 use Rattle.hp_controller.specs.declared.decoding.ControlKind.{ControlKind}
 use Rattle.hp_controller.specs.declared.decoding.ControlKind.TheVariants.{Truth, Constructor}
 use Rattle.hp_controller.specs.Controllers as controller
 use Rattle.hp_controller.specs.Controlled.{bit_variables, bits_added, controlled, decoded_controls}
-use Rattle.hp_controller.specs.Decoding.{Decoded, control_eqns, controls_eqns, tree}
+use Rattle.hp_controller.specs.Decoding.{control_eqns, controls_eqns, tree}
 use Rattle.hp_controlled.specs.Choosing.{IsChoosing, Telling, asking, first_gate}
-use Rattle.law_controlled.specs.Names.{Adds, AreAdded, IsAdded}
+use Rattle.law_controlled.specs.Names.{Adds, AreAdded}
 
 -- ---- what is added
 

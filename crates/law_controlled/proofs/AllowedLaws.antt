@@ -1,8 +1,8 @@
 -- The machines of a program that chooses give what the program allows.
-use Rattle.std.proofs.Common.{◌≡◌, List, [], ◌∷◌, sym, subst}
+use Rattle.std.proofs.Common.{List, [], ◌∷◌, sym, subst}
 use Rattle.std.specs.List.{AllByRecursion}
 use Rattle.hp_obc.specs.Form.{TypesForm}
-use Rattle.hp_obc.specs.Machines.{Machine, Obc, ObcType}
+use Rattle.hp_obc.specs.Machines.{ObcType}
 use Rattle.hp_tree.specs.Meaning.{types_of}
 use Rattle.hp_automata.specs.Lowering.{enumerations, lowered_program}
 use Rattle.hp_complete.specs.Declaring.{known_of}
@@ -17,10 +17,10 @@ use Rattle.law_choices.specs.InTurn.Laws as turn
 use Rattle.law_choices.specs.InTurn.Nodes.{all_nodes}
 use Rattle.law_choices.specs.InTurn.Standing.{StandsLaw}
 use Rattle.law_choices.specs.Observed.Laws.{CanBeObservedLaw, TestedObserversLaw}
-use Rattle.hp_controlled.specs.Compiled.{AreNodes, HaveMachines}
+use Rattle.hp_controlled.specs.Compiled.{AreNodes}
 use Rattle.law_controlled.specs.Machines.{AnswerAsWhole, IsWritable, TurnMachinesLaw}
 use Rattle.law_controlled.specs.Names.{HasFreeNames}
-use Rattle.law_controlled.specs.Program.{HaveMade, MadeNamesLaw, MadeNodesLaw}
+use Rattle.law_controlled.specs.Program.{MadeNamesLaw, MadeNodesLaw}
 use Rattle.law_controlled.specs.Mirrored.{MirroredLaw}
 use Rattle.law_controlled.specs.Observers.{ObserversSuitLaw}
 use Rattle.law_controlled.specs.Allowed.{AllowedLaw}

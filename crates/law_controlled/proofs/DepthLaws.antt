@@ -14,7 +14,7 @@ use Rattle.hp_tree.specs.declared.program.Item.{Item}
 use Rattle.hp_tree.specs.declared.program.Item.TheVariants.{TypeItem, NodeItem}
 use Rattle.hp_tree.specs.Blocks.{Decl}
 use Rattle.hp_tree.specs.Instant.{Fresh, Instance, Instant, Past}
-use Rattle.hp_tree.specs.Meaning.{controls_of, node_among, types_of}
+use Rattle.hp_tree.specs.Meaning.{node_among, types_of}
 use Rattle.hp_tree.specs.Operators.{is_there}
 use Rattle.hp_tree.specs.Programs.{Node, TypeDecl}
 use Rattle.hp_tree.specs.Values.{AreOf, IsOf}
@@ -35,7 +35,7 @@ use Rattle.law_choices.specs.Runs.Chosen.{ChosenReaction}
 use Rattle.law_choices.proofs.PlayingLemmas.Programs.{nothing-through}
 use Rattle.law_controlled.specs.Allowed.{RunsAllowed}
 use Rattle.law_controlled.specs.AtDepth.{AreGreatestAtDepth, InEach, IsGreatestAt, IsGreatestIfKnown, KnowsAllCalled}
-use Rattle.law_controlled.specs.Greatest.{KeepsContract, KeepsDuty}
+use Rattle.law_controlled.specs.Greatest.{KeepsDuty}
 use Rattle.law_controlled.proofs.DutyLaws.{SteeringLaws, differ, keeps}
 use Rattle.law_controlled.proofs.KeepingLaws.{keeps_contract}
 

@@ -1,6 +1,6 @@
 -- A node whose controllable variables have the greatest permitted values keeps its contract.
-use Rattle.std.proofs.Common.{◌≡◌, ℕ, List, [], ◌∷◌, ◌++◌, map, reverse, None, Some, refl, sym, ap, subst, ◌∙◌}
-use Rattle.std.specs.Prelude.{⊤, Bool, true, false, ◌&&◌, ◌||◌, not, if◌then◌else◌, IsTrue, Option}
+use Rattle.std.proofs.Common.{◌≡◌, ℕ, List, [], ◌∷◌, reverse, Some, refl, sym, subst}
+use Rattle.std.specs.Prelude.{Bool, true, false, ◌&&◌, ◌||◌, not, if◌then◌else◌, IsTrue}
 use Rattle.std.specs.List.{AllByRecursion, list_all}
 use Rattle.std.specs.Str.{bytes_eq}
 use Rattle.hp_base.specs.declared.ty.Ty.{Ty}
@@ -12,7 +12,7 @@ use Rattle.hp_tree.specs.declared.program.Item.TheVariants.{TypeItem, NodeItem}
 use Rattle.hp_tree.specs.Blocks.{Decl}
 use Rattle.hp_tree.specs.Programs.{Node, TypeDecl}
 use Rattle.hp_tree.specs.Operators.{marked}
-use Rattle.hp_tree.specs.Instant.{Assume, Enforce, Inputs, Instant, Past, Place, part}
+use Rattle.hp_tree.specs.Instant.{Assume, Enforce, Inputs, Instant, Past, part}
 use Rattle.hp_tree.specs.Meaning.{node_among, types_of}
 use Rattle.hp_tree.specs.Reaction.{Reaction, controls_at, row_of}
 use Rattle.hp_tree.specs.Values.{AreOf, IsOf}

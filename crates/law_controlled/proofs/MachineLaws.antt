@@ -4,7 +4,7 @@ use Rattle.std.specs.List.{AllByRecursion}
 use Rattle.hp_base.specs.Kinds.{KindData, AreOfKinds}
 use Rattle.hp_base.specs.declared.value.Value.{Value}
 use Rattle.hp_obc.specs.Form.{TypesForm}
-use Rattle.hp_obc.specs.Machines.{ObcType, Machine}
+use Rattle.hp_obc.specs.Machines.{ObcType}
 use Rattle.hp_obc.specs.Steps.{Names, machine_behaviour, run}
 use Rattle.hp_flat.specs.Equations.{Right, operator, register, called, FlatEqn}
 use Rattle.hp_flat.specs.Nodes.{FlatNode}
@@ -14,16 +14,16 @@ use Rattle.law_equations.specs.Meaning.Reactions.{Answers, has, is_set, Holds, R
 use Rattle.law_equations.specs.Fewer.Compiling.{AreFlatNodes, CompiledLaw, FlatForm}
 use Rattle.law_equations.specs.Followed.Programs.{Answered, CallsAmong, CallsOnly, all_answers, file_of}
 use Rattle.hp_form.specs.Regular.Regular.{IsRegular, RegularLaw}
-use Rattle.hp_machines.specs.Making.{AreMade, defines_some, giving}
+use Rattle.hp_machines.specs.Making.{defines_some, giving}
 use Rattle.law_history.proofs.StreamsLemmas.Giving.{kept_all, kept_nodes}
 use Rattle.law_history.proofs.StreamsLemmas.MadeMachines.{are_regular, made_run}
 use Rattle.law_equations.specs.Meaning.Kinding.{Callees}
 use Rattle.law_choices.specs.OnClocks.Meaning.{AreInTurn}
 use Rattle.law_choices.specs.Part.Laws as laws
-use Rattle.law_choices.specs.Part.Part.{Renumbering, ArePart, IsPart, renumbered, renumbered_right}
+use Rattle.law_choices.specs.Part.Part.{Renumbering, ArePart, IsPart, renumbered_right}
 use Rattle.law_choices.specs.Part.Part.ArePart.{no_eqn, kept_eqn, left_eqn}
 use Rattle.law_controlled.specs.Parts.{MadePartLaw, with_outputs}
-use Rattle.law_controlled.specs.Machines.{AnswerAsWhole, AreMadeFrom, AreShapedInTurn, HasShape, IsMadeFrom, IsWritable, MadeMachinesLaw, TurnMachinesLaw}
+use Rattle.law_controlled.specs.Machines.{AreMadeFrom, AreShapedInTurn, HasShape, IsMadeFrom, IsWritable, MadeMachinesLaw, TurnMachinesLaw}
 use Rattle.law_controlled.specs.Machines.IsMadeFrom.{itself, a_part}
 
 -- ---- without the equations that define nothing

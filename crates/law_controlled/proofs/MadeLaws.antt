@@ -1,5 +1,5 @@
 -- What is made of the nodes of a program, as the compiler's clauses say it.
-use Rattle.std.proofs.Common.{◌≡◌, ℕ, zero, suc, ◌+◌, ◌<◌, ◌≤◌, ◌^◌, Bool, true, false, nat_lt, if◌then◌else◌, List, [], ◌∷◌, ◌++◌, length, map, drop, fold, Option, None, Some, refl, sym, ap, ◌∙◌, subst, arith}
+use Rattle.std.proofs.Common.{◌≡◌, ℕ, zero, suc, ◌+◌, ◌<◌, Bool, true, false, nat_lt, if◌then◌else◌, List, [], ◌∷◌, ◌++◌, length, map, drop, fold, Option, None, Some, refl, sym, ap, ◌∙◌, subst, arith}
 use Rattle.std.specs.Prelude.{IsTrue, is_some, slice_get, sum}
 use Rattle.std.specs.List.{AllByRecursion}
 use Rattle.std.proofs.lemmas.List.{length-append}
@@ -8,30 +8,24 @@ use Rattle.hp_obc.specs.Machines.{ObcType}
 use Rattle.hp_tree.specs.Meaning.{controls_of}
 use Rattle.hp_tree.specs.Programs.{Contract, Node}
 use Rattle.hp_tree.specs.declared.program.Item.{Item}
-use Rattle.hp_automata.specs.Lowering.{Enumerations, lowered_item}
 use Rattle.hp_flat.specs.declared.node.FlatTy.{FlatTy}
 use Rattle.hp_flat.specs.declared.node.FlatTy.TheVariants as flat
 use Rattle.hp_flat.specs.declared.node.Variable.{Variable}
 use Rattle.hp_flat.specs.Nodes.{FlatNode}
-use Rattle.law_equations.specs.Made.Making.{Known}
 use Rattle.law_equations.specs.Meaning.Kinding.{constructors}
-use Rattle.hp_complete.specs.Made.{AreMadeOf}
 use Rattle.hp_boolx.specs.Machine.{Machine, IsMachine}
 use Rattle.hp_abstract.specs.declared.abstracted.Abstraction.{Abstraction}
-use Rattle.hp_abstract.specs.Abstractions.{IsAbstractionOf}
-use Rattle.hp_watch.specs.Adding.{added_variable, type_of, type_at, next_variable, with_copy, with_variable, with_eqn}
+use Rattle.hp_watch.specs.Adding.{added_variable, type_of, next_variable, with_copy, with_variable, with_eqn}
 use Rattle.hp_watch.specs.Growing.{IsLarger}
 use Rattle.hp_watch.proofs.GrowLaws.{larger}
-use Rattle.hp_watch.specs.Watching.{Observing, Watched, IsWatched}
+use Rattle.hp_watch.specs.Watching.{Observing, Watched}
 use Rattle.hp_controller.specs.declared.decoding.Control.{Control}
 use Rattle.hp_controller.specs.declared.decoding.ControlKind.{ControlKind}
 use Rattle.hp_controller.specs.declared.decoding.ControlKind.TheVariants.{Truth, Constructor}
-use Rattle.hp_controller.specs.Controlled.{bits_added, controlled}
 use Rattle.hp_controller.specs.Decoding.{HasBits, total_width}
-use Rattle.hp_controlled.specs.Choosing.{AreControls, AreNodesOf, IsChoosing, IsOrdered, IsOwn, Suits, Telling, asking, constructor_kind, contract_name, control_kind, controller_name, first_gate, telling, told_outputs, with_copies}
+use Rattle.hp_controlled.specs.Choosing.{AreControls, AreNodesOf, IsChoosing, IsOwn, Suits, Telling, asking, constructor_kind, contract_name, control_kind, controller_name, first_gate, telling, told_outputs}
 use Rattle.hp_controlled.specs.Choosing.AreNodesOf.{without_contract, with_contract}
 use Rattle.hp_controlled.specs.Choosing.IsOwn.{that_stays, that_chooses}
-use Rattle.hp_controlled.specs.Compiled.{AreNodes}
 use Rattle.hp_controlled.specs.Compiled.AreNodes.{of_none, of_a_type, of_a_node}
 use Rattle.law_equations.proofs.FollowedLemmas.Passing.{each_first, each_second}
 use Rattle.law_equations.proofs.ShapedLemmas.Elements.{all-append}
@@ -44,7 +38,7 @@ use Rattle.law_controlled.specs.Parts.{with_outputs}
 use Rattle.law_controlled.specs.Machines.{AreMadeFrom, IsMadeFrom}
 use Rattle.law_controlled.specs.Machines.IsMadeFrom.{itself, a_part}
 use Rattle.law_controlled.specs.Names.{Adds}
-use Rattle.law_controlled.specs.Program.{AsksIfContracted, AsksItsMachine, HasAdded, HaveMade, MadeNodesLaw}
+use Rattle.law_controlled.specs.Program.{AsksIfContracted, AsksItsMachine, HasAdded, MadeNodesLaw}
 use Rattle.law_controlled.proofs.AddedLaws.{choosing_adds}
 
 -- ---- controllable variables

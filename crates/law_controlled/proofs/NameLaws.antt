@@ -1,5 +1,5 @@
 -- Names of variables that are added differ.
-use Rattle.std.proofs.Common.{◌≡◌, ℕ, suc, ◌+◌, ◌<◌, ◌≤◌, ◌^◌, Bool, true, false, List, [], ◌∷◌, ◌++◌, length, map, refl, sym, ap, ◌∙◌, subst, arith, inl, inr}
+use Rattle.std.proofs.Common.{◌≡◌, ℕ, ◌+◌, ◌<◌, ◌≤◌, ◌^◌, Bool, true, false, List, [], ◌∷◌, ◌++◌, length, refl, sym, ap, ◌∙◌, subst, arith, inl, inr}
 use Rattle.std.specs.Prelude.{codes, decimal}
 use Rattle.std.specs.List.{AllByRecursion, IsDistinct}
 use Rattle.std.specs.Str.{bytes_eq}
@@ -7,9 +7,8 @@ use Rattle.std.proofs.lemmas.Fmt.{decimal_injective}
 use Rattle.std.proofs.lemmas.List.{append_cancel_left, length-append}
 use Rattle.std.proofs.lemmas.Slice.Eq.{bytes_eq-Decides}
 use Rattle.hp_flat.specs.declared.node.Variable.{Variable}
-use Rattle.hp_flat.specs.Nodes.{FlatNode}
 use Rattle.law_equations.specs.Followed.Premises.{IsOwn, names}
-use Rattle.law_controlled.specs.Names.{Adds, AreAdded, HasNames, IsAdded, NamesLaw}
+use Rattle.law_controlled.specs.Names.{AreAdded, IsAdded, NamesLaw}
 
 pub apart : (x y : List ℕ) → (x ≡ y → ⊥) → bytes_eq x y ≡ false
 apart x y h = by (bytes_eq x y) refl

@@ -1,14 +1,14 @@
 -- The part of a node that the compiler makes is a part of it.
-use Rattle.std.proofs.Common.{◌≡◌, ℕ, zero, suc, ◌+◌, ◌<◌, ◌≤◌, Bool, true, false, if◌then◌else◌, List, [], ◌∷◌, ◌++◌, map, length, refl, sym, ap, ◌∙◌, subst, arith, inl, inr}
-use Rattle.std.specs.Prelude.{◌⊎◌, slice_get, slice_index_or, Some, unwrap_or}
+use Rattle.std.proofs.Common.{◌≡◌, ℕ, zero, suc, ◌+◌, ◌<◌, ◌≤◌, Bool, true, false, List, [], ◌∷◌, ◌++◌, map, length, refl, sym, ap, ◌∙◌, subst, arith, inl, inr}
+use Rattle.std.specs.Prelude.{slice_get, slice_index_or, Some, unwrap_or}
 use Rattle.std.specs.List.{AllByRecursion, flat_map}
 use Rattle.std.proofs.lemmas.Option.{slice_get_within}
 use Rattle.hp_flat.specs.declared.equation.Atom.{Atom}
 use Rattle.hp_flat.specs.declared.equation.Atom.TheVariants.{Variable as Read, Value as Fixed}
-use Rattle.hp_flat.specs.Equations.{Clock, Right, operator, register, called, FlatEqn}
+use Rattle.hp_flat.specs.Equations.{Right, operator, register, called, FlatEqn}
 use Rattle.hp_flat.specs.Nodes.{FlatNode}
 use Rattle.law_equations.specs.Meaning.Fitting.{atom_variables, operands}
-use Rattle.law_equations.specs.Meaning.Scheduling.{AreBelow, EqnWithin, IsWithin}
+use Rattle.law_equations.specs.Meaning.Scheduling.{EqnWithin, IsWithin}
 use Rattle.hp_controlled.specs.Parts as made
 use Rattle.hp_controlled.specs.Parts.{AreReached, IsIn, IsReached, IsUsed, Marks, marked, number_at, numbers_from, read_by_atom, read_by_atoms, read_by_right, variables_of}
 use Rattle.hp_controlled.specs.Parts.IsReached.{reached_input, reached_output, reached_by}

@@ -1,5 +1,5 @@
 -- The names of the clocked equations of a ready program, also where variables are controllable.
-use Rattle.std.proofs.Common.{◌≡◌, ℕ, ◌⊎◌, inl, inr, ◌<◌, ◌≤◌, ◌^◌, Bool, true, false, List, [], ◌∷◌, ◌++◌, length, map, refl, sym, subst, ◌∙◌, arith}
+use Rattle.std.proofs.Common.{◌≡◌, ℕ, ◌⊎◌, inl, inr, ◌≤◌, ◌^◌, true, false, List, [], ◌∷◌, ◌++◌, length, map, refl, sym, subst, ◌∙◌}
 use Rattle.std.specs.Prelude.{codes, IsTrue}
 use Rattle.std.specs.List.{AllByRecursion}
 use Rattle.std.specs.Str.{bytes_eq}
@@ -29,7 +29,7 @@ use Rattle.law_automata.proofs.ReadiedLemmas.Controls.{ControlsOnce, controls_on
 use Rattle.law_automata.proofs.ReadiedLemmas.Whole.{ready_scoped}
 use Rattle.hp_flat.specs.declared.node.Variable.{Variable}
 use Rattle.hp_flat.specs.Nodes.{FlatNode}
-use Rattle.law_equations.specs.Followed.Premises.{IsOwn, names}
+use Rattle.law_equations.specs.Followed.Premises.{names}
 use Rattle.law_equations.specs.Fitting.Fitting.{FreeNamesLaw, NamesLaw, NodeNamed}
 use Rattle.law_equations.specs.Made.Blocks.{locals_of}
 use Rattle.law_equations.specs.Made.Making.{Known, new_name, sketch_node}
@@ -38,7 +38,7 @@ use Rattle.hp_complete.specs.Made.{AreMadeOf, IsMadeOf}
 use Rattle.law_wellmade.specs.Apart.Apart.{LoweredLaw, ScopedLaw}
 use Rattle.law_wellmade.specs.Suited.Suited.{HasFew}
 use Rattle.law_choices.specs.Undisturbed.Laws.{ApartLaw, ControlsApart}
-use Rattle.law_controlled.specs.Names.{HasFreeNames, HasNames, IsAdded, PlantNamesLaw}
+use Rattle.law_controlled.specs.Names.{HasNames, IsAdded, PlantNamesLaw}
 
 -- ---- what is declared is old
 

@@ -1,5 +1,5 @@
 -- A reaction of a node that calls nothing, in which its controllable variables have the greatest permitted values, is its run of chosen values.
-use Rattle.std.proofs.Common.{◌≡◌, ℕ, List, [], ◌∷◌, ◌++◌, map, reverse, Some, sym, ap, subst, ◌∙◌}
+use Rattle.std.proofs.Common.{◌≡◌, ℕ, List, [], ◌∷◌, ◌++◌, reverse, Some, sym, ap, subst}
 use Rattle.std.specs.Prelude.{Bool, true, false, if◌then◌else◌, IsTrue, All}
 use Rattle.std.specs.Bool.{MatchBool}
 use Rattle.std.specs.List.{AllByRecursion}
@@ -13,7 +13,7 @@ use Rattle.hp_tree.specs.Programs.{Node}
 use Rattle.hp_tree.specs.Operators.{is_there}
 use Rattle.hp_tree.specs.Instant.{Fresh, Inputs, Instance, Instant, Past, part}
 use Rattle.hp_tree.specs.Meaning.{controls_of, node_among, types_of}
-use Rattle.hp_tree.specs.Reaction.{Each, NodeReaction, controls_at, outputs_at, row_of}
+use Rattle.hp_tree.specs.Reaction.{Each, NodeReaction, controls_at, row_of}
 use Rattle.hp_tree.specs.Values.{AreOf}
 use Rattle.hp_meaning.specs.Causal.Points.{Placed}
 use Rattle.hp_meaning.specs.Contract.ChosenRuns.{Chosen, ChosenThroughout, IsChosenRun, own_past}

@@ -1,4 +1,4 @@
--- Nothing is free in the heater but its inputs, and a house that calls it has its greatest permitted values. The one comparison of the cooler has a name.
+-- Nothing is free in the heater but its inputs, and a house that calls it has its greatest permitted values. The comparisons of the cooler have names.
 use Rattle.std.proofs.Common.{inr, refl, arith}
 use Rattle.law_controlled.specs.AtDepth.{KnowsAllCalled}
 use Rattle.law_controlled.specs.Worked.{CoolerLaw, HeaterLaw, HouseLaw, cool_promise, heater, housing, its_call, promise}

@@ -1,7 +1,6 @@
 -- Each line that the machines of a program say whose nodes choose the values of their controllable variables is one that the program allows.
 -- Source: own; a controlled program does nothing that the program without its controller could not do, after Ramadge and Wonham (The control of discrete event systems, Proceedings of the IEEE, 1989).
 use Rattle.std.specs.Prelude.{◌≡◌, ℕ, false, List, [], reverse, Some}
-use Rattle.std.specs.List.{AllByRecursion}
 use Rattle.hp_obc.specs.Form.{TypesForm}
 use Rattle.hp_obc.specs.Machines.{Obc}
 use Rattle.hp_tree.specs.declared.program.Item.{Item}
@@ -13,16 +12,14 @@ use Rattle.hp_automata.specs.NewNames.{is_new}
 use Rattle.law_automata.specs.Lowered.Removable.{IsRemovable}
 use Rattle.law_equations.specs.Made.Types.{obc_types, obc_types_of}
 use Rattle.law_wellmade.specs.Spelled.Integers.{NodeShort}
-use Rattle.law_choices.specs.Answered.Loops as loop
 use Rattle.hp_watch.specs.Watching.{Observing}
 use Rattle.law_choices.specs.InTurn.Laws.{IsAllowed, IsChoosing, said_of}
-use Rattle.law_choices.specs.InTurn.Nodes.{Made, AreAllMade, all_nodes, loops}
+use Rattle.law_choices.specs.InTurn.Nodes.{Made, all_nodes}
 use Rattle.law_choices.specs.InTurn.Standing.{StandsFor}
 use Rattle.law_choices.specs.Observed.Contracts.{IsObservable}
 use Rattle.law_choices.specs.Playing.Greatest.{AreMirrored}
 use Rattle.hp_controlled.specs.Chosen.{AreControlledMachines}
 use Rattle.law_controlled.specs.Machines.{AnswerAsWhole}
-use Rattle.law_controlled.specs.Names.{HasFreeNames}
 
 -- Some nodes are made of the program that have one meaning, which the program allows, and the machine of each name gives on inputs of the kinds, oldest first, what its node answers. One of them stands for each node of the program, and each that has a contract asks a machine that mirrors it.
 pub record RunsAllowed (program after : List Item) (o : Obc) : Type 0 where

@@ -31,7 +31,7 @@ KeepsDuty n past = Through (λ older now. AllSupposed n (erase (now ∷ older)) 
 abbrev pub KeepsContract : Past → Type 0
 KeepsContract past = Through (λ older now. AllAssumed (now ∷ older) → IsTrue (enforces now)) past
 
--- Nothing is free in a node but its inputs, or but these and comparisons of integers by their order that have names on the base clock.
+-- Nothing is free in a node but its inputs, or but these and comparisons of integers that have names.
 abbrev pub IsSeen : List Item → Node → Type 0
 IsSeen program n = HasInputsAlone program n ⊎ ComparesByName program n
 

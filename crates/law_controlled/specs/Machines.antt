@@ -1,6 +1,6 @@
 -- The machines of nodes and of parts of nodes answer as the whole nodes do.
 -- Source: own.
-use Rattle.std.specs.Prelude.{◌≡◌, ⊤, ℕ, List, [], ◌∷◌, map, reverse}
+use Rattle.std.specs.Prelude.{◌≡◌, ⊤, ℕ, List, [], ◌∷◌, reverse}
 use Rattle.std.specs.List.{AllByRecursion, IsDistinct}
 use Rattle.std.specs.Str.{bytes_eq}
 use Rattle.hp_base.specs.Kinds.{KindData, AreOfKinds}

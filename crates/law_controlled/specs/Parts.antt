@@ -1,6 +1,6 @@
 -- The part of a node that the compiler makes is a part of it, so it answers as the node does.
 -- Source: own.
-use Rattle.std.specs.Prelude.{◌≡◌, ℕ, List}
+use Rattle.std.specs.Prelude.{ℕ, List}
 use Rattle.hp_flat.specs.Nodes.{FlatNode}
 use Rattle.law_equations.specs.Meaning.Scheduling.{IsWithin}
 use Rattle.hp_controlled.specs.Parts as compiled

@@ -5,12 +5,13 @@ use Rattle.hp_base.specs.declared.span.Span.{Span}
 use Rattle.hp_base.specs.declared.ty.Const.TheVariants as const
 use Rattle.hp_base.specs.declared.ty.Ty.{Ty}
 use Rattle.hp_base.specs.declared.ty.Ty.TheVariants as ty
+use Rattle.hp_tree.specs.declared.decl.Cons.TheVariants.{True}
 use Rattle.hp_tree.specs.declared.expr.Op1.TheVariants.{Not}
 use Rattle.hp_tree.specs.declared.expr.Op2.TheVariants.{And, Eq, Imp, Lt}
 use Rattle.hp_tree.specs.declared.program.Item.{Item}
 use Rattle.hp_tree.specs.declared.program.Item.TheVariants.{NodeItem, TypeItem}
 use Rattle.hp_tree.specs.Blocks.{Block, Decl, Eqn, block, define, eqns_of}
-use Rattle.hp_tree.specs.Expressions.{Expr, call, constant, fby, more_exprs, no_expr, one, two, variable}
+use Rattle.hp_tree.specs.Expressions.{Expr, call, constant, fby, more_exprs, no_expr, one, two, variable, when_is}
 use Rattle.hp_tree.specs.Instant.{Body, Equations, Fresh, Head, Instance, Instant, Past, Right}
 use Rattle.hp_tree.specs.Operators.{is_there}
 use Rattle.hp_tree.specs.Programs.{Contract, Node, TypeDecl}
@@ -114,23 +115,33 @@ cool_promise = record {
   controls = declared (codes "m") (ty.Enum (codes "mode")) ∷ [];
 }
 
--- its one comparison of integers has a name
+-- its comparisons of integers have names; those of modes may have some, or none
 abbrev is_cold : Eqn
 is_cold = equals (codes "cold") (two somewhere Lt (read (codes "temperature")) (constant somewhere (const.I (pos 5))))
+
+abbrev is_frozen : Eqn
+is_frozen = equals (codes "frozen") (two somewhere Eq (read (codes "temperature")) (constant somewhere (const.I (pos 0))))
+
+-- one of them is there only where it is cold
+abbrev deep : Decl
+deep = record { name = codes "deep"; ty = ty.Bool; last = None; clock = Some ((True, codes "cold") ∷ []); span = somewhere }
+
+abbrev is_deep : Eqn
+is_deep = equals deep.name (two somewhere Lt (when_is somewhere (read (codes "temperature")) True (codes "cold")) (constant somewhere (const.I (pos 1))))
 
 abbrev pub cooler : Node
 cooler = record {
   name = codes "cooler";
   inputs = declared (codes "temperature") ty.Int ∷ [];
-  outputs = declared (codes "cold") ty.Bool ∷ declared (codes "level") (ty.Enum (codes "mode")) ∷ declared (codes "idle") ty.Bool ∷ [];
+  outputs = declared (codes "cold") ty.Bool ∷ declared (codes "frozen") ty.Bool ∷ declared (codes "level") (ty.Enum (codes "mode")) ∷ declared (codes "idle") ty.Bool ∷ declared (codes "busy") ty.Bool ∷ [];
   contract = Some cool_promise;
-  body = block [] (eqns_of (is_cold ∷ equals (codes "level") (read (codes "m")) ∷ equals (codes "idle") (one somewhere Not (one somewhere Not (at_mode (codes "Off")))) ∷ []));
+  body = block (deep ∷ []) (eqns_of (is_cold ∷ is_frozen ∷ is_deep ∷ equals (codes "level") (read (codes "m")) ∷ equals (codes "idle") (at_mode (codes "Off")) ∷ equals (codes "busy") (one somewhere Not (at_mode (codes "Off"))) ∷ []));
   span = somewhere;
 }
 
 abbrev pub cooling : List Item
 cooling = TypeItem mode ∷ NodeItem cooler ∷ []
 
--- It has a contract, nothing is free in it but its input and this comparison, and it calls nothing.
+-- It has a contract, nothing is free in it but its input and these comparisons, and it calls nothing.
 abbrev pub CoolerLaw : Type 0
 CoolerLaw = HasContract cooler × ComparesByName cooling cooler × (calls_of cooler ≡ [])

@@ -132,7 +132,7 @@ pub fn machines_of_texts_say_what_is_allowed()
     contracts_of_texts_can_be_observed();
 }
 
-/// And if nothing is free in such a node but its inputs, and comparisons of integers by their order that have names on the base clock, the controllable variables have the greatest permitted values in that reaction; so it keeps its contract. So it is of each instance in the reaction, at every depth, if nothing is free in it but its inputs, of which none is an integer. The machine of a contract says what the machine of its node says, with two truth values behind; if the node is such a node, and it calls nothing, these are the values of the assumption and of the guarantee in that reaction.
+/// And if nothing is free in such a node but its inputs, and comparisons of integers that have names, the controllable variables have the greatest permitted values in that reaction; so it keeps its contract. So it is of each instance in the reaction, at every depth, if nothing is free in it but its inputs, of which none is an integer. The machine of a contract says what the machine of its node says, with two truth values behind; if the node is such a node, and it calls nothing, these are the values of the assumption and of the guarantee in that reaction.
 pub fn machines_of_texts_choose_the_greatest()
     ensures { GreatestSaidLaw }
 {
@@ -191,7 +191,7 @@ pub fn a_worked_house()
     ensures { HouseLaw }
 {}
 
-/// In a cooler with three modes, which is told a temperature, nothing is free but the inputs and the comparison of the temperature, which has a name.
+/// In a cooler with three modes, which is told a temperature, nothing is free but the inputs and two comparisons of the temperature, which have names.
 pub fn a_worked_cooler()
     ensures { CoolerLaw }
 {}

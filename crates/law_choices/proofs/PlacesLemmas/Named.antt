@@ -1,9 +1,10 @@
 -- What is made of a comparison that has a name is copied to the variable of the name.
-use Rattle.std.proofs.Common.{◌≡◌, inl, inr, ℕ, List, [], ◌∷◌, ◌++◌, map, refl, sym, ap, ap₂, subst, ◌∙◌, Option, None, Some}
-use Rattle.std.specs.Prelude.{⊤, Bool, true, false, if◌then◌else◌}
+use Rattle.std.proofs.Common.{◌≡◌, inl, inr, ℕ, zero, suc, List, [], ◌∷◌, ◌++◌, map, refl, sym, ap, ap₂, subst, ◌∙◌, Option, None, Some}
+use Rattle.std.specs.Prelude.{⊤, slice_get, Bool, true, false, if◌then◌else◌}
 use Rattle.std.specs.List.{AllByRecursion}
 use Rattle.std.proofs.lemmas.List.{append-nil, append_assoc}
 use Rattle.hp_base.specs.declared.span.Span.{Span}
+use Rattle.hp_base.specs.declared.ty.Ty.{Ty}
 use Rattle.hp_base.specs.declared.value.Value.{Value}
 use Rattle.hp_tree.specs.declared.expr.Op2.{Op2}
 use Rattle.hp_tree.specs.Expressions.{Expr, two}
@@ -12,16 +13,24 @@ use Rattle.hp_tree.specs.Programs.{Node}
 use Rattle.hp_tree.specs.Meaning.{controls_of}
 use Rattle.hp_flat.specs.declared.equation.Atom.{Atom}
 use Rattle.hp_flat.specs.declared.equation.Atom.TheVariants.{Variable}
+use Rattle.hp_typing.specs.Types.{type_of}
+use Rattle.law_judged.specs.Typed.Scopes.{Scope}
+use Rattle.hp_flat.specs.declared.node.FlatTy.{FlatTy}
 use Rattle.hp_flat.specs.Equations.{Clock, FlatEqn, Right, operator}
 use Rattle.law_automata.specs.Lowered.Standing.{Along}
 use Rattle.law_equations.specs.Flattened.Flatten.{obc_two}
 use Rattle.law_equations.specs.Made.Blocks.{locals_of}
 use Rattle.law_equations.specs.Made.Laws.{unplaced}
-use Rattle.law_equations.specs.Made.Making.{Known, Sketch, Site, Sight, Seen, Body, base_site, bind, block_layer, copy_of, each_once, enter_path, names_of_eqns, next, no_entry, nothing_made, over, path_for, path_of, remember_all, signed, sketch_block, sketch_eqn, sketch_eqns, sketch_expr, sketch_node, type_two, unknown, value_of}
+use Rattle.law_equations.specs.Made.Making.{Known, Sketch, Site, Sight, Seen, Body, base_site, bind, block_layer, copy_of, each_once, enter_path, flat_type, names_of_eqns, next, no_entry, nothing_made, over, path_for, path_of, remember_all, signed, sketch_block, sketch_eqn, sketch_eqns, sketch_expr, sketch_node, type_two, unknown, value_of}
 use Rattle.law_equations.specs.Meaning.Instants.{Instant}
+use Rattle.law_equations.proofs.FittingLemmas.Growth.{Grown, bind-grown, both, same, value-grown}
+use Rattle.law_equations.proofs.FittingLemmas.ExpressionGrowth.{expr-grown}
+use Rattle.law_equations.proofs.FittingLemmas.BlockGrowth.{eqns-grown}
+use Rattle.law_wellmade.proofs.BegunLemmas.Keeping.{HasType}
+use Rattle.law_wellmade.proofs.BegunLemmas.Typing.{Grounded, SeesTypes, typed}
 use Rattle.law_equations.specs.Meaning.Reactions.{Answers, Holds}
 use Rattle.hp_watch.specs.Walk.{compares, is_event}
-use Rattle.law_choices.specs.Flat.Names.{variable_of}
+use Rattle.law_choices.specs.Flat.Names.{body_sight, variable_of}
 use Rattle.law_choices.specs.Places.Laws.{AreMadeOf, IsEventOf, KnowsOutputs, events}
 use Rattle.law_choices.specs.Places.Spots.{Spot, spots, spots_of_eqn}
 use Rattle.law_choices.specs.Places.Named.{AreNamed, nothing, quiet, named, CopyLaw, HasCopy, IsCopied, IsIn, NamedLaw}
@@ -56,9 +65,9 @@ more-copies es fs w e t x h = record { copy = h.copy; is_in = w h.copy h.is_in; 
 
 -- ---- comparisons that have names
 
--- a name, and the operator of the comparison that it names
+-- a name, and the operator and the first operand of the comparison that it names
 abbrev pub Label : Type 0
-Label = List ℕ × Op2
+Label = List ℕ × Op2 × Expr
 
 -- nothing is said of some events
 abbrev pub nones : {A : Type 0} → List A → List (Option Label)
@@ -68,16 +77,32 @@ nones xs = map (λ x. None) xs
 pub data AreLabelled (outputs : List ℕ → List (List ℕ)) : Eqns → List (Option Label) → Type 0 where
   no_more : AreLabelled outputs no_eqn []
   other : (e : Eqn) (es : Eqns) (ls all : List (Option Label)) → all ≡ nones (spots_of_eqn outputs e (λ p. p)) ++ ls → AreLabelled outputs es ls → AreLabelled outputs (more_eqns e es) all
-  comparison : (s t u : Span) (y : List ℕ) (o : Op2) (a b : Expr) (es : Eqns) (ls all : List (Option Label)) → compares o ≡ true → all ≡ (nones (spots outputs a (λ p. p)) ++ (nones (spots outputs b (λ p. p)) ++ Some (y, o) ∷ [])) ++ ls
+  comparison : (s t u : Span) (y : List ℕ) (o : Op2) (a b c : Expr) (es : Eqns) (ls all : List (Option Label)) → compares o ≡ true → a ≡ c → all ≡ (nones (spots outputs a (λ p. p)) ++ (nones (spots outputs b (λ p. p)) ++ Some (y, o, c) ∷ [])) ++ ls
       → AreLabelled outputs es ls → AreLabelled outputs (more_eqns (define s ((y, t) ∷ []) (two u o a b)) es) all
+
+-- ---- types of variables
+
+at-front : {A : Type 0} (xs ys : List A) (i : ℕ) (v : A) → slice_get xs i ≡ Some v → slice_get (xs ++ ys) i ≡ Some v
+at-front [] ys i v h = absurd cc
+at-front (x ∷ xs) ys zero v h = h
+at-front (x ∷ xs) ys (suc i) v h = at-front xs ys i v h
+
+-- a sketch that grows keeps them
+grown-typed : (d e : Sketch) (x : ℕ) (t : FlatTy) → Grown d e → HasType d x t → HasType e x t
+grown-typed d e x t g h = (h.0, ap (λ vs. slice_get vs x) g.variables ∙ at-front d.variables g.more x h.0 h.1, h.2)
 
 -- ---- from one sketch to another
 
-module _ (see : Sight) (on : Clock) (ds : List Decl) where
-  -- an event of this operator whose target one of some equations copies to the variable of a name; it is on this clock, if nothing is written of that of the name
+-- where names are seen so, a variable has the type of an expression
+abbrev pub HasItsType : Known → Sight → Sketch → Expr → ℕ → Type 0
+HasItsType k see d e x = (s : Scope) → Grounded k s → SeesTypes k s see → (t : Ty) → type_of s e ≡ Some t → HasType d x (flat_type k.types t)
+
+module _ (k : Known) (see : Sight) (on : Clock) (ds : List Decl) (whole : Sketch) where
+  -- an event of this operator whose target one of some equations copies to the variable of a name; it is on this clock, if nothing is written of that of the name; and its first operand is a variable that has its type in the whole
   abbrev CopiedBy : List FlatEqn → FlatEqn → Label → Type 0
   CopiedBy es e l =
-      (t : ℕ) × (e.targets ≡ t ∷ []) × ((x : ℕ) → (see l.0).value ≡ Some x → HasCopy es e t x) × (path_of ds l.0 ≡ [] → e.clock ≡ on) × ((a b : Atom) × (e.right ≡ operator (obc_two l.1) (a ∷ b ∷ [])))
+      (t : ℕ) × (e.targets ≡ t ∷ []) × ((x : ℕ) → (see l.0).value ≡ Some x → HasCopy es e t x) × (path_of ds l.0 ≡ [] → e.clock ≡ on)
+      × ((a : ℕ) × (b : Atom) × (e.right ≡ operator (obc_two l.1) (Variable a ∷ b ∷ [])) × HasItsType k see whole l.2 a)
 
   abbrev LabelledBy : List FlatEqn → FlatEqn → Option Label → Type 0
   LabelledBy es e None = ⊤
@@ -111,14 +136,14 @@ module _ (see : Sight) (on : Clock) (ds : List Decl) where
       unlabelled es (f ∷ all) [] h = absurd h
       unlabelled es (f ∷ all) (s ∷ ss) h = (tt, unlabelled es all ss h.1)
 
-  module _ (outputs : List ℕ → List (List ℕ)) (k : Known) (knows : KnowsOutputs outputs k) where
+  module _ (outputs : List ℕ → List (List ℕ)) (knows : KnowsOutputs outputs k) where
     part-copies : (e : Expr) (at : Site) (d : Sketch) → Copies d (sketch_expr k see at e d).0 (nones (spots outputs e (λ p. p)))
     part-copies e at d = copies-none d (sketch_expr k see at e d).0 (spots outputs e (λ p. p)) (expr-adds outputs k knows e see at (λ p. p) d)
 
     -- the equation of a comparison, and that of its name
-    event-copies : (at : Site) (y : List ℕ) (o : Op2) (a b : ℕ) (d : Sketch) → compares o ≡ true → (path_of ds y ≡ [] → at.clock ≡ on)
-        → (let z = value_of at (type_two o) (operator (obc_two o) (Variable a ∷ Variable b ∷ [])) d in Copies d (bind at (see y).value (Some z.1) z.0) (Some (y, o) ∷ []))
-    event-copies at y o a b d c based = by (see y).value refl
+    event-copies : (at : Site) (y : List ℕ) (o : Op2) (e : Expr) (a b : ℕ) (d : Sketch) → compares o ≡ true → (path_of ds y ≡ [] → at.clock ≡ on) → HasItsType k see whole e a
+        → (let z = value_of at (type_two o) (operator (obc_two o) (Variable a ∷ Variable b ∷ [])) d in Copies d (bind at (see y).value (Some z.1) z.0) (Some (y, o, e) ∷ []))
+    event-copies at y o operand a b d c based typed_so = by (see y).value refl
       where
         right : Right
         right = operator (obc_two o) (Variable a ∷ Variable b ∷ [])
@@ -127,20 +152,20 @@ module _ (see : Sight) (on : Clock) (ds : List Decl) where
         is = compares-same o ∙ c
 
         by : (v : Option ℕ) → (see y).value ≡ v
-            → (let z = value_of at (type_two o) (operator (obc_two o) (Variable a ∷ Variable b ∷ [])) d in Copies d (bind at v (Some z.1) z.0) (Some (y, o) ∷ []))
+            → (let z = value_of at (type_two o) (operator (obc_two o) (Variable a ∷ Variable b ∷ [])) d in Copies d (bind at v (Some z.1) z.0) (Some (y, o, operand) ∷ []))
         by None h =
             let e : FlatEqn = record { targets = next d ∷ []; clock = at.clock; right = operator (obc_two o) (Variable a ∷ Variable b ∷ []); restart = at.restart; at = 0 } in (
               e ∷ [],
               refl,
-              subst (λ (f : Bool). Along (LabelledBy (e ∷ [])) (if f then e ∷ [] else []) (Some (y, o) ∷ [])) (sym is)
-                  ((next d, refl, λ x v. absurd (let n : None ≡ Some x = sym h ∙ v in cc), based, (Variable a, Variable b, refl)), tt),
+              subst (λ (f : Bool). Along (LabelledBy (e ∷ [])) (if f then e ∷ [] else []) (Some (y, o, operand) ∷ [])) (sym is)
+                  ((next d, refl, λ x v. absurd (let n : None ≡ Some x = sym h ∙ v in cc), based, (a, Variable b, refl, typed_so)), tt),
             )
         by (Some w) h =
             let e : FlatEqn = record { targets = next d ∷ []; clock = at.clock; right = operator (obc_two o) (Variable a ∷ Variable b ∷ []); restart = at.restart; at = 0 } in
             let copy : FlatEqn = record { targets = w ∷ []; clock = at.clock; right = copy_of (Variable (next d)); restart = at.restart; at = 0 } in (
               e ∷ copy ∷ [],
               append_assoc d.eqns (e ∷ []) (copy ∷ []),
-              subst (λ (f : Bool). Along (LabelledBy (e ∷ copy ∷ [])) (if f then e ∷ [] else []) (Some (y, o) ∷ [])) (sym is) (
+              subst (λ (f : Bool). Along (LabelledBy (e ∷ copy ∷ [])) (if f then e ∷ [] else []) (Some (y, o, operand) ∷ [])) (sym is) (
                 (
                   next d,
                   refl,
@@ -148,20 +173,20 @@ module _ (see : Sight) (on : Clock) (ds : List Decl) where
                       let same : w ≡ x = (let s : Some w ≡ Some x = sym h ∙ v in cc) in
                       record { copy = copy; is_in = inr (inl refl); targets = ap (λ i. i ∷ []) same; clock = refl; restart = refl; right = refl },
                   based,
-                  (Variable a, Variable b, refl),
+                  (a, Variable b, refl, typed_so),
                 ),
                 tt,
               ),
             )
 
-    eqns-copies : (es : Eqns) (ls : List (Option Label)) → AreLabelled outputs es ls → (at : Site) → at.clock ≡ on → (d : Sketch) → Copies d (sketch_eqns k see at ds es d) ls
-    eqns-copies every labels no_more at here d = ([], sym (append-nil d.eqns), tt)
-    eqns-copies every labels (other e es ls all q r) at here d =
+    eqns-copies : (es : Eqns) (ls : List (Option Label)) → AreLabelled outputs es ls → (at : Site) → at.clock ≡ on → (d : Sketch) → Grown (sketch_eqns k see at ds es d) whole → Copies d (sketch_eqns k see at ds es d) ls
+    eqns-copies every labels no_more at here d g = ([], sym (append-nil d.eqns), tt)
+    eqns-copies every labels (other e es ls all q r) at here d g =
         let x = sketch_eqn k see at ds e d in
         let ss = spots_of_eqn outputs e (λ p. p) in
         subst (Copies d (sketch_eqns k see at ds es x)) (sym q)
-        (copies-two d x (sketch_eqns k see at ds es x) (nones ss) ls (copies-none d x ss (eqn-adds outputs k knows e see at ds (λ p. p) d)) (eqns-copies es ls r at here x))
-    eqns-copies every labels (comparison s t u y o a b es ls all c q r) at here d =
+        (copies-two d x (sketch_eqns k see at ds es x) (nones ss) ls (copies-none d x ss (eqn-adds outputs k knows e see at ds (λ p. p) d)) (eqns-copies es ls r at here x g))
+    eqns-copies every labels (comparison s t u y o a b operand es ls all c same q r) at here d g =
         let e = two u o a b in
         let p = enter_path k see (path_for ds ((y, t) ∷ []) e) at d in
         let i = sketch_expr k see p.0 a p.1 in
@@ -170,13 +195,18 @@ module _ (see : Sight) (on : Clock) (ds : List Decl) where
         let f = bind p.0 (see y).value (Some z.1) z.0 in
         let first = nones (spots outputs a (λ p. p)) in
         let second = nones (spots outputs b (λ p. p)) in
-        let own : List (Option Label) = Some (y, o) ∷ [] in
+        let own : List (Option Label) = Some (y, o, operand) ∷ [] in
         let based : path_of ds y ≡ [] → (p.0).clock ≡ on = λ q. ap (λ path. ((enter_path k see path at d).0).clock) q ∙ here in
+        let behind : Grown i.0 whole =
+        both i.0 j.0 whole (expr-grown k b see p.0 i.0)
+        (both j.0 z.0 whole (value-grown p.0 (type_two o) (operator (obc_two o) (Variable i.1 ∷ Variable j.1 ∷ [])) j.0)
+        (both z.0 f whole (bind-grown p.0 (see y).value (Some z.1) z.0) (both f (sketch_eqns k see at ds es f) whole (eqns-grown k es ds see at f) g))) in
+        let first_typed : HasItsType k see whole operand i.1 = (λ scope ground sees v h. grown-typed i.0 whole i.1 (flat_type k.types v) behind (typed k scope see ground sees a v p.0 p.1 (ap (type_of scope) same ∙ h))) in
         subst (Copies d (sketch_eqns k see at ds es f)) (sym q)
         (copies-two d f (sketch_eqns k see at ds es f) (first ++ (second ++ own)) ls
         (copies-two d p.1 f [] (first ++ (second ++ own)) (copies-none d p.1 [] (adds-path k see (path_for ds ((y, t) ∷ []) e) at d))
-        (copies-two p.1 i.0 f first (second ++ own) (part-copies a p.0 p.1) (copies-two i.0 j.0 f second own (part-copies b p.0 i.0) (event-copies p.0 y o i.1 j.1 j.0 c based))))
-        (eqns-copies es ls r at here f))
+        (copies-two p.1 i.0 f first (second ++ own) (part-copies a p.0 p.1) (copies-two i.0 j.0 f second own (part-copies b p.0 i.0) (event-copies p.0 y o operand i.1 j.1 j.0 c based first_typed))))
+        (eqns-copies es ls r at here f g))
 
 -- ---- a node
 
@@ -190,21 +220,22 @@ module _ (outputs : List ℕ → List (List ℕ)) (k : Known) (knows : KnowsOutp
   abbrev sight : Block → Sight
   sight b = over (sketch_block k Body out base_site b before.1).0 out
 
-  body-copies : (b : Block) → b ≡ block ds body → Copies (sight b) [] ds before.1 (sketch_block k Body out base_site b before.1).1 ls
+  body-copies : (b : Block) → b ≡ block ds body → (let all = (sketch_block k Body out base_site b before.1).1 in Copies k (sight b) [] ds all before.1 all ls)
   body-copies b e =
-      subst (λ (b : Block). Copies (sight b) [] ds before.1 (sketch_block k Body out base_site b before.1).1 ls) (sym e)
+      subst (λ (b : Block). let all = (sketch_block k Body out base_site b before.1).1 in Copies k (sight b) [] ds all before.1 all ls) (sym e)
       (let names = each_once [] (names_of_eqns body) in
       let s = block_layer k Body out base_site ds names before.1 in
-      copies-two (over s.0 out) [] ds before.1 s.1 (sketch_eqns k (over s.0 out) base_site ds body s.1) [] ls (copies-none (over s.0 out) [] ds before.1 s.1 [] (layer-adds outputs k knows Body out base_site ds names before.1))
-      (eqns-copies (over s.0 out) [] ds outputs k knows body ls labelled base_site refl s.1))
+      let all = sketch_eqns k (over s.0 out) base_site ds body s.1 in
+      copies-two k (over s.0 out) [] ds all before.1 s.1 all [] ls (copies-none k (over s.0 out) [] ds all before.1 s.1 [] (layer-adds outputs k knows Body out base_site ds names before.1))
+      (eqns-copies k (over s.0 out) [] ds all outputs knows body ls labelled base_site refl s.1 (same all)))
 
-  node-copies : n.body ≡ block ds body → Copies (sight n.body) [] ds nothing_made (sketch_node k n) ls
+  node-copies : n.body ≡ block ds body → Copies k (sight n.body) [] ds (sketch_node k n) nothing_made (sketch_node k n) ls
   node-copies e =
       let a = signed k n.inputs (no_entry, nothing_made) in
       let b = signed k (controls_of n.contract) a in
       let c = signed k n.outputs b in
-      copies-two (sight n.body) [] ds nothing_made before.1 (sketch_node k n) [] ls
-      (copies-none (sight n.body) [] ds nothing_made before.1 []
+      copies-two k (sight n.body) [] ds (sketch_node k n) nothing_made before.1 (sketch_node k n) [] ls
+      (copies-none k (sight n.body) [] ds (sketch_node k n) nothing_made before.1 []
       (adds-more nothing_made c.1 before.1 []
       (adds-more nothing_made b.1 c.1 [] (adds-more nothing_made a.1 b.1 [] (adds-signed k n.inputs (no_entry, nothing_made)) (adds-signed k (controls_of n.contract) a)) (adds-signed k n.outputs b))
       (adds-lasts k base_site unknown n.outputs c)))
@@ -250,11 +281,12 @@ events-alike {Y = Y} R S w (e ∷ es) (x ∷ xs) ys h k =
 
 -- ---- the laws
 
--- An event of this operator is copied to the variable of its name, and is on the base clock, if the name is.
+-- An event of this operator is copied to the variable of its name, and is on the base clock, if the name is; its first operand is a variable that has its type.
 pub record IsLabelled (k : Known) (n : Node) (es : List FlatEqn) (e : FlatEqn) (l : Label) : Type 0 where
-  pub first : Atom
+  pub first : ℕ
   pub second : Atom
-  pub right : e.right ≡ operator (obc_two l.1) (first ∷ second ∷ [])
+  pub right : e.right ≡ operator (obc_two l.1) (Variable first ∷ second ∷ [])
+  pub typed : HasItsType k (body_sight k n) (sketch_node k n) l.2 first
   pub copied : IsCopied k n es e l.0
 
 abbrev pub MayBeLabelled : Known → Node → List FlatEqn → FlatEqn → Option Label → Type 0
@@ -268,16 +300,20 @@ labelled_law outputs k n ds body ls es knows are e labelled =
     let h = node-copies outputs k knows n ds body ls labelled e in
     let see = sight outputs k knows n ds body ls labelled n.body in
     let xs = (sketch_node k n).eqns in
-    let all = subst (λ zs. Along (LabelledBy see [] ds zs) (events zs) ls) (sym h.1) h.2 in
-    events-alike (LabelledBy see [] ds xs) (MayBeLabelled k n es) (λ e' x l s c. each see xs are (λ y. refl) e' x l s c) es xs ls are all
+    let all = subst (λ zs. Along (LabelledBy k see [] ds (sketch_node k n) zs) (events zs) ls) (sym h.1) h.2 in
+    events-alike (LabelledBy k see [] ds (sketch_node k n) xs) (MayBeLabelled k n es) (λ e' x l s c. each see xs are (λ y. refl) (λ a v t. t) e' x l s c) es xs ls are all
   where
-    each : (see : Sight) (xs : List FlatEqn) → map unplaced es ≡ map unplaced xs → ((y : List ℕ) → variable_of k n y ≡ (see y).value) → (e' x : FlatEqn) (l : Option Label) → unplaced e' ≡ unplaced x → LabelledBy see [] ds xs x l → MayBeLabelled k n es e' l
-    each see xs same at e' x None s c = tt
-    each see xs same at e' x (Some l) s c =
+    each : (see : Sight) (xs : List FlatEqn) → map unplaced es ≡ map unplaced xs → ((y : List ℕ) → variable_of k n y ≡ (see y).value)
+        → ((a : Expr) (v : ℕ) → HasItsType k see (sketch_node k n) a v → HasItsType k (body_sight k n) (sketch_node k n) a v) → (e' x : FlatEqn) (l : Option Label) → unplaced e' ≡ unplaced x
+        → LabelledBy k see [] ds (sketch_node k n) xs x l → MayBeLabelled k n es e' l
+    each see xs same at types e' x None s c = tt
+    each see xs same at types e' x (Some l) s c =
+        let right = c.4 in
         record {
-          first = (c.4).0;
-          second = (c.4).1;
-          right = ap (λ (d : FlatEqn). d.right) s ∙ (c.4).2;
+          first = right.0;
+          second = right.1;
+          right = ap (λ (d : FlatEqn). d.right) s ∙ right.2;
+          typed = types l.2 right.0 right.3;
           copied = record {
             target = c.0;
             targets = ap (λ (d : FlatEqn). d.targets) s ∙ c.1;
@@ -296,9 +332,9 @@ all-labelled outputs every names (quiet e es ys q r) =
 all-labelled outputs every names (named s t u y o a b es ys c qa qb r) =
     let x = all-labelled outputs es ys r in
     let ls : List (Option Label) = map (λ l. Some l) x.0 in (
-      (y, o) ∷ x.0,
+      (y, o, a) ∷ x.0,
       ap (λ zs. y ∷ zs) x.1,
-      comparison s t u y o a b es ls (Some (y, o) ∷ ls) c (sym (ap₂ (λ (ss rs : List Spot). (nones ss ++ (nones rs ++ Some (y, o) ∷ [])) ++ ls) (qa (λ p. p)) (qb (λ p. p)))) x.2,
+      comparison s t u y o a b a es ls (Some (y, o, a) ∷ ls) c refl (sym (ap₂ (λ (ss rs : List Spot). (nones ss ++ (nones rs ++ Some (y, o, a) ∷ [])) ++ ls) (qa (λ p. p)) (qb (λ p. p)))) x.2,
     )
 
 names-alone : (k : Known) (n : Node) (es fs : List FlatEqn) (ls : List Label) → Along (MayBeLabelled k n es) fs (map (λ l. Some l) ls) → Along (IsCopied k n es) fs (map (λ (l : Label). l.0) ls)

@@ -1,13 +1,16 @@
 -- In a program of nodes that choose, the equations of a node whose comparisons have names hold values of its free places throughout each reaction.
-use Rattle.std.proofs.Common.{◌≡◌, ℕ, ◌+◌, ◌<◌, List, [], ◌∷◌, length, map, reverse, Some, refl, sym, ap, ap₂, subst, ◌∙◌, arith}
+use Rattle.std.proofs.Common.{◌≡◌, ℕ, ◌+◌, ◌<◌, ◌≤◌, List, [], ◌∷◌, length, map, reverse, Some, refl, sym, ap, ap₂, subst, ◌∙◌, arith}
 use Rattle.std.specs.Prelude.{Bool, true, false}
 use Rattle.std.specs.List.{AllByRecursion, range_with_len}
 use Rattle.hp_base.specs.Kinds.{AreOfKinds}
 use Rattle.hp_base.specs.declared.value.Value.{Value}
+use Rattle.hp_base.specs.declared.value.Value.TheVariants.{Absent}
 use Rattle.hp_obc.specs.Machines.{ObcType}
 use Rattle.hp_tree.specs.declared.program.Item.{Item}
 use Rattle.hp_tree.specs.declared.program.Item.TheVariants.{TypeItem, NodeItem}
-use Rattle.hp_tree.specs.Blocks.{Block, Decl, block}
+use Rattle.hp_tree.specs.Blocks.{Block, Decl, Eqns, block}
+use Rattle.hp_tree.specs.Expressions.{Expr}
+use Rattle.hp_tree.specs.ExpressionTypes.{typed_in}
 use Rattle.hp_tree.specs.Programs.{Node, TypeDecl}
 use Rattle.hp_tree.specs.Operators.{constant_of, real}
 use Rattle.hp_tree.specs.Instant.{Body, Controls, Given, Instant, Named, Past, Place, at, part, since}
@@ -21,11 +24,11 @@ use Rattle.hp_automata.specs.Lowering.{Enumerations, enumerations, lowered_node,
 use Rattle.law_automata.specs.Lowered.Removable.{BlockOk, IsRemovable, NodeOk, none_known}
 use Rattle.law_automata.proofs.LowerableLemmas.Texts.{each_reverse}
 use Rattle.hp_flat.specs.Nodes.{FlatNode}
-use Rattle.law_equations.specs.Made.Making.{Known}
+use Rattle.law_equations.specs.Made.Making.{Known, sketch_node}
 use Rattle.law_equations.specs.Made.Types.{obc_types}
 use Rattle.law_equations.specs.Meaning.Instants as flows
 use Rattle.law_equations.specs.Meaning.Kinding.{Callees, IsPossible, kinds_at}
-use Rattle.law_equations.specs.Meaning.Reactions.{Answers, Holds, Reaction, inputs_of}
+use Rattle.law_equations.specs.Meaning.Reactions.{Answers, Holds, Reaction, inputs_of, is_set}
 use Rattle.hp_complete.specs.Declaring.{known_of}
 use Rattle.law_games.proofs.GuaranteedLemmas.Apart.{ready_apart}
 use Rattle.law_history.proofs.StreamsLemmas.NamesApart.{each_found, name_found}
@@ -46,7 +49,7 @@ use Rattle.law_choices.specs.OnClocks.WellMade.{callees_of}
 use Rattle.law_choices.specs.Playing.Mirrored.{early_flags}
 use Rattle.law_choices.specs.Runs.Chosen.{ChosenReaction, chosen_given, chosen_nodes}
 use Rattle.law_choices.specs.Seeing.Compared.{ComparedLaw}
-use Rattle.law_choices.specs.Seeing.Comparing.{ComparesByName}
+use Rattle.law_choices.specs.Seeing.Comparing.{Comparison, ComparesByName, is_integer, types_around}
 use Rattle.law_choices.specs.Seeing.Held.{HoldThroughout, HoldsValues}
 use Rattle.law_choices.specs.Streams.Names.{AreUnder, IsOnlyReaction, KeepsNamesOf, NamesLaw, variable_in}
 use Rattle.law_choices.proofs.AnsweredLemmas.OneLoop.{rows_chosen}
@@ -61,7 +64,8 @@ use Rattle.law_choices.proofs.PlayingLemmas.Holding.{Does, Runs, inputs-held, ru
 use Rattle.law_choices.proofs.PlayingLemmas.Programs.{FoundMade, GreatestLaws, differ, find-of, its-choice, kinds-in, typed-here}
 use Rattle.law_choices.proofs.SeeingLemmas.Compared.{holds}
 use Rattle.law_choices.proofs.SeeingLemmas.Defined.{block-named}
-use Rattle.law_choices.proofs.SeeingLemmas.Labels.{sorted-all}
+use Rattle.law_choices.proofs.SeeingLemmas.Integers.{IsScoped, scoped}
+use Rattle.law_choices.proofs.SeeingLemmas.Labels.{Names as NamesOf, sorted-all}
 use Rattle.law_choices.proofs.SeeingLemmas.PlantRuns.{first-same, first_of, in_first, plant-runs}
 use Rattle.law_choices.proofs.StreamsLemmas.Alike.{only_law}
 use Rattle.law_choices.proofs.StreamsLemmas.Streams.{in_turn}
@@ -96,7 +100,10 @@ rows-of types ds (row ∷ rows) differ h = (are_of types ds row differ h.0, rows
 -- ---- all instants
 
 module _ (nodes : NodeLaws) (types : List ObcType) (all : Callees) (observers : Observing) (after earlier : List Item) (n : Node) (c : Contracted) (g : Ground types all observers n c) (enums : Enumerations)
-    (made : AreMadeOf (known_of (lowered_program after)) (lowered_node enums n) c.plant.eqns) (early : Place → Bool) (flags : (g.is).is_early ≡ early_flags early (slots_of_node after n))
+    (made : AreMadeOf (known_of (lowered_program after)) (lowered_node enums n) c.plant.eqns)
+    (laid : c.plant.variables ≡ (sketch_node (known_of (lowered_program after)) (lowered_node enums n)).variables)
+    (scopes : (ds : List Decl) (es : Eqns) → n.body ≡ block ds es → (cs : List Comparison) → NamesOf (is_integer after (typed_in ds (types_around n))) (is_body_name n) es cs → IsScoped (known_of (lowered_program after)) (lowered_node enums n) cs)
+    (early : Place → Bool) (flags : (g.is).is_early ≡ early_flags early (slots_of_node after n))
     (kinds : kinds_at types c.plant (range_with_len 0 (length n.inputs)) ≡ timely.kinds_of_decls (types_of after) n.inputs) (compares : ComparesByName after n) (ok : BlockOk none_known 0 n.body)
     (choices : Choices) (answers : Answers) where
   abbrev decls : List TypeDecl
@@ -135,13 +142,15 @@ module _ (nodes : NodeLaws) (types : List ObcType) (all : Callees) (observers : 
 
   -- one instant
   now-holds : (row : List Value) (older : Past) (free now : Instant) (i : flows.Instant) (js : List flows.Instant) → AreOf decls n.inputs row → Does choices decls earlier n row older free now → Typed after n now → IsPossible types chosen i
-      → map i (inputs_of chosen) ≡ row → AllByRecursion (Holds answers js (first_of nodes types all observers n c g i)) c.plant.eqns → NamesHave (now ∷ older) (first_of nodes types all observers n c g i ∷ js) → HoldsValues types after n (survey nodes types all observers n c g) i now
-  now-holds row older free now i js of does is_typed possible first eqs names = by n.body refl
+      → map i (inputs_of chosen) ≡ row → AllByRecursion (Holds answers js (first_of nodes types all observers n c g i)) c.plant.eqns
+      → ((x : ℕ) → c.plant.inputs ≤ x → is_set c.plant.eqns (first_of nodes types all observers n c g i) x ≡ false → first_of nodes types all observers n c g i x ≡ Absent) → NamesHave (now ∷ older) (first_of nodes types all observers n c g i ∷ js) → HoldsValues types after n (survey nodes types all observers n c g) i now
+  now-holds row older free now i js of does is_typed possible first eqs others names = by n.body refl
     where
       by : (b : Block) → n.body ≡ b → HoldsValues types after n (survey nodes types all observers n c g) i now
       by (block ds es) is_body =
           let known : List ℕ → Bool = is_body_name n in
-          let sorted = sorted-all known ds es in
+          let integer : Expr → Bool = is_integer after (typed_in ds (types_around n)) in
+          let sorted = sorted-all integer known es in
           let cs = sorted.comparisons in
           let N : Nodes = chosen_nodes choices decls real earlier in
           let given : Given = chosen_given (choices n.name) n row (record { past = older; free = free }) in
@@ -153,8 +162,8 @@ module _ (nodes : NodeLaws) (types : List ObcType) (all : Callees) (observers : 
           subst (λ (b : Block). (q : Place) → now (Body ∷ q) ≡ scope decls real N b false out last inner (part Body now) q) is_body (λ q. does (Body ∷ q)) in
           let own_ok = (subst (BlockOk none_known 0) is_body ok).1 in
           let star = (is_typed.values).no_mark in
-          let its = block-named known decls N ds now star es cs sorted.names none_known 0 own_ok false out last inner are in
-          holds nodes types all observers after n c g k enums made early flags kinds compares ok ds es is_body cs sorted.names answers js (first_of nodes types all observers n c g i) i (λ x l. first-same nodes types all observers n c g i x l) eqs
+          let its = block-named known decls N ds now star integer es cs sorted.names none_known 0 own_ok false out last inner are in
+          holds nodes types all observers after n c g k enums made laid early flags kinds compares ok ds es is_body cs sorted.names (scopes ds es is_body cs sorted.names) answers js (first_of nodes types all observers n c g i) i (λ x l. first-same nodes types all observers n c g i x l) eqs others
           (survey_typed nodes types all observers n c g i possible) N now star (λ y d. let v = names y d in (v.0, v.1, v.2.0)) its row of (inputs-held choices decls earlier n row older free now (of-long decls n.inputs row of) does)
           (ap (λ m. map i (range_with_len 0 m)) (sym chosen-inputs) ∙ first) few-inputs
 
@@ -167,7 +176,7 @@ module _ (nodes : NodeLaws) (types : List ObcType) (all : Callees) (observers : 
   all-hold (row ∷ rows) (i ∷ instants) [] of r q h t p names = absurd h
   all-hold (row ∷ rows) (i ∷ instants) (now ∷ past) of r q h t p names = (
     all-hold rows instants past of.1 r.0 q.1 h.0 t.0 p.0 (λ y d. let v = names y d in (v.0, v.1, v.2.1)),
-    now-holds row past h.1.0 now i (firsts instants) of.0 h.1.1 t.1 q.0 (r.1).inputs_are (p.1).equations names,
+    now-holds row past h.1.0 now i (firsts instants) of.0 h.1.1 t.1 q.0 (r.1).inputs_are (p.1).equations (p.1).others names,
   )
 
 -- ---- a program
@@ -230,5 +239,7 @@ compared_law laws program after ranks observers ms order h allowed f n rows past
     let have : (y : List ℕ) → is_body_name n y ≡ true → (v : ℕ) × (variable_in after n y ≡ Some v) × AreUnder (values_of y past) (values_at v js) = (λ y d.
     let v = keeps.names y d in
     (v.variable, v.is_its, subst (λ is. AreUnder (values_of y past) (values_at v.variable is)) (sym same_js) (subst (λ vs. AreUnder vs (values_at v.variable keeps.instants)) (sym (values-same y past before.past same_past)) v.under))) in
+    let scopes : (ds : List Decl) (es : Eqns) → n.body ≡ block ds es → (cs : List Comparison) → NamesOf (is_integer after (typed_in ds (types_around n))) (is_body_name n) es cs → IsScoped (known_of low) (lowered_node (enumerations [] after) n) cs =
+    (λ ds es is_body cs k. scoped program after h.ready h.removable h.form earlier n stands ds es is_body (is_body_name n) cs k) in
     let body = each_found NodeOk (reverse after) n.name n (each_reverse NodeOk after (each-removable after h.removable)) own in
-    all-hold nodes types all observers after earlier n c g (enumerations [] after) (its.equations).eqns (x.mirrors).is_early x.flags kinds_in compares body.body choices answers rows instants past of r possible runs typed plant have
+    all-hold nodes types all observers after earlier n c g (enumerations [] after) (its.equations).eqns (its.equations).variables scopes (x.mirrors).is_early x.flags kinds_in compares body.body choices answers rows instants past of r possible runs typed plant have

@@ -7,7 +7,7 @@ use Rattle.hp_base.specs.declared.value.Value.TheVariants.{Absent, Nil, B, E, I,
 use Rattle.hp_tree.specs.declared.expr.Op2.{Op2}
 use Rattle.hp_tree.specs.declared.expr.Op2.TheVariants as op
 use Rattle.hp_tree.specs.Blocks.{block, Decl, Eqns, more_eqns, Eqn, define}
-use Rattle.hp_tree.specs.Expressions.{two}
+use Rattle.hp_tree.specs.Expressions.{Expr, two}
 use Rattle.hp_tree.specs.Programs.{TypeDecl}
 use Rattle.hp_tree.specs.Operators.{constant_of, marked, real, two_of}
 use Rattle.hp_tree.specs.Instant.{Body, Equations, First, Given, Head, Instant, Named, Place, Right, Second, Tail, at, part}
@@ -19,7 +19,7 @@ use Rattle.law_automata.specs.Lowered.Standing.{Along}
 use Rattle.hp_watch.specs.Walk.{compares}
 use Rattle.law_choices.specs.Chosen.Laws.{is_mark, is_seen}
 use Rattle.law_choices.specs.Seeing.Comparing.{Comparison}
-use Rattle.law_choices.proofs.SeeingLemmas.Labels.{Names as NamesOf, comparison, no_more, order-compares, other, rights}
+use Rattle.law_choices.proofs.SeeingLemmas.Labels.{Names as NamesOf, comparison, comparison-compares, no_more, other, rights}
 
 -- ---- values
 
@@ -93,21 +93,21 @@ module _ (known : List ℕ → Bool) (types : List TypeDecl) (N : Nodes) (ds : L
         by true q = absurd (let z : true ≡ false = sym n.0 ∙ once c.0 q in cc)
         by false q = q
 
-    all-named : (es : Eqns) (cs : List Comparison) (h : NamesOf known ds es cs) (outer : Outer) (d : ℕ) → EqnsOk outer d es → (w : Place → Place) (g : Given) (i : Instant)
+    all-named : (integer : Expr → Bool) (es : Eqns) (cs : List Comparison) (h : NamesOf integer known es cs) (outer : Outer) (d : ℕ) → EqnsOk outer d es → (w : Place → Place) (g : Given) (i : Instant)
         → ((q : Place) → now (w q) ≡ equations types real N ds es names last g i q) → ((q : Place) → is_seen (erased now) (w q) ≡ is_seen (λ r. erased now (w r)) q)
-        → Along (IsNamedAt es g i) cs (rights known ds es cs h w)
-    all-named every all no_more outer d ok w g i are seen = tt
-    all-named every all (other e es cs q h) outer d ok w g i are seen =
-        along-weaker (IsNamedAt es (at Tail g) (part Tail i)) (IsNamedAt (more_eqns e es) g i) (later e es ok.0 g i) cs (rights known ds es cs h (below Tail w))
-        (all-named es cs h outer d ok.2 (below Tail w) (at Tail g) (part Tail i) (λ r. are (Tail ∷ r)) (λ r. seen (Tail ∷ r)))
-    all-named every all (comparison s t u y o a b es cs c k q h) outer d ok w g i are seen = (
+        → Along (IsNamedAt es g i) cs (rights integer known es cs h w)
+    all-named integer every all no_more outer d ok w g i are seen = tt
+    all-named integer every all (other e es cs q h) outer d ok w g i are seen =
+        along-weaker (IsNamedAt es (at Tail g) (part Tail i)) (IsNamedAt (more_eqns e es) g i) (later e es ok.0 g i) cs (rights integer known es cs h (below Tail w))
+        (all-named integer es cs h outer d ok.2 (below Tail w) (at Tail g) (part Tail i) (λ r. are (Tail ∷ r)) (λ r. seen (Tail ∷ r)))
+    all-named integer every all (comparison s t u y o a b es cs c int k h) outer d ok w g i are seen = (
       (
         ap (λ f. (f || false) || some_defines es y) own,
         ap (λ f. if f || false then gives types real N ds e names last (at Head g) (part Head i) y else value_in es (at Tail g) (part Tail i) y) own ∙ sym (are (Head ∷ Right ∷ [])),
         truth,
       ),
-      along-weaker (IsNamedAt es (at Tail g) (part Tail i)) (IsNamedAt (more_eqns e es) g i) (later e es ok.0 g i) cs (rights known ds es cs h (below Tail w))
-          (all-named es cs h outer d ok.2 (below Tail w) (at Tail g) (part Tail i) (λ r. are (Tail ∷ r)) (λ r. seen (Tail ∷ r))),
+      along-weaker (IsNamedAt es (at Tail g) (part Tail i)) (IsNamedAt (more_eqns e es) g i) (later e es ok.0 g i) cs (rights integer known es cs h (below Tail w))
+          (all-named integer es cs h outer d ok.2 (below Tail w) (at Tail g) (part Tail i) (λ r. are (Tail ∷ r)) (λ r. seen (Tail ∷ r))),
     )
       where
         e : Eqn
@@ -121,7 +121,7 @@ module _ (known : List ℕ → Bool) (types : List TypeDecl) (N : Nodes) (ds : L
             let m = both-true (is_mark (erased now (w (Head ∷ Right ∷ First ∷ [])))) (is_mark (erased now (w (Head ∷ Right ∷ Second ∷ [])))) (sym (seen (Head ∷ Right ∷ [])) ∙ z) in
             let x = mark-number (is_forgotten (w (Head ∷ Right ∷ First ∷ []))) (now (w (Head ∷ Right ∷ First ∷ []))) (no_star (w (Head ∷ Right ∷ First ∷ []))) m.0 in
             let v = mark-number (is_forgotten (w (Head ∷ Right ∷ Second ∷ []))) (now (w (Head ∷ Right ∷ Second ∷ []))) (no_star (w (Head ∷ Right ∷ Second ∷ []))) m.1 in
-            let r = of-numbers o x.0 v.0 (order-compares o c) in
+            let r = of-numbers o x.0 v.0 (comparison-compares o c) in
             (r.0, are (Head ∷ Right ∷ []) ∙ ap₂ (two_of o) (sym (are (Head ∷ Right ∷ First ∷ [])) ∙ x.1) (sym (are (Head ∷ Right ∷ Second ∷ [])) ∙ v.1) ∙ r.1)
 
   -- ---- a block that stands as the body of a node
@@ -130,13 +130,13 @@ module _ (known : List ℕ → Bool) (types : List TypeDecl) (N : Nodes) (ds : L
   abbrev pub HasItsValue : Comparison → Place → Type 0
   HasItsValue c p = (now (Body ∷ Named c.0 ∷ []) ≡ now p) × IsTruthWhereSeen p
 
-  pub block-named : (es : Eqns) (cs : List Comparison) (h : NamesOf known ds es cs) (outer : Outer) (d : ℕ) → EqnsOk outer d es → (fresh : Bool) (out last : Names) (g : Given)
-      → ((q : Place) → now (Body ∷ q) ≡ scope types real N (block ds es) fresh out last g (part Body now) q) → Along HasItsValue cs (rights known ds es cs h (below Equations (below Body (λ p. p))))
-  block-named es cs h outer d ok fresh out last g are =
+  pub block-named : (integer : Expr → Bool) (es : Eqns) (cs : List Comparison) (h : NamesOf integer known es cs) (outer : Outer) (d : ℕ) → EqnsOk outer d es → (fresh : Bool) (out last : Names) (g : Given)
+      → ((q : Place) → now (Body ∷ q) ≡ scope types real N (block ds es) fresh out last g (part Body now) q) → Along HasItsValue cs (rights integer known es cs h (below Equations (below Body (λ p. p))))
+  block-named integer es cs h outer d ok fresh out last g are =
       let names' : Names = inside es out (part Body now) in
       let last' : Names = lasts (constant_of types) ds g.past last in
       let h' = at Equations g in
       let i : Instant = part Equations (part Body now) in
       along-weaker (IsNamedAt names' last' es h' i) HasItsValue
-      (λ c p n. (are (Named c.0 ∷ []) ∙ ap (λ b. if b then value_in names' last' es h' i c.0 else Absent) n.0 ∙ n.1, n.2)) cs (rights known ds es cs h (below Equations (below Body (λ p. p))))
-      (all-named names' last' es cs h outer d ok (below Equations (below Body (λ p. p))) h' i (λ q. are (Equations ∷ q)) (λ q. refl))
+      (λ c p n. (are (Named c.0 ∷ []) ∙ ap (λ b. if b then value_in names' last' es h' i c.0 else Absent) n.0 ∙ n.1, n.2)) cs (rights integer known es cs h (below Equations (below Body (λ p. p))))
+      (all-named names' last' integer es cs h outer d ok (below Equations (below Body (λ p. p))) h' i (λ q. are (Equations ∷ q)) (λ q. refl))

@@ -1,27 +1,25 @@
 -- The events of a body, of which some are comparisons that have names, in the order of making and in that of a walk.
 use Rattle.std.proofs.Common.{◌≡◌, ℕ, Bool, true, false, ◌&&◌, if◌then◌else◌, List, [], ◌∷◌, ◌++◌, length, map, Option, None, Some, refl, sym, ap, ap₂, ◌∙◌, arith}
-use Rattle.std.specs.Prelude.{drop, reverse, option_map}
+use Rattle.std.specs.Prelude.{drop}
 use Rattle.std.specs.List.{AllByRecursion}
-use Rattle.std.specs.Str.{bytes_eq}
-use Rattle.std.proofs.lemmas.List.{append_assoc, length-append, length-map, length-drop, reverse-reverse}
+use Rattle.std.proofs.lemmas.List.{append_assoc, length-append, length-map, length-drop}
 use Rattle.hp_base.specs.declared.span.Span.{Span}
 use Rattle.hp_base.specs.declared.ty.Ty.TheVariants as ty
-use Rattle.hp_tree.specs.declared.decl.Cons.{Cons}
 use Rattle.hp_tree.specs.declared.expr.Op2.{Op2}
 use Rattle.hp_tree.specs.declared.expr.Op2.TheVariants as op
 use Rattle.hp_tree.specs.Expressions.{Expr, constant, variable, last_of, one, two, choose, pre, fby, arrow, when_is, merge, call}
-use Rattle.hp_tree.specs.Blocks.{Decl, Eqns, no_eqn, more_eqns, eqns_of, Eqn, define, switch, reset, automaton}
-use Rattle.hp_tree.specs.Instant.{Clock, Head, Place, Right, Tail}
-use Rattle.hp_tree.specs.Meaning.{clock_in, written}
+use Rattle.hp_tree.specs.Blocks.{Eqns, no_eqn, more_eqns, eqns_of, Eqn, define, switch, reset, automaton}
+use Rattle.hp_tree.specs.Operators.{is_comparison}
+use Rattle.hp_tree.specs.Instant.{Head, Place, Right, Tail}
 use Rattle.hp_meaning.specs.Causal.Sources.{below}
 use Rattle.hp_meaning.specs.Contract.Slots.{FreePlace}
 use Rattle.hp_automata.specs.Lowering.{Enumerations, Types, lowered_eqn, lowered_eqns, same_name}
-use Rattle.hp_automata.specs.Renaming.{renamed, renamed_decls, renamed_path}
+use Rattle.hp_automata.specs.Renaming.{renamed}
 use Rattle.law_automata.specs.Lowered.Standing.{Along}
-use Rattle.law_equations.specs.Made.Making.{path_of, path_written}
+use Rattle.law_automata.proofs.LoweredLemmas.Nodes.{itself}
 use Rattle.hp_watch.specs.Walk.{compares, Walked, behind, in_eqn, in_expr, in_front, walk, walk_eqn, walk_eqns}
 use Rattle.law_choices.specs.Places.Spots.{Spot, compared, spots, spots_of_eqn}
-use Rattle.law_choices.specs.Seeing.Comparing.{Comparison, if_named, is_base, is_order, named_by, named_in}
+use Rattle.law_choices.specs.Seeing.Comparing.{Comparison, if_named, named_by, named_in}
 use Rattle.law_choices.proofs.PlacesLemmas.Counting.{expr-leaves, eqn-leaves}
 use Rattle.law_choices.proofs.PlacesLemmas.Expressions.{expr-takes}
 use Rattle.law_choices.proofs.PlacesLemmas.Named.{AreLabelled, comparison as labelled, nones, no_more as none_labelled, other as unlabelled}
@@ -31,51 +29,49 @@ use Rattle.law_choices.proofs.SeeingLemmas.Local.{eqn-local, expr-local}
 
 -- ---- the equations that name a comparison
 
-pub order-compares : (o : Op2) → is_order o ≡ true → compares o ≡ true
-order-compares op.Lt h = refl
-order-compares op.Le h = refl
-order-compares op.Gt h = refl
-order-compares op.Ge h = refl
-order-compares op.Eq h = refl
-order-compares op.Ne h = refl
-order-compares op.And h = absurd cc
-order-compares op.Or h = absurd cc
-order-compares op.Xor h = absurd cc
-order-compares op.Imp h = absurd cc
-order-compares op.Add h = absurd cc
-order-compares op.Sub h = absurd cc
-order-compares op.Mul h = absurd cc
-order-compares op.Div h = absurd cc
-order-compares op.Rem h = absurd cc
+pub comparison-compares : (o : Op2) → is_comparison o ≡ true → compares o ≡ true
+comparison-compares op.Eq h = refl
+comparison-compares op.Ne h = refl
+comparison-compares op.Lt h = refl
+comparison-compares op.Le h = refl
+comparison-compares op.Gt h = refl
+comparison-compares op.Ge h = refl
+comparison-compares op.And h = absurd cc
+comparison-compares op.Or h = absurd cc
+comparison-compares op.Xor h = absurd cc
+comparison-compares op.Imp h = absurd cc
+comparison-compares op.Add h = absurd cc
+comparison-compares op.Sub h = absurd cc
+comparison-compares op.Mul h = absurd cc
+comparison-compares op.Div h = absurd cc
+comparison-compares op.Rem h = absurd cc
 
 -- Among some equations of a block those that name a comparison, with the others.
-pub data Names (known : List ℕ → Bool) (ds : List Decl) : Eqns → List Comparison → Type 0 where
-  no_more : Names known ds no_eqn []
-  other : (e : Eqn) (es : Eqns) (cs : List Comparison) → named_by known ds e ≡ None → Names known ds es cs → Names known ds (more_eqns e es) cs
-  comparison : (s t u : Span) (y : List ℕ) (o : Op2) (a b : Expr) (es : Eqns) (cs : List Comparison) → is_order o ≡ true → known y ≡ true → clock_in ds y ≡ [] → Names known ds es cs
-      → Names known ds (more_eqns (define s ((y, t) ∷ []) (two u o a b)) es) ((y, o) ∷ cs)
+pub data Names (integer : Expr → Bool) (known : List ℕ → Bool) : Eqns → List Comparison → Type 0 where
+  no_more : Names integer known no_eqn []
+  other : (e : Eqn) (es : Eqns) (cs : List Comparison) → named_by integer known e ≡ None → Names integer known es cs → Names integer known (more_eqns e es) cs
+  comparison : (s t u : Span) (y : List ℕ) (o : Op2) (a b : Expr) (es : Eqns) (cs : List Comparison) → is_comparison o ≡ true → integer a ≡ true → known y ≡ true → Names integer known es cs
+      → Names integer known (more_eqns (define s ((y, t) ∷ []) (two u o a b)) es) ((y, o, a) ∷ cs)
 
 -- an equation is one that names a comparison, or none
-data IsSorted (known : List ℕ → Bool) (ds : List Decl) : Eqn → Type 0 where
-  none : (e : Eqn) → named_by known ds e ≡ None → IsSorted known ds e
-  some : (s t u : Span) (y : List ℕ) (o : Op2) (a b : Expr) → is_order o ≡ true → known y ≡ true → clock_in ds y ≡ [] → IsSorted known ds (define s ((y, t) ∷ []) (two u o a b))
+data IsSorted (integer : Expr → Bool) (known : List ℕ → Bool) : Eqn → Type 0 where
+  none : (e : Eqn) → named_by integer known e ≡ None → IsSorted integer known e
+  some : (s t u : Span) (y : List ℕ) (o : Op2) (a b : Expr) → is_comparison o ≡ true → integer a ≡ true → known y ≡ true → IsSorted integer known (define s ((y, t) ∷ []) (two u o a b))
 
-base-is : (c : Clock) → is_base c ≡ true → c ≡ []
-base-is [] h = refl
-base-is (x ∷ c) h = absurd cc
-
-module _ (known : List ℕ → Bool) (ds : List Decl) where
-  sorted-two : (s t u : Span) (y : List ℕ) (o : Op2) (a b : Expr) → IsSorted known ds (define s ((y, t) ∷ []) (two u o a b))
-  sorted-two s t u y o a b = by (is_order o) (known y) (is_base (clock_in ds y)) refl refl refl
+module _ (integer : Expr → Bool) (known : List ℕ → Bool) where
+  sorted-two : (s t u : Span) (y : List ℕ) (o : Op2) (a b : Expr) → IsSorted integer known (define s ((y, t) ∷ []) (two u o a b))
+  sorted-two s t u y o a b = by (is_comparison o) (integer a) (known y) refl refl refl
     where
-      by : (p q r : Bool) → is_order o ≡ p → known y ≡ q → is_base (clock_in ds y) ≡ r → IsSorted known ds (define s ((y, t) ∷ []) (two u o a b))
-      by true true true e f g = some s t u y o a b e f (base-is (clock_in ds y) g)
-      by false q r e f g = none (define s ((y, t) ∷ []) (two u o a b)) (ap (λ z. if z && (known y && is_base (clock_in ds y)) then Some (y, o) else None) e)
-      by true false r e f g = none (define s ((y, t) ∷ []) (two u o a b)) (ap₂ (λ z v. if z && (v && is_base (clock_in ds y)) then Some (y, o) else None) e f)
-      by true true false e f g =
-          none (define s ((y, t) ∷ []) (two u o a b)) (ap₂ (λ z v. if z && (v && is_base (clock_in ds y)) then Some (y, o) else None) e f ∙ ap (λ z. if z then Some (y, o) else None) g)
+      eqn : Eqn
+      eqn = define s ((y, t) ∷ []) (two u o a b)
 
-  sorted-right : (s t : Span) (y : List ℕ) (e : Expr) → IsSorted known ds (define s ((y, t) ∷ []) e)
+      by : (p i q : Bool) → is_comparison o ≡ p → integer a ≡ i → known y ≡ q → IsSorted integer known eqn
+      by true true true e d f = some s t u y o a b e d f
+      by false i q e d f = none eqn (ap (λ z. if z && (integer a && known y) then Some (y, o, a) else None) e)
+      by true false q e d f = none eqn (ap₂ (λ z v. if z && (v && known y) then Some (y, o, a) else None) e d)
+      by true true false e d f = none eqn (ap₂ (λ z v. if z && (v && known y) then Some (y, o, a) else None) e d ∙ ap (λ z. if z then Some (y, o, a) else None) f)
+
+  sorted-right : (s t : Span) (y : List ℕ) (e : Expr) → IsSorted integer known (define s ((y, t) ∷ []) e)
   sorted-right s t y (two u o a b) = sorted-two s t u y o a b
   sorted-right s t y (constant u c) = none (define s ((y, t) ∷ []) (constant u c)) refl
   sorted-right s t y (variable u x) = none (define s ((y, t) ∷ []) (variable u x)) refl
@@ -89,7 +85,7 @@ module _ (known : List ℕ → Bool) (ds : List Decl) where
   sorted-right s t y (merge u x ps) = none (define s ((y, t) ∷ []) (merge u x ps)) refl
   sorted-right s t y (call u f inlined es) = none (define s ((y, t) ∷ []) (call u f inlined es)) refl
 
-  sorted : (e : Eqn) → IsSorted known ds e
+  sorted : (e : Eqn) → IsSorted integer known e
   sorted (define s [] e) = none (define s [] e) refl
   sorted (define s ((y, t) ∷ []) e) = sorted-right s t y e
   sorted (define s (y ∷ z ∷ ys) e) = none (define s (y ∷ z ∷ ys) e) refl
@@ -100,42 +96,43 @@ module _ (known : List ℕ → Bool) (ds : List Decl) where
   -- all of a block
   pub record Sorted (es : Eqns) : Type 0 where
     pub comparisons : List Comparison
-    pub names : Names known ds es comparisons
+    pub names : Names integer known es comparisons
 
   pub sorted-all : (es : Eqns) → Sorted es
   sorted-all no_eqn = record { comparisons = []; names = no_more }
   sorted-all (more_eqns e es) = by e (sorted e) (sorted-all es)
     where
-      by : (e : Eqn) → IsSorted known ds e → Sorted es → Sorted (more_eqns e es)
+      by : (e : Eqn) → IsSorted integer known e → Sorted es → Sorted (more_eqns e es)
       by e' (none e q) rest = record { comparisons = rest.comparisons; names = other e es rest.comparisons q rest.names }
-      by e' (some s t u y o a b p q r) rest = record { comparisons = (y, o) ∷ rest.comparisons; names = comparison s t u y o a b es rest.comparisons p q r rest.names }
+      by e' (some s t u y o a b p int q) rest = record { comparisons = (y, o, a) ∷ rest.comparisons; names = comparison s t u y o a b es rest.comparisons p int q rest.names }
 
-  -- they are known, compare by order, and are on the base clock
+  -- they are known, and compare
   abbrev pub IsFine : Comparison → Type 0
-  IsFine c = (known c.0 ≡ true) × (is_order c.1 ≡ true) × (clock_in ds c.0 ≡ [])
+  IsFine c = (known c.0 ≡ true) × (is_comparison c.1 ≡ true)
 
-  pub names-fine : (es : Eqns) (cs : List Comparison) → Names known ds es cs → AllByRecursion IsFine cs
+  pub names-fine : (es : Eqns) (cs : List Comparison) → Names integer known es cs → AllByRecursion IsFine cs
   names-fine every all no_more = tt
   names-fine every all (other e es cs q h) = names-fine es cs h
-  names-fine every all (comparison s t u y o a b es cs p q r h) = ((q, p, r), names-fine es cs h)
+  names-fine every all (comparison s t u y o a b es cs p int q h) = ((q, p), names-fine es cs h)
 
 -- ---- their places
 
-abbrev pub rights : (known : List ℕ → Bool) (ds : List Decl) (es : Eqns) (cs : List Comparison) → Names known ds es cs → (Place → Place) → List Place
-rights known ds every all no_more w = []
-rights known ds every all (other e es cs q h) w = rights known ds es cs h (below Tail w)
-rights known ds every all (comparison s t u y o a b es cs p q r h) w = w (Head ∷ Right ∷ []) ∷ rights known ds es cs h (below Tail w)
+abbrev pub rights : (integer : Expr → Bool) (known : List ℕ → Bool) (es : Eqns) (cs : List Comparison) → Names integer known es cs → (Place → Place) → List Place
+rights integer known every all no_more w = []
+rights integer known every all (other e es cs q h) w = rights integer known es cs h (below Tail w)
+rights integer known every all (comparison s t u y o a b es cs p int q h) w = w (Head ∷ Right ∷ []) ∷ rights integer known es cs h (below Tail w)
 
 abbrev pub truths : List Place → List FreePlace
 truths ps = map (λ (p : Place). (p, ty.Bool)) ps
 
-pub named-is : (known : List ℕ → Bool) (ds : List Decl) (es : Eqns) (cs : List Comparison) (h : Names known ds es cs) (w : Place → Place) → named_in known ds es w ≡ truths (rights known ds es cs h w)
-named-is known ds every all no_more w = refl
-named-is known ds every all (other e es cs q h) w = ap (λ c. if_named c (w (Head ∷ Right ∷ [])) ++ named_in known ds es (below Tail w)) q ∙ named-is known ds es cs h (below Tail w)
-named-is known ds every all (comparison s t u y o a b es cs p q r h) w =
-    ap (λ z. if_named (if z && (known y && is_base (clock_in ds y)) then Some (y, o) else None) (w (Head ∷ Right ∷ [])) ++ named_in known ds es (below Tail w)) p
-    ∙ ap₂ (λ z c. if_named (if z && is_base c then Some (y, o) else None) (w (Head ∷ Right ∷ [])) ++ named_in known ds es (below Tail w)) q r
-    ∙ ap (λ qs. (w (Head ∷ Right ∷ []), ty.Bool) ∷ qs) (named-is known ds es cs h (below Tail w))
+pub named-is : (integer : Expr → Bool) (known : List ℕ → Bool) (es : Eqns) (cs : List Comparison) (h : Names integer known es cs) (w : Place → Place) → named_in integer known es w ≡ truths (rights integer known es cs h w)
+named-is integer known every all no_more w = refl
+named-is integer known every all (other e es cs q h) w = ap (λ c. if_named c (w (Head ∷ Right ∷ [])) ++ named_in integer known es (below Tail w)) q ∙ named-is integer known es cs h (below Tail w)
+named-is integer known every all (comparison s t u y o a b es cs p int q h) w =
+    let rest = named_in integer known es (below Tail w) in
+    ap₂ (λ z v. if_named (if z && (v && known y) then Some (y, o, a) else None) (w (Head ∷ Right ∷ [])) ++ rest) p int
+    ∙ ap (λ z. if_named (if z then Some (y, o, a) else None) (w (Head ∷ Right ∷ [])) ++ rest) q
+    ∙ ap (λ qs. (w (Head ∷ Right ∷ []), ty.Bool) ∷ qs) (named-is integer known es cs h (below Tail w))
 
 -- ---- events of which nothing is said
 
@@ -199,80 +196,61 @@ module _ (outputs : List ℕ → List (List ℕ)) (enums : Enumerations) (types 
   equation-many e = as-many (walk_eqn e) (in_equation e) _ (in_eqn e) (eqn-takes outputs enums e same_name types 0 (λ p. p) (λ p. p)) (eqn-leaves e)
 
   -- what is said of events, in the order of making
-  abbrev pub made_labels : (known : List ℕ → Bool) (ds : List Decl) (es : Eqns) (cs : List Comparison) → Names known ds es cs → List (Option Comparison)
-  made_labels known ds every all no_more = []
-  made_labels known ds every all (other e es cs q h) = nones (in_equation e) ++ made_labels known ds es cs h
-  made_labels known ds every all (comparison s t u y o a b es cs p q r h) = (nones (in_part a) ++ (nones (in_part b) ++ Some (y, o) ∷ [])) ++ made_labels known ds es cs h
+  abbrev pub made_labels : (integer : Expr → Bool) (known : List ℕ → Bool) (es : Eqns) (cs : List Comparison) → Names integer known es cs → List (Option Comparison)
+  made_labels integer known every all no_more = []
+  made_labels integer known every all (other e es cs q h) = nones (in_equation e) ++ made_labels integer known es cs h
+  made_labels integer known every all (comparison s t u y o a b es cs p int q h) = (nones (in_part a) ++ (nones (in_part b) ++ Some (y, o, a) ∷ [])) ++ made_labels integer known es cs h
 
   -- and in that of a walk
-  abbrev pub walked_labels : (known : List ℕ → Bool) (ds : List Decl) (es : Eqns) (cs : List Comparison) → Names known ds es cs → List (Option Comparison)
-  walked_labels known ds every all no_more = []
-  walked_labels known ds every all (other e es cs q h) = (walk_eqn e (nones (in_equation e))).0 ++ walked_labels known ds es cs h
-  walked_labels known ds every all (comparison s t u y o a b es cs p q r h) = Some (y, o) ∷ (((walk a (nones (in_part a))).0 ++ (walk b (nones (in_part b))).0) ++ walked_labels known ds es cs h)
+  abbrev pub walked_labels : (integer : Expr → Bool) (known : List ℕ → Bool) (es : Eqns) (cs : List Comparison) → Names integer known es cs → List (Option Comparison)
+  walked_labels integer known every all no_more = []
+  walked_labels integer known every all (other e es cs q h) = (walk_eqn e (nones (in_equation e))).0 ++ walked_labels integer known es cs h
+  walked_labels integer known every all (comparison s t u y o a b es cs p int q h) = Some (y, o, a) ∷ (((walk a (nones (in_part a))).0 ++ (walk b (nones (in_part b))).0) ++ walked_labels integer known es cs h)
 
-  pub are-labelled : (known : List ℕ → Bool) (ds : List Decl) (es : Eqns) (cs : List Comparison) (h : Names known ds es cs) → AreLabelled outputs (eqns_of (lowered_eqns enums same_name types 0 es)) (made_labels known ds es cs h)
-  are-labelled known ds every all no_more = none_labelled
-  are-labelled known ds every all (other e es cs q h) =
-      unlabelled (lowered_eqn enums same_name types 0 e) (eqns_of (lowered_eqns enums same_name types 0 es)) (made_labels known ds es cs h) (nones (in_equation e) ++ made_labels known ds es cs h) refl (are-labelled known ds es cs h)
-  are-labelled known ds every all (comparison s t u y o a b es cs p q r h) =
-      labelled s t u y o (renamed same_name a) (renamed same_name b) (eqns_of (lowered_eqns enums same_name types 0 es)) (made_labels known ds es cs h)
-      ((nones (in_part a) ++ (nones (in_part b) ++ Some (y, o) ∷ [])) ++ made_labels known ds es cs h) (order-compares o p) refl (are-labelled known ds es cs h)
+  pub are-labelled : (integer : Expr → Bool) (known : List ℕ → Bool) (es : Eqns) (cs : List Comparison) (h : Names integer known es cs) → AreLabelled outputs (eqns_of (lowered_eqns enums same_name types 0 es)) (made_labels integer known es cs h)
+  are-labelled integer known every all no_more = none_labelled
+  are-labelled integer known every all (other e es cs q h) =
+      unlabelled (lowered_eqn enums same_name types 0 e) (eqns_of (lowered_eqns enums same_name types 0 es)) (made_labels integer known es cs h) (nones (in_equation e) ++ made_labels integer known es cs h) refl (are-labelled integer known es cs h)
+  are-labelled integer known every all (comparison s t u y o a b es cs p int q h) =
+      labelled s t u y o (renamed same_name a) (renamed same_name b) a (eqns_of (lowered_eqns enums same_name types 0 es)) (made_labels integer known es cs h)
+      ((nones (in_part a) ++ (nones (in_part b) ++ Some (y, o, a) ∷ [])) ++ made_labels integer known es cs h) (comparison-compares o p) (itself a) refl (are-labelled integer known es cs h)
 
-  pub walk-labels : (known : List ℕ → Bool) (ds : List Decl) (es : Eqns) (cs : List Comparison) (h : Names known ds es cs) (R : List (Option Comparison)) → walk_eqns es (made_labels known ds es cs h ++ R) ≡ (walked_labels known ds es cs h, R)
-  walk-labels known ds every all no_more R = refl
-  walk-labels known ds every all (other e es cs q h) R =
+  pub walk-labels : (integer : Expr → Bool) (known : List ℕ → Bool) (es : Eqns) (cs : List Comparison) (h : Names integer known es cs) (R : List (Option Comparison)) → walk_eqns es (made_labels integer known es cs h ++ R) ≡ (walked_labels integer known es cs h, R)
+  walk-labels integer known every all no_more R = refl
+  walk-labels integer known every all (other e es cs q h) R =
       let A : List (Option Comparison) = nones (in_equation e) in
-      let rest = made_labels known ds es cs h in
+      let rest = made_labels integer known es cs h in
       ap (λ xs. let x = walk_eqn e xs in behind x.0 (walk_eqns es x.1)) (append_assoc A rest R)
       ∙ ap (λ (x : Walked (Option Comparison)). behind x.0 (walk_eqns es x.1)) (eqn-local e A (rest ++ R) (length-map (in_equation e) (λ (s : Spot). None) ∙ equation-many e))
-      ∙ ap (λ (y : Walked (Option Comparison)). behind (walk_eqn e A).0 y) (walk-labels known ds es cs h R)
-  walk-labels known ds every all (comparison s t u y o a b es cs p q r h) R =
+      ∙ ap (λ (y : Walked (Option Comparison)). behind (walk_eqn e A).0 y) (walk-labels integer known es cs h R)
+  walk-labels integer known every all (comparison s t u y o a b es cs p int q h) R =
       let A : List (Option Comparison) = nones (in_part a) in
       let B : List (Option Comparison) = nones (in_part b) in
-      let own : List (Option Comparison) = Some (y, o) ∷ [] in
-      let rest = made_labels known ds es cs h in
+      let own : List (Option Comparison) = Some (y, o, a) ∷ [] in
+      let rest = made_labels integer known es cs h in
       let tail : List (Option Comparison) = rest ++ R in
       let pair : List (Option Comparison) → Walked (Option Comparison) = (λ xs. let x = walk a xs in behind x.0 (walk b x.1)) in
-      let first : walk a (A ++ (B ++ Some (y, o) ∷ tail)) ≡ ((walk a A).0, B ++ Some (y, o) ∷ tail) = expr-local a A (B ++ Some (y, o) ∷ tail) (length-map (in_part a) (λ (s : Spot). None) ∙ part-many a) in
-      let second : walk b (B ++ Some (y, o) ∷ tail) ≡ ((walk b B).0, Some (y, o) ∷ tail) = expr-local b B (Some (y, o) ∷ tail) (length-map (in_part b) (λ (s : Spot). None) ∙ part-many b) in
-      let both : pair (A ++ (B ++ Some (y, o) ∷ tail)) ≡ ((walk a A).0 ++ (walk b B).0, Some (y, o) ∷ tail) =
+      let first : walk a (A ++ (B ++ Some (y, o, a) ∷ tail)) ≡ ((walk a A).0, B ++ Some (y, o, a) ∷ tail) = expr-local a A (B ++ Some (y, o, a) ∷ tail) (length-map (in_part a) (λ (s : Spot). None) ∙ part-many a) in
+      let second : walk b (B ++ Some (y, o, a) ∷ tail) ≡ ((walk b B).0, Some (y, o, a) ∷ tail) = expr-local b B (Some (y, o, a) ∷ tail) (length-map (in_part b) (λ (s : Spot). None) ∙ part-many b) in
+      let both : pair (A ++ (B ++ Some (y, o, a) ∷ tail)) ≡ ((walk a A).0 ++ (walk b B).0, Some (y, o, a) ∷ tail) =
       ap (λ (x : Walked (Option Comparison)). behind x.0 (walk b x.1)) first ∙ ap (λ (x : Walked (Option Comparison)). behind (walk a A).0 x) second in
-      let laid : ((A ++ (B ++ own)) ++ rest) ++ R ≡ A ++ (B ++ Some (y, o) ∷ tail) =
+      let laid : ((A ++ (B ++ own)) ++ rest) ++ R ≡ A ++ (B ++ Some (y, o, a) ∷ tail) =
       append_assoc (A ++ (B ++ own)) rest R ∙ append_assoc A (B ++ own) tail ∙ ap (λ xs. A ++ xs) (append_assoc B own tail) in
       ap (λ xs. let x = (if compares o then in_front (pair xs) else pair xs) in behind x.0 (walk_eqns es x.1)) laid
-      ∙ ap (λ f. let v = pair (A ++ (B ++ Some (y, o) ∷ tail)) in let x = (if f then in_front v else v) in behind x.0 (walk_eqns es x.1)) (order-compares o p)
+      ∙ ap (λ f. let v = pair (A ++ (B ++ Some (y, o, a) ∷ tail)) in let x = (if f then in_front v else v) in behind x.0 (walk_eqns es x.1)) (comparison-compares o p)
       ∙ ap (λ (v : Walked (Option Comparison)). let x = in_front v in behind x.0 (walk_eqns es x.1)) both
-      ∙ ap (λ (x : Walked (Option Comparison)). behind (Some (y, o) ∷ ((walk a A).0 ++ (walk b B).0)) x) (walk-labels known ds es cs h R)
+      ∙ ap (λ (x : Walked (Option Comparison)). behind (Some (y, o, a) ∷ ((walk a A).0 ++ (walk b B).0)) x) (walk-labels integer known es cs h R)
 
   -- the names are said in their order
-  pub somes-are : (known : List ℕ → Bool) (ds : List Decl) (es : Eqns) (cs : List Comparison) (h : Names known ds es cs) → somes (walked_labels known ds es cs h) ≡ cs
-  somes-are known ds every all no_more = refl
-  somes-are known ds every all (other e es cs q h) =
+  pub somes-are : (integer : Expr → Bool) (known : List ℕ → Bool) (es : Eqns) (cs : List Comparison) (h : Names integer known es cs) → somes (walked_labels integer known es cs h) ≡ cs
+  somes-are integer known every all no_more = refl
+  somes-are integer known every all (other e es cs q h) =
       let A : List (Option Comparison) = nones (in_equation e) in
-      somes-behind (walk_eqn e A).0 (walked_labels known ds es cs h) (still-none (walk_eqn e) (eqn-goes Empty e) A (nones-none (in_equation e))) ∙ somes-are known ds es cs h
-  somes-are known ds every all (comparison s t u y o a b es cs p q r h) =
+      somes-behind (walk_eqn e A).0 (walked_labels integer known es cs h) (still-none (walk_eqn e) (eqn-goes Empty e) A (nones-none (in_equation e))) ∙ somes-are integer known es cs h
+  somes-are integer known every all (comparison s t u y o a b es cs p int q h) =
       let A : List (Option Comparison) = nones (in_part a) in
       let B : List (Option Comparison) = nones (in_part b) in
-      let rest = walked_labels known ds es cs h in
-      ap (λ xs. (y, o) ∷ somes xs) (append_assoc (walk a A).0 (walk b B).0 rest)
-      ∙ ap (λ zs. (y, o) ∷ zs) (somes-behind (walk a A).0 ((walk b B).0 ++ rest) (still-none (walk a) (expr-goes Empty a) A (nones-none (in_part a)))
-      ∙ somes-behind (walk b B).0 rest (still-none (walk b) (expr-goes Empty b) B (nones-none (in_part b))) ∙ somes-are known ds es cs h)
-
--- ---- clocks
-
-reverse-none : {A : Type 0} (xs : List A) → reverse xs ≡ [] → xs ≡ []
-reverse-none xs h = sym (reverse-reverse xs) ∙ ap reverse h
-
--- a name on the base clock has no path, also without automata
-pub base-path : (ds : List Decl) (y : List ℕ) → clock_in ds y ≡ [] → path_of (renamed_decls same_name ds) y ≡ []
-base-path [] y h = refl
-base-path (d ∷ ds) y h = by (bytes_eq d.name y) h (λ k. base-path ds y k)
-  where
-    of : (o : Option (List (Cons × List ℕ))) → d.clock ≡ o → written d.clock ≡ [] → path_written (option_map (renamed_path same_name) o) ≡ []
-    of None e k = refl
-    of (Some path) e k = ap (renamed_path same_name) (reverse-none path (ap written (sym e) ∙ k))
-
-    by : (b : Bool) → (if b then written d.clock else clock_in ds y) ≡ [] → (clock_in ds y ≡ [] → path_of (renamed_decls same_name ds) y ≡ [])
-        → (if b then path_written (option_map (renamed_path same_name) d.clock) else path_of (renamed_decls same_name ds) y) ≡ []
-    by true k rest = of d.clock refl k
-    by false k rest = rest k
+      let rest = walked_labels integer known es cs h in
+      ap (λ xs. (y, o, a) ∷ somes xs) (append_assoc (walk a A).0 (walk b B).0 rest)
+      ∙ ap (λ zs. (y, o, a) ∷ zs) (somes-behind (walk a A).0 ((walk b B).0 ++ rest) (still-none (walk a) (expr-goes Empty a) A (nones-none (in_part a)))
+      ∙ somes-behind (walk b B).0 rest (still-none (walk b) (expr-goes Empty b) B (nones-none (in_part b))) ∙ somes-are integer known es cs h)

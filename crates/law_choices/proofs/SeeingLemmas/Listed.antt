@@ -1,5 +1,5 @@
--- Of a node whose comparisons have names, what is watched are the inputs and the comparisons by order, and these hold values of their types: the instant's own wherever it looks.
-use Rattle.std.proofs.Common.{◌≡◌, ◌⊎◌, inl, inr, ℕ, suc, ◌+◌, ◌≤◌, ◌<◌, Bool, true, if◌then◌else◌, List, [], ◌∷◌, ◌++◌, length, map, slice_get, Option, None, Some, refl, sym, ap, ap₂, subst, ◌∙◌, arith}
+-- Of a node whose comparisons have names, what is watched are the inputs and the comparisons, and these hold values of their types: the instant's own wherever it looks.
+use Rattle.std.proofs.Common.{◌≡◌, ◌⊎◌, inl, inr, ℕ, suc, ◌+◌, ◌≤◌, ◌<◌, Bool, true, false, if◌then◌else◌, List, [], ◌∷◌, ◌++◌, length, map, slice_get, Option, None, Some, refl, sym, ap, ap₂, subst, ◌∙◌, arith}
 use Rattle.std.specs.Prelude.{⊤}
 use Rattle.std.specs.List.{AllByRecursion, flat_map, range_with_len}
 use Rattle.std.proofs.lemmas.List.{append-nil, length-append}
@@ -7,19 +7,19 @@ use Rattle.hp_base.specs.Kinds.{KindData, Bools, Ints, Constructors, IsOfKind}
 use Rattle.hp_base.specs.declared.ty.Ty.{Ty}
 use Rattle.hp_base.specs.declared.ty.Ty.TheVariants as ty
 use Rattle.hp_base.specs.declared.value.Value.{Value}
-use Rattle.hp_base.specs.declared.value.Value.TheVariants.{B, E, I, Star}
-use Rattle.hp_obc.specs.Form.{binary_kind, for_ints, result_kind}
+use Rattle.hp_base.specs.declared.value.Value.TheVariants.{Absent, B, E, I, Star}
+use Rattle.hp_obc.specs.Form.{binary_kind, result_kind}
 use Rattle.hp_obc.specs.Machines.{ObcType}
 use Rattle.hp_tree.specs.declared.expr.Op2.{Op2}
 use Rattle.hp_tree.specs.declared.expr.Op2.TheVariants as op
 use Rattle.hp_tree.specs.Blocks.{Decl}
 use Rattle.hp_tree.specs.Programs.{Node, TypeDecl}
-use Rattle.hp_tree.specs.Operators.{marked}
+use Rattle.hp_tree.specs.Operators.{is_comparison, marked}
 use Rattle.hp_tree.specs.Instant.{Body, Head, Instant, Named, Place, Tail, alone, in_row}
 use Rattle.hp_tree.specs.Meaning.{Nodes}
 use Rattle.hp_tree.specs.Values.{AreOf, IsOf}
 use Rattle.hp_flat.specs.declared.equation.Atom.{Atom}
-use Rattle.hp_flat.specs.declared.equation.Atom.TheVariants.{Variable as Read, Value as Fixed}
+use Rattle.hp_flat.specs.declared.equation.Atom.TheVariants.{Variable as Read}
 use Rattle.hp_flat.specs.declared.node.FlatTy.{FlatTy}
 use Rattle.hp_flat.specs.declared.node.FlatTy.TheVariants as flat
 use Rattle.hp_flat.specs.Equations.{Clock, FlatEqn, Right, operator}
@@ -31,17 +31,18 @@ use Rattle.hp_meaning.specs.Contract.FreePlaces.{IsFree}
 use Rattle.hp_meaning.specs.Contract.Slots.{FreePlace, Slot, control, free, free_among, input, register}
 use Rattle.law_automata.specs.Lowered.Standing.{Along}
 use Rattle.law_equations.specs.Flattened.Flatten.{obc_two}
-use Rattle.law_equations.specs.Made.Making.{Known}
+use Rattle.law_equations.specs.Made.Making.{Known, sketch_node}
 use Rattle.law_equations.specs.Meaning.Instants as flows
-use Rattle.law_equations.specs.Meaning.Kinding.{AtomHasKind, Callees, EqnKinds, HaveKinds, RightHasKinds, kind_of_type, variable_kind}
-use Rattle.law_equations.specs.Meaning.Reactions.{Answers, Holds}
-use Rattle.law_equations.specs.Meaning.Scheduling.{EqnWithin}
+use Rattle.law_equations.specs.Meaning.Kinding.{Callees, EqnKinds, HaveKinds, RightHasKinds, kind_of_type, variable_kind}
+use Rattle.law_equations.specs.Meaning.Reactions.{Answers, Holds, is_set}
+use Rattle.law_equations.specs.Meaning.Scheduling.{EqnWithin, clock_variables}
+use Rattle.law_equations.proofs.FewerLemmas.AlikeLaws.{holds-same}
 use Rattle.law_games.specs.Mirror.Memories.{SlotsFit}
 use Rattle.law_values.specs.Filled.Under.{Under}
 use Rattle.law_wellmade.specs.Timely.Kinds.{kind_of, kinds_of_decls}
-use Rattle.hp_watch.specs.Adding.{some_value, type_at}
+use Rattle.hp_watch.specs.Adding.{some_value, type_at, type_of as type_in}
 use Rattle.hp_watch.specs.Embedding.{embedded}
-use Rattle.hp_watch.specs.Watching.{Observing, Placed, Surveyed, called_by, clock_by, clock_of, compares_integers, free_by, free_input, free_moved, free_placed, free_placed_by, free_target, is_integer, own_site, placed, reads_integer, shift_at}
+use Rattle.hp_watch.specs.Watching.{Observing, Placed, Surveyed, called_by, clock_by, clock_of, free_by, free_input, free_moved, free_placed, free_placed_by, free_target, is_integer, own_site, placed, shift_at}
 use Rattle.hp_watch.specs.declared.watching.Free.{Free}
 use Rattle.law_choices.specs.Adding.Lifts.{HaveBytes}
 use Rattle.law_choices.specs.Chosen.Laws.{is_seen}
@@ -50,11 +51,13 @@ use Rattle.law_choices.specs.Coded.Codes.{bits_at, bits_of_kind, bits_of_value}
 use Rattle.law_choices.specs.Coded.Laws.{IsTypedAt}
 use Rattle.law_choices.specs.Flat.Names.{is_body_name, variable_of}
 use Rattle.law_choices.specs.InTurn.Nodes.{Contracted}
+use Rattle.law_choices.specs.Places.Named.{HasCopy}
 use Rattle.law_choices.specs.Playing.Inputs.{placed as place_of, places_in_row}
-use Rattle.law_choices.specs.Seeing.Comparing.{Comparison, is_order}
+use Rattle.law_choices.specs.Seeing.Comparing.{Comparison}
 use Rattle.law_choices.specs.Seeing.Held.{AreHeld}
 use Rattle.law_choices.proofs.AddingLemmas.One.{kind-at}
 use Rattle.law_choices.proofs.AddingLemmas.Surveyed.{at_number, get_front, number_below}
+use Rattle.law_choices.proofs.ClosedLemmas.ClosedLaws.{each_other}
 use Rattle.law_choices.proofs.CodedLemmas.Kinds.{code_bits_law, kind_bits_law}
 use Rattle.law_choices.proofs.InTurnLemmas.Contracted.{Ground, NodeLaws}
 use Rattle.law_choices.proofs.PlacesLemmas.Named.{copy_law}
@@ -64,6 +67,7 @@ use Rattle.law_choices.proofs.PlayingLemmas.Flags.{declared-cons}
 use Rattle.law_choices.proofs.SeeingLemmas.Defined.{HasItsValue}
 use Rattle.law_choices.proofs.SeeingLemmas.Labels.{somes, truths}
 use Rattle.law_choices.proofs.SeeingLemmas.Ordered.{IsRow, MayBeRow}
+use Rattle.law_choices.proofs.SeeingLemmas.Sole.{each-in, off-unset}
 
 -- ---- lists
 
@@ -203,32 +207,37 @@ module _ (types : List ObcType) (decls : List TypeDecl) (bytes : HaveBytes types
       (one-held (w (Head ∷ [])) f (type_at plant first) d.ty kind bits)
       (inputs-held ds (first + 1) vs (below Tail w) (λ x l. same x (omega (arith, l))) behind others (λ q. are (Tail ∷ q)))
 
--- ---- comparisons by order
+-- ---- comparisons of integers
 
--- they take integers, and give truth values
-ordered-ints : (j k m : KindData) → for_ints Bools j k ≡ Some m → (j ≡ Ints) × (m ≡ Bools)
-ordered-ints Ints Ints m e = (refl, cc)
-ordered-ints Ints Bools m e = absurd cc
-ordered-ints Ints (Constructors t cs) m e = absurd cc
-ordered-ints Bools k m e = absurd cc
-ordered-ints (Constructors t cs) k m e = absurd cc
-
-ordered-kinds : (o : Op2) (j k m : KindData) → is_order o ≡ true → binary_kind (obc_two o) j k ≡ Some m → (j ≡ Ints) × (m ≡ Bools)
-ordered-kinds op.Lt j k m c e = ordered-ints j k m e
-ordered-kinds op.Le j k m c e = ordered-ints j k m e
-ordered-kinds op.Gt j k m c e = ordered-ints j k m e
-ordered-kinds op.Ge j k m c e = ordered-ints j k m e
-ordered-kinds op.Eq j k m c e = absurd cc
-ordered-kinds op.Ne j k m c e = absurd cc
-ordered-kinds op.And j k m c e = absurd cc
-ordered-kinds op.Or j k m c e = absurd cc
-ordered-kinds op.Xor j k m c e = absurd cc
-ordered-kinds op.Imp j k m c e = absurd cc
-ordered-kinds op.Add j k m c e = absurd cc
-ordered-kinds op.Sub j k m c e = absurd cc
-ordered-kinds op.Mul j k m c e = absurd cc
-ordered-kinds op.Div j k m c e = absurd cc
-ordered-kinds op.Rem j k m c e = absurd cc
+-- they give truth values
+compared-kinds : (o : Op2) (k m : KindData) → is_comparison o ≡ true → binary_kind (obc_two o) Ints k ≡ Some m → m ≡ Bools
+compared-kinds op.Eq Ints m c e = cc
+compared-kinds op.Ne Ints m c e = cc
+compared-kinds op.Lt Ints m c e = cc
+compared-kinds op.Le Ints m c e = cc
+compared-kinds op.Gt Ints m c e = cc
+compared-kinds op.Ge Ints m c e = cc
+compared-kinds op.Eq Bools m c e = absurd cc
+compared-kinds op.Ne Bools m c e = absurd cc
+compared-kinds op.Lt Bools m c e = absurd cc
+compared-kinds op.Le Bools m c e = absurd cc
+compared-kinds op.Gt Bools m c e = absurd cc
+compared-kinds op.Ge Bools m c e = absurd cc
+compared-kinds op.Eq (Constructors t cs) m c e = absurd cc
+compared-kinds op.Ne (Constructors t cs) m c e = absurd cc
+compared-kinds op.Lt (Constructors t cs) m c e = absurd cc
+compared-kinds op.Le (Constructors t cs) m c e = absurd cc
+compared-kinds op.Gt (Constructors t cs) m c e = absurd cc
+compared-kinds op.Ge (Constructors t cs) m c e = absurd cc
+compared-kinds op.And k m c e = absurd cc
+compared-kinds op.Or k m c e = absurd cc
+compared-kinds op.Xor k m c e = absurd cc
+compared-kinds op.Imp k m c e = absurd cc
+compared-kinds op.Add k m c e = absurd cc
+compared-kinds op.Sub k m c e = absurd cc
+compared-kinds op.Mul k m c e = absurd cc
+compared-kinds op.Div k m c e = absurd cc
+compared-kinds op.Rem k m c e = absurd cc
 
 no-copy : (o : Op2) (args : List Atom) → IsCopy (operator (obc_two o) args) → ⊥
 no-copy op.Lt args c = c
@@ -247,11 +256,6 @@ no-copy op.Mul args c = c
 no-copy op.Div args c = c
 no-copy op.Rem args c = c
 
-integer-type : (types : List ObcType) (t : FlatTy) → kind_of_type types t ≡ Ints → is_integer t ≡ true
-integer-type types flat.Int e = refl
-integer-type types flat.Bool e = absurd cc
-integer-type types (flat.Enum x) e = absurd cc
-
 truth-type : (types : List ObcType) (t : FlatTy) → kind_of_type types t ≡ Bools → t ≡ flat.Bool
 truth-type types flat.Bool e = refl
 truth-type types flat.Int e = absurd cc
@@ -261,29 +265,23 @@ truth-of : (v : Value) → IsOfKind Bools v → (b : Bool) × (v ≡ B b)
 truth-of (B b) h = (b, refl)
 truth-of v h = absurd h
 
--- what is made of it gives a free place
-module _ (types : List ObcType) (callees : Callees) (n : FlatNode) where
-  integer-read : (a : Atom) → AtomHasKind types callees n.variables a Ints → reads_integer n a ≡ true
-  integer-read (Read x) h = integer-type types (type_at n x) (sym (kind-at types n x) ∙ h)
-  integer-read (Fixed (I v)) h = refl
-  integer-read (Fixed v) h = absurd h.0
-
-  -- its operands are integers, and its target is a truth value
-  pub order-typed : (o : Op2) (a b : Atom) (x : ℕ) → is_order o ≡ true → RightHasKinds types callees n.variables (operator (obc_two o) (a ∷ b ∷ [])) (variable_kind types n.variables x ∷ []) → (compares_integers n (a ∷ b ∷ []) ≡ true) × (type_at n x ≡ flat.Bool)
-  order-typed o a b x c h = by h.0 h.1 h.2 h.3 h.4
-    where
-      by : (js : List KindData) → HaveKinds types callees n.variables (a ∷ b ∷ []) js → (k : KindData) → result_kind (obc_two o) js ≡ Some k → variable_kind types n.variables x ∷ [] ≡ k ∷ [] → (reads_integer n a ≡ true) × (type_at n x ≡ flat.Bool)
-      by (j ∷ l ∷ []) g k r e =
-          let kinds = ordered-kinds o j l k c r in
-          let same : variable_kind types n.variables x ≡ k = cc in
-          (integer-read a (subst (AtomHasKind types callees n.variables a) kinds.0 g.0), truth-type types (type_at n x) (sym (kind-at types n x) ∙ same ∙ kinds.1))
-      by [] g k r e = absurd g
-      by (j ∷ []) g k r e = absurd g.1
-      by (j ∷ l ∷ m ∷ js) g k r e = absurd g.1.1
+-- its target is a truth value
+compared-typed : (types : List ObcType) (callees : Callees) (n : FlatNode) (o : Op2) (a : ℕ) (b : Atom) (x : ℕ) → is_comparison o ≡ true → type_at n a ≡ flat.Int
+    → RightHasKinds types callees n.variables (operator (obc_two o) (Read a ∷ b ∷ [])) (variable_kind types n.variables x ∷ []) → type_at n x ≡ flat.Bool
+compared-typed types callees n o a b x c is h = by h.0 h.1 h.2 h.3 h.4
+  where
+    by : (js : List KindData) → HaveKinds types callees n.variables (Read a ∷ b ∷ []) js → (k : KindData) → result_kind (obc_two o) js ≡ Some k → variable_kind types n.variables x ∷ [] ≡ k ∷ [] → type_at n x ≡ flat.Bool
+    by (j ∷ l ∷ []) g k r e =
+        let first : j ≡ Ints = sym g.0 ∙ kind-at types n a ∙ ap (kind_of_type types) is in
+        let same : variable_kind types n.variables x ≡ k = cc in
+        truth-type types (type_at n x) (sym (kind-at types n x) ∙ same ∙ compared-kinds o l k c (sym (ap (λ z. binary_kind (obc_two o) z l) first) ∙ r))
+    by [] g k r e = absurd g
+    by (j ∷ []) g k r e = absurd g.1
+    by (j ∷ l ∷ m ∷ js) g k r e = absurd g.1.1
 
 -- ---- the node that is watched
 
-module _ (laws : NodeLaws) (types : List ObcType) (all : Callees) (observers : Observing) (n : Node) (c : Contracted) (g : Ground types all observers n c) (k : Known) (low : Node) where
+module _ (laws : NodeLaws) (types : List ObcType) (all : Callees) (observers : Observing) (n : Node) (c : Contracted) (g : Ground types all observers n c) (k : Known) (low : Node) (made : c.plant.variables ≡ (sketch_node k low).variables) where
   abbrev plant : FlatNode
   plant = c.plant
 
@@ -326,42 +324,47 @@ module _ (laws : NodeLaws) (types : List ObcType) (all : Callees) (observers : O
     there : slice_get s.node.eqns m ≡ Some e
     there = let q = more_eqns in ap (λ es. slice_get es m) q.1 ∙ get_front plant.eqns q.0 m (number_below plant.eqns m e x.1) ∙ x.1
 
-    target-below : target_of m r x < length plant.variables
-    target-below =
-        let w = ((g.of_node).based).well in
-        let i = w.within in
-        let h = at_number (EqnWithin (length plant.variables)) plant.eqns m e x.1 i.eqns in
-        (subst (AllByRecursion (λ y. y < length plant.variables)) x.2.targets h.targets).0
+    numbers : EqnWithin (length plant.variables) e
+    numbers = let w = ((g.of_node).based).well in let i = w.within in at_number (EqnWithin (length plant.variables)) plant.eqns m e x.1 i.eqns
 
-    -- the target is on the base clock
-    target-clock : clocks (target_of m r x) ≡ []
+    target-below : target_of m r x < length plant.variables
+    target-below = (subst (AllByRecursion (λ y. y < length plant.variables)) x.2.targets numbers.targets).0
+
+    -- the target is on the clock of the event
+    target-clock : clocks (target_of m r x) ≡ e.clock
     target-clock =
         let keeps = (seen laws types all observers n c g).keeps in
         let h = at_number (DefinesOwn g.clock) plant.eqns m e x.1 (g.of_node).own in
         keeps.same (target_of m r x) target-below ∙ by (subst (AllByRecursion (λ y. (g.clock y ≡ e.clock) ⊎ IsCopy e.right)) x.2.targets h).0
       where
-        by : (g.clock (target_of m r x) ≡ e.clock) ⊎ IsCopy e.right → g.clock (target_of m r x) ≡ []
-        by (inl q) = q ∙ x.2.clock
-        by (inr q) = absurd (no-copy r.1 (x.2.first ∷ x.2.second ∷ []) (subst IsCopy x.2.right q))
+        by : (g.clock (target_of m r x) ≡ e.clock) ⊎ IsCopy e.right → g.clock (target_of m r x) ≡ e.clock
+        by (inl q) = q
+        by (inr q) = absurd (no-copy r.1 (Read x.2.first ∷ x.2.second ∷ []) (subst IsCopy x.2.right q))
 
-    typed-row : (compares_integers s.node (x.2.first ∷ x.2.second ∷ []) ≡ true) × (type_at s.node (target_of m r x) ≡ flat.Bool)
+    -- its first operand is an integer
+    first-typed : type_at s.node x.2.first ≡ flat.Int
+    first-typed =
+        let h = x.2.integer in
+        let at = ap (λ vs. slice_get vs x.2.first) made ∙ h.1 in
+        same-type x.2.first (number_below plant.variables x.2.first h.0 at) ∙ ap type_in at ∙ h.2
+
+    typed-row : type_at s.node (target_of m r x) ≡ flat.Bool
     typed-row =
         let keeps = (seen laws types all observers n c g).keeps in
         let w = (keeps.built).well in
         let h = at_number (EqnKinds types all s.node.variables) s.node.eqns m e there w.kinds in
-        order-typed types all s.node r.1 x.2.first x.2.second (target_of m r x) x.2.by_order
-        (subst (λ ts. RightHasKinds types all s.node.variables (operator (obc_two r.1) (x.2.first ∷ x.2.second ∷ [])) (map (variable_kind types s.node.variables) ts)) x.2.targets
+        compared-typed types all s.node r.1 x.2.first x.2.second (target_of m r x) x.2.compares first-typed
+        (subst (λ ts. RightHasKinds types all s.node.variables (operator (obc_two r.1) (Read x.2.first ∷ x.2.second ∷ [])) (map (variable_kind types s.node.variables) ts)) x.2.targets
         (subst (λ q. RightHasKinds types all s.node.variables q (map (variable_kind types s.node.variables) e.targets)) x.2.right h.right))
 
-    -- one that compares by order gives one free place
+    -- so it gives one free place
     one-free : free_by_number m ≡ place_at m r x ∷ []
     one-free =
-        let t = typed-row in
         let shift = shift_at own_places.shifts m in
         ap (free_placed_by observers own_places m) there
         ∙ ap₂ (λ (q : Right) ts. free_by s.node m q ts ++ free_moved (called_by observers q) shift) x.2.right x.2.targets
-        ∙ ap (λ b. (if b then flat_map (free_target s.node m) (target_of m r x ∷ []) else []) ++ []) t.0
-        ∙ ap (λ ty. ((if is_integer ty then [] else place_at m r x ∷ []) ++ []) ++ []) t.1
+        ∙ ap (λ ty. (if is_integer ty then flat_map (free_target s.node m) (target_of m r x ∷ []) else []) ++ []) first-typed
+        ∙ ap (λ ty. ((if is_integer ty then [] else place_at m r x ∷ []) ++ []) ++ []) typed-row
 
   -- ---- the list of free places
 
@@ -409,38 +412,71 @@ module _ (laws : NodeLaws) (types : List ObcType) (all : Callees) (observers : O
   -- ---- one instant
 
   -- the variables of the plant have the values of an instant in which its equations hold, and names have their values there, wherever these are not Nil
-  module _ (decls : List TypeDecl) (answers : Answers) (js : List flows.Instant) (j i : flows.Instant) (same : (x : ℕ) → x < length plant.variables → j x ≡ i x) (eqs : AllByRecursion (Holds answers js j) plant.eqns) (typed : IsTypedAt types s.node clocks i)
+  module _ (decls : List TypeDecl) (answers : Answers) (js : List flows.Instant) (j i : flows.Instant) (same : (x : ℕ) → x < length plant.variables → j x ≡ i x) (eqs : AllByRecursion (Holds answers js j) plant.eqns)
+      (others : (x : ℕ) → plant.inputs ≤ x → is_set plant.eqns j x ≡ false → j x ≡ Absent) (typed : IsTypedAt types s.node clocks i)
       (types_of_tree : List TypeDecl) (N : Nodes) (ds : List Decl) (now : Instant) (no_star : (p : Place) → now p ≡ Star → ⊥)
       (named : (y : List ℕ) → is_body_name n y ≡ true → (x : ℕ) × (variable_of k low y ≡ Some x) × Under (now (Body ∷ Named y ∷ [])) (j x)) where
     abbrev Its : Comparison → Place → Type 0
     Its r p = HasItsValue (is_body_name n) types_of_tree N ds now no_star r p
 
-    -- the target holds a truth value
-    row-truth : (m : ℕ) (r : Comparison) (x : Row m r) → (b : Bool) × (i (target_of m r x) ≡ B b)
-    row-truth m r x =
+    there-both : (m : ℕ) (r : Comparison) (x : Row m r) → flows.holds x.0.clock j ≡ flows.holds x.0.clock i
+    there-both m r x = holds-same i j x.0.clock (each_other (λ v. v < length plant.variables) (λ v. j v ≡ i v) same (clock_variables x.0.clock) (numbers m r x).clock)
+
+    -- where the event is there, its target holds a truth value
+    row-truth : (m : ℕ) (r : Comparison) (x : Row m r) → flows.holds x.0.clock i ≡ true → (b : Bool) × (i (target_of m r x) ≡ B b)
+    row-truth m r x there_now =
         let v = (((seen laws types all observers n c g).keeps).grows).variables in
         let long = length-append plant.variables v.0 in
         let e = ap length v.1 in
         let below = target-below m r x in
-        let h = typed (target_of m r x) (omega (arith, below, long, e)) (ap (λ d. flows.holds d i) (target-clock m r x)) in
-        truth-of (i (target_of m r x)) (subst (λ t. IsOfKind (kind_of_type types t) (i (target_of m r x))) (typed-row m r x).1 h)
+        let h = typed (target_of m r x) (omega (arith, below, long, e)) (ap (λ d. flows.holds d i) (target-clock m r x) ∙ there_now) in
+        truth-of (i (target_of m r x)) (subst (λ t. IsOfKind (kind_of_type types t) (i (target_of m r x))) (typed-row m r x) h)
 
-    -- and that of the right side, if the instant looks there
-    row-own : (m : ℕ) (r : Comparison) (x : Row m r) (p : Place) → Its r p → is_body_name n r.0 ≡ true → is_seen (erased now) p ≡ true → i (target_of m r x) ≡ now p
-    row-own m r x p its declared seen_there =
-        let truth = its.1 seen_there in
-        let y = named r.0 declared in
-        let value : j y.0 ≡ B truth.0 = subst (λ v. Under v (j y.0)) (its.0 ∙ truth.1) y.2 in
-        let copy : j y.0 ≡ j (target_of m r x) = copy_law answers js j plant.eqns (x.0) (target_of m r x) y.0 eqs (x.2.copied y.0 y.1) (ap (λ d. flows.holds d j) x.2.clock) in
-        sym (same (target_of m r x) (target-below m r x)) ∙ sym copy ∙ value ∙ sym truth.1
+    -- the value of the event, and elsewhere that of a truth value
+    abbrev row_value : (m : ℕ) (r : Comparison) → Row m r → Value
+    row_value m r x = if flows.holds x.0.clock i then i (target_of m r x) else B false
 
-    -- the values that targets hold
+    row-bool : (m : ℕ) (r : Comparison) (x : Row m r) → (b : Bool) × (row_value m r x ≡ B b)
+    row-bool m r x = by (flows.holds x.0.clock i) refl
+      where
+        by : (h : Bool) → flows.holds x.0.clock i ≡ h → (b : Bool) × ((if h then i (target_of m r x) else B false) ≡ B b)
+        by true h = row-truth m r x h
+        by false h = (false, refl)
+
+    -- It is that of the right side, if the instant looks there: the name is there then, and nothing else defines its variable.
+    row-own : (m : ℕ) (r : Comparison) (x : Row m r) (p : Place) → Its r p → is_body_name n r.0 ≡ true → is_seen (erased now) p ≡ true → row_value m r x ≡ now p
+    row-own m r x p its declared seen_there = by (flows.holds x.0.clock j) refl
+      where
+        truth : (b : Bool) × (now p ≡ B b)
+        truth = its.1 seen_there
+
+        own : (v : ℕ) × (variable_of k low r.0 ≡ Some v) × Under (now (Body ∷ Named r.0 ∷ [])) (j v)
+        own = named r.0 declared
+
+        value : j own.0 ≡ B truth.0
+        value = subst (λ v. Under v (j own.0)) (its.0 ∙ truth.1) own.2
+
+        copied : HasCopy plant.eqns x.0 (target_of m r x) own.0
+        copied = x.2.copied own.0 own.1
+
+        no_input : plant.inputs ≤ own.0
+        no_input =
+            let w = ((g.of_node).based).well in
+            (subst (AllByRecursion (λ v. plant.inputs ≤ v)) copied.targets (each-in (λ (q : FlatEqn). AllByRecursion (λ v. plant.inputs ≤ v) q.targets) plant.eqns copied.copy w.no_inputs copied.is_in)).0
+
+        by : (h : Bool) → flows.holds x.0.clock j ≡ h → row_value m r x ≡ now p
+        by true h =
+            ap (λ b. if b then i (target_of m r x) else B false) (sym (there-both m r x) ∙ h) ∙ sym (same (target_of m r x) (target-below m r x)) ∙ sym (copy_law answers js j plant.eqns x.0 (target_of m r x) own.0 eqs copied h)
+            ∙ value ∙ sym truth.1
+        by false h = absurd (let z : B truth.0 ≡ Absent = sym value ∙ others own.0 no_input (off-unset own.0 x.0.clock plant.eqns j (x.2.sole own.0 own.1) h) in cc)
+
+    -- the values that are held
     abbrev pub held_values : (ms : List ℕ) (ls : List (Option Comparison)) → Along MayRow ms ls → List Value
     held_values [] [] h = []
     held_values [] (l ∷ ls) h = absurd h
     held_values (m ∷ ms) [] h = absurd h
     held_values (m ∷ ms) (None ∷ ls) h = held_values ms ls h.1
-    held_values (m ∷ ms) (Some r ∷ ls) h = i (target_of m r h.0) ∷ held_values ms ls h.1
+    held_values (m ∷ ms) (Some r ∷ ls) h = row_value m r h.0 ∷ held_values ms ls h.1
 
     pub held-many : (ms : List ℕ) (ls : List (Option Comparison)) (h : Along MayRow ms ls) → length (held_values ms ls h) ≡ length (somes ls)
     held-many [] [] h = refl
@@ -469,7 +505,7 @@ module _ (laws : NodeLaws) (types : List ObcType) (all : Callees) (observers : O
     own-values values (m ∷ ms) (Some r ∷ ls) (p ∷ ps) h its declared at q (inr f) seen_there = own-values values ms ls ps h.1 its.1 declared.1 at.1 q f seen_there
 
     abbrev IsAt : Instant → (m : ℕ) (r : Comparison) → Row m r → Place → Type 0
-    IsAt given m r x p = given p ≡ i (target_of m r x)
+    IsAt given m r x p = given p ≡ row_value m r x
 
     pub each-at : (given : Instant) (ms : List ℕ) (ls : List (Option Comparison)) (ps : List Place) (h : Along MayRow ms ls) → AreAt given ps (held_values ms ls h) → Each (IsAt given) ms ls ps h
     each-at given [] [] [] h at = tt
@@ -488,17 +524,17 @@ module _ (laws : NodeLaws) (types : List ObcType) (all : Callees) (observers : O
     own-fit given (m ∷ ms) [] ps h at = absurd h
     own-fit given (m ∷ ms) (None ∷ ls) ps h at = own-fit given ms ls ps h.1 at
     own-fit given (m ∷ ms) (Some r ∷ ls) [] h at = absurd at
-    own-fit given (m ∷ ms) (Some r ∷ ls) (p ∷ ps) h at = let t = row-truth m r h.0 in (subst (IsOf decls ty.Bool) (sym (at.0 ∙ t.1)) tt, own-fit given ms ls ps h.1 at.1)
+    own-fit given (m ∷ ms) (Some r ∷ ls) (p ∷ ps) h at = let t = row-bool m r h.0 in (subst (IsOf decls ty.Bool) (sym (at.0 ∙ t.1)) tt, own-fit given ms ls ps h.1 at.1)
 
     pub own-typed : (given : Instant) (ms : List ℕ) (ls : List (Option Comparison)) (ps : List Place) (h : Along MayRow ms ls) → AreAt given ps (held_values ms ls h) → AllByRecursion (IsOfType decls given) (truths ps)
     own-typed given ms ls ps h at = own-fit given ms ls ps h (each-at given ms ls ps h at)
 
-    -- the bits of a target are the code of what it holds
-    row-held : (given : Instant) (m : ℕ) (r : Comparison) (x : Row m r) (p : Place) → given p ≡ i (target_of m r x) → IsHeld types decls s.node i given (p, ty.Bool) (place_at m r x)
+    -- the bits of a free place are the code of what it holds
+    row-held : (given : Instant) (m : ℕ) (r : Comparison) (x : Row m r) (p : Place) → given p ≡ row_value m r x → IsHeld types decls s.node i given (p, ty.Bool) (place_at m r x)
     row-held given m r x p at =
-        let t = row-truth m r x in
-        let clock : clock_of s.node (Some m) ≡ [] = ap clock_by (there m r x) ∙ x.2.clock in
-        ap (λ ty. bits_of_value types ty (if flows.holds (clock_of s.node (Some m)) i then i (target_of m r x) else some_value ty)) (typed-row m r x).1
+        let t = row-bool m r x in
+        let clock : clock_of s.node (Some m) ≡ x.0.clock = ap clock_by (there m r x) in
+        ap (λ ty. bits_of_value types ty (if flows.holds (clock_of s.node (Some m)) i then i (target_of m r x) else some_value ty)) (typed-row m r x)
         ∙ ap (λ d. bits_of_value types flat.Bool (if flows.holds d i then i (target_of m r x) else some_value flat.Bool)) clock
         ∙ ap (bits_of_value types flat.Bool) t.1
         ∙ sym (ap (code decls ty.Bool) (at ∙ t.1))

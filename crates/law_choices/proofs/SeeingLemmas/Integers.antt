@@ -1,0 +1,257 @@
+-- In a ready program what is an integer in the tree is one by the judgement of types; so the first operands of comparisons of integers that have names are. Each such name has a variable that is defined on one clock alone.
+use Rattle.std.proofs.Common.{◌≡◌, ℕ, Bool, true, false, if◌then◌else◌, List, [], ◌∷◌, ◌++◌, map, reverse, Option, None, Some, refl, sym, ap, subst, ◌∙◌}
+use Rattle.std.specs.Prelude.{option_map}
+use Rattle.std.specs.List.{AllByRecursion}
+use Rattle.std.proofs.lemmas.List.{append-nil, map-append}
+use Rattle.hp_base.specs.Known.Known.{lookup}
+use Rattle.hp_base.specs.declared.ty.Const.TheVariants as const
+use Rattle.hp_base.specs.declared.ty.Ty.{Ty}
+use Rattle.hp_base.specs.declared.ty.Ty.TheVariants as ty
+use Rattle.hp_obc.specs.Form.{TypesForm}
+use Rattle.hp_tree.specs.declared.expr.Op2.{Op2}
+use Rattle.hp_tree.specs.declared.expr.Op2.TheVariants as op
+use Rattle.hp_tree.specs.declared.program.Item.{Item}
+use Rattle.hp_tree.specs.declared.program.Item.TheVariants.{NodeItem}
+use Rattle.hp_tree.specs.Blocks.{Block, block, Decl, Eqns, define, eqns_of, more_eqns}
+use Rattle.hp_tree.specs.Expressions.{Expr, constant, variable, last_of, one, two, choose, pre, fby, arrow, when_is, merge, call, Parts, no_part, more_parts}
+use Rattle.hp_tree.specs.ExpressionTypes as tree
+use Rattle.hp_tree.specs.ExpressionTypes.{typed_in, type_with, type_of_two}
+use Rattle.hp_tree.specs.Meaning.{controls_of, node_among, types_of}
+use Rattle.hp_tree.specs.Operators.{place_in}
+use Rattle.hp_tree.specs.Programs.{TypeDecl, Node}
+use Rattle.hp_meaning.specs.Contract.Slots.{is_int}
+use Rattle.hp_typing.specs.Scopes.{inside_node, with_variables}
+use Rattle.hp_typing.specs.Types.{type_of, types_in, type_of_one, answer, input_type, merge_type}
+use Rattle.law_judged.specs.Named.Scoped.{EachNode}
+use Rattle.law_judged.specs.Typed.Scopes.{Scope}
+use Rattle.law_values.specs.Accepted.Laws.{IsReady}
+use Rattle.law_values.specs.Valued.Fitting.{first_output}
+use Rattle.law_values.specs.Valued.Judged.{Lasts, BlockSound, EqnsSound, ExprSound, NodeSound, PartsSound, body_scope, lasts_in, no_lasts}
+use Rattle.law_values.specs.Valued.Values.{scope_behind}
+use Rattle.law_values.proofs.ValuedLemmas.Typed.{some_is, one_typed, two_typed, if_typed, pair_typed, when_typed, call_typed, merge_typed}
+use Rattle.hp_automata.specs.Lowering.{Enumerations, Types, declaring, enumerations, lowered_eqn, lowered_eqns, lowered_item, lowered_node, lowered_program, same_name}
+use Rattle.hp_automata.specs.Lowering as lowering
+use Rattle.hp_automata.specs.Renaming.{renamed, renamed_decls}
+use Rattle.hp_expand.specs.Numbering.{replaced}
+use Rattle.law_automata.specs.Lowered.Removable.{IsRemovable}
+use Rattle.law_automata.specs.Readied.Laws.{IsWhole}
+use Rattle.law_automata.specs.Readied.Sound.{HaveConstructors, SoundBehind}
+use Rattle.law_automata.proofs.LowerableLemmas.Runs.{lowered_among}
+use Rattle.law_automata.proofs.LowerableLemmas.Texts.{clocked_of, each_reverse}
+use Rattle.law_automata.proofs.LoweredLemmas.Nodes.{itself}
+use Rattle.law_automata.proofs.LoweredLemmas.Programs.{map_reverse}
+use Rattle.law_automata.proofs.LoweredLemmas.RightSteps.{controls_same}
+use Rattle.law_automata.proofs.ReadiedLemmas.SoundPrograms.{ready_sound_law}
+use Rattle.law_automata.proofs.ReadiedLemmas.Whole.{whole_law}
+use Rattle.law_equations.specs.Answered.Answering.{filled_nodes}
+use Rattle.law_equations.specs.Made.Laws.{around_body}
+use Rattle.law_equations.specs.Made.Making.{Body, Known, base_site, each_once, names_of_eqns, outputs_of, over, sketch_block, sketch_node, unknown}
+use Rattle.law_equations.specs.Made.Types.{obc_types_of}
+use Rattle.hp_complete.specs.Declaring.{known_of}
+use Rattle.hp_complete.proofs.KnownLaws.{nodes-known}
+use Rattle.law_drawing.proofs.InshapeLemmas.TypesRead.{Agrees, agrees_body, agrees_inside, own_types}
+use Rattle.law_games.specs.ReadyGames.Laws.{Stands}
+use Rattle.law_wellmade.proofs.BegunLemmas.Beginning.{sound_at}
+use Rattle.law_wellmade.proofs.BegunLemmas.BlockRegisters.{around_sees, declared_types, grounded_more, layer_sees}
+use Rattle.law_wellmade.proofs.BegunLemmas.Grounds.{grounded}
+use Rattle.law_wellmade.proofs.BegunLemmas.Items.{no_variables, some_constructors, types_low}
+use Rattle.law_wellmade.proofs.BegunLemmas.NamesApart.{lowered_apart}
+use Rattle.law_wellmade.proofs.BegunLemmas.Typing.{Grounded, SeesTypes}
+use Rattle.law_wellmade.proofs.TestedLemmas.FittedLaws.{differ_law}
+use Rattle.law_wellmade.proofs.TestedLemmas.TestedPrograms.{tested_law}
+use Rattle.law_wellmade.specs.Timely.Tested.{AreTested}
+use Rattle.law_choices.specs.Flat.Names.{body_sight, variable_of}
+use Rattle.law_choices.specs.Seeing.Comparing.{Comparison, is_integer, types_around}
+use Rattle.law_choices.proofs.ClosedLemmas.ClosedLaws.{each_other}
+use Rattle.law_choices.proofs.FlatLemmas.Among.{each_at, tested_at}
+use Rattle.law_choices.proofs.ObservedLemmas.Said.{decls_same}
+use Rattle.law_choices.proofs.OnClocksLemmas.Programs.{some_of}
+use Rattle.law_choices.proofs.OnClocksLemmas.WellMade.{ready_knows}
+use Rattle.law_choices.proofs.SeeingLemmas.Labels.{Names, comparison, no_more, other}
+use Rattle.law_choices.proofs.SeeingLemmas.Sole.{HasOneClock, IsSole, another, its_equation, node-sole}
+
+-- ---- types
+
+int-type : (t : Ty) → is_int t ≡ true → t ≡ ty.Int
+int-type ty.Int h = refl
+int-type ty.Bool h = absurd cc
+int-type (ty.Enum x) h = absurd cc
+
+int-answer : (o : Op2) → is_int (type_of_two o) ≡ true → answer o ≡ ty.Int
+int-answer op.Add h = refl
+int-answer op.Sub h = refl
+int-answer op.Mul h = refl
+int-answer op.Div h = refl
+int-answer op.Rem h = refl
+int-answer op.And h = absurd cc
+int-answer op.Or h = absurd cc
+int-answer op.Xor h = absurd cc
+int-answer op.Imp h = absurd cc
+int-answer op.Eq h = absurd cc
+int-answer op.Ne h = absurd cc
+int-answer op.Lt h = absurd cc
+int-answer op.Le h = absurd cc
+int-answer op.Gt h = absurd cc
+int-answer op.Ge h = absurd cc
+
+-- a constructor is no integer
+not-int : (types : List TypeDecl) (c : List ℕ) → is_int (type_with types c) ≡ true → ⊥
+not-int [] c h = absurd cc
+not-int (d ∷ types) c h = by (tree.some_place (place_in 0 d.cons c)) h (not-int types c)
+  where
+    by : (b : Bool) → is_int (if b then ty.Enum d.name else type_with types c) ≡ true → (is_int (type_with types c) ≡ true → ⊥) → ⊥
+    by true h f = absurd cc
+    by false h f = f h
+
+-- Where names have the types of the scope, and `outs` has the outputs of nodes, what is an integer in the tree is judged one.
+module _ (types : List TypeDecl) (among : List ℕ → Option Node) (s : Scope) (lasts : Lasts) (names : tree.Scope) (known : Agrees s names) (outs : List ℕ → List Decl) (outs_are : (f : List ℕ) (n : Node) → lookup s.nodes f ≡ Some n → outs f ≡ n.outputs) where
+  abbrev IsInt : Expr → Type 0
+  IsInt e = is_int (tree.type_of types outs e names) ≡ true
+
+  first-int : (ds : List Decl) (t : Ty) → input_type ds ≡ Some t → is_int (tree.first_type types outs ds) ≡ true → t ≡ ty.Int
+  first-int [] t e h = absurd cc
+  first-int (d ∷ ds) t e h = sym (some_is d.ty t e) ∙ int-type d.ty h
+
+  mutual
+    pub int-read : (e : Expr) (t : Ty) → ExprSound types among s lasts e → type_of s e ≡ Some t → IsInt e → t ≡ ty.Int
+    int-read (constant a (const.B b)) t ok h i = absurd cc
+    int-read (constant a (const.I n)) t ok h i = sym (some_is ty.Int t h)
+    int-read (constant a (const.E c)) t ok h i = absurd (not-int types c i)
+    int-read (variable a x) t ok h i = sym (known x t h) ∙ int-type (names x) i
+    int-read (last_of a x) t ok h i = sym (known x t h) ∙ int-type (names x) i
+    int-read (one a o b) t ok h i =
+        let q = one_typed (type_of_one o) (type_of s b) t h in
+        sym q.1 ∙ int-read b (type_of_one o) ok q.0 i
+    int-read (two a o b c) t ok h i = sym (two_typed o (type_of s b) (type_of s c) t h).4 ∙ int-answer o i
+    int-read (choose a b c d) t ok h i = int-read c t ok.1.0 (if_typed (type_of s b) (type_of s c) (type_of s d) t h).1 i
+    int-read (pre a b) t ok h i = int-read b t ok h i
+    int-read (fby a b c) t ok h i = int-read b t ok.0 (pair_typed (type_of s b) (type_of s c) t h).0 i
+    int-read (arrow a b c) t ok h i = int-read b t ok.0 (pair_typed (type_of s b) (type_of s c) t h).0 i
+    int-read (when_is a b c x) t ok h i = int-read b t ok (when_typed _ (type_of s b) t h) i
+    int-read (merge a x ps) t ok h i = int-read-in ps (lookup s.variables x) t ok.1 h i
+    int-read (call a f inlined es) t ok h i =
+        let q = call_typed (lookup s.nodes f) (types_in s es) t h in
+        let first : input_type q.0.outputs ≡ Some t = subst (λ o. first_output o ≡ Some t) q.1 q.3 in
+        first-int q.0.outputs t first (subst (λ ds. is_int (tree.first_type types outs ds) ≡ true) (outs_are f q.0 q.1) i)
+
+    int-read-in : (ps : Parts) (name : Option Ty) (t : Ty) → PartsSound types among s lasts ps → merge_type s name ps ≡ Some t → is_int (tree.type_of_parts types outs ps names) ≡ true → t ≡ ty.Int
+    int-read-in no_part name t ok h i = absurd cc
+    int-read-in (more_parts c e ps) name t ok h i = int-read e t ok.0 (merge_typed s name (more_parts c e ps) t h).0 i
+
+  -- so are the first operands of the comparisons of integers of a block
+  module _ (enums : Enumerations) (own : Types) (is_known : List ℕ → Bool) where
+    abbrev pub AreInts : List Comparison → Type 0
+    AreInts cs = AllByRecursion (λ (c : Comparison). type_of s c.2 ≡ Some ty.Int) cs
+
+    pub all-ints : (es : Eqns) (cs : List Comparison) → Names (λ e. is_int (tree.type_of types outs e names)) is_known es cs → EqnsSound types among s lasts (eqns_of (lowered_eqns enums same_name own 0 es)) → AreInts cs
+    all-ints every all no_more ok = tt
+    all-ints every all (other e es cs q h) ok = all-ints es cs h ok.1
+    all-ints every all (comparison s' t u y o a b es cs p int q h) ok =
+        let right = ok.0 in
+        let q = two_typed o (type_of s (renamed same_name a)) (type_of s (renamed same_name b)) right.1.0 right.1.1.0 in
+        let same : renamed same_name a ≡ a = itself a in
+        let judged : type_of s a ≡ Some q.0 = sym (ap (type_of s) same) ∙ q.2 in
+        let is : q.0 ≡ ty.Int = int-read a q.0 (subst (ExprSound types among s lasts) same right.0.0) judged int in
+        (judged ∙ ap Some is, all-ints es cs h ok.1)
+
+-- their names have one equation each
+names-sole : (integer : Expr → Bool) (is_known : List ℕ → Bool) (enums : Enumerations) (own : Types) (es : Eqns) (cs : List Comparison) → Names integer is_known es cs → AllByRecursion (λ (c : Comparison). IsSole c.0 (eqns_of (lowered_eqns enums same_name own 0 es))) cs
+names-sole integer is_known enums own every all no_more = tt
+names-sole integer is_known enums own every all (other e es cs q h) =
+    let rest = eqns_of (lowered_eqns enums same_name own 0 es) in
+    each_other (λ (c : Comparison). IsSole c.0 rest) (λ (c : Comparison). IsSole c.0 (more_eqns (lowered_eqn enums same_name own 0 e) rest)) (λ c g. another (lowered_eqn enums same_name own 0 e) rest g) cs (names-sole integer is_known enums own es cs h)
+names-sole integer is_known enums own every all (comparison s t u y o a b es cs p int q h) =
+    let rest = eqns_of (lowered_eqns enums same_name own 0 es) in
+    let e = define s ((y, t) ∷ []) (two u o (renamed same_name a) (renamed same_name b)) in
+    (its_equation s t u o (renamed same_name a) (renamed same_name b) rest, each_other (λ (c : Comparison). IsSole c.0 rest) (λ (c : Comparison). IsSole c.0 (more_eqns e rest)) (λ c g. another e rest g) cs (names-sole integer is_known enums own es cs h))
+
+-- ---- a node of a ready program
+
+-- The scope of the outermost block of a node without automata, in which names have the types that their variables have; and each name of a comparison has a variable that is defined on one clock.
+pub record IsScoped (k : Known) (low : Node) (cs : List Comparison) : Type 0 where
+  pub types : Scope
+  pub ground : Grounded k types
+  pub sees : SeesTypes k types (body_sight k low)
+  pub ints : AllByRecursion (λ (c : Comparison). type_of types c.2 ≡ Some ty.Int) cs
+  pub sole : AllByRecursion (λ (c : Comparison). (x : ℕ) → variable_of k low c.0 ≡ Some x → HasOneClock x (sketch_node k low).eqns) cs
+
+module _ (program after : List Item) (r : IsReady program after) (removable : IsRemovable after) (form : TypesForm (obc_types_of program)) where
+  abbrev enums : Enumerations
+  enums = enumerations [] after
+
+  abbrev low_program : List Item
+  low_program = lowered_program after
+
+  abbrev k : Known
+  k = known_of low_program
+
+  abbrev types : List TypeDecl
+  types = types_of after
+
+  abbrev outs : List ℕ → List Decl
+  outs f = outputs_of (node_among (reverse after) f)
+
+  has_constructors : HaveConstructors program
+  has_constructors = some_constructors program (some_of (types_of program) form.counts)
+
+  -- the outputs of nodes stay
+  outs-same : (o : Option Node) → outputs_of (option_map (lowered_node enums) o) ≡ outputs_of o
+  outs-same None = refl
+  outs-same (Some n) = refl
+
+  outs-are : (s : Scope) → Grounded k s → (f : List ℕ) (n : Node) → lookup s.nodes f ≡ Some n → outs f ≡ n.outputs
+  outs-are s ground f n h =
+      sym (outs-same (node_among (reverse after) f)) ∙ sym (ap outputs_of (lowered_among enums (reverse after) f)) ∙ sym (ap (λ xs. outputs_of (node_among xs f)) (map_reverse (lowered_item enums) after))
+      ∙ sym (ap outputs_of (nodes-known low_program f)) ∙ ap outputs_of (ground.nodes f n h)
+
+  low-stands : (earlier : List Item) (n : Node) → Stands after earlier n → (later : List Item) × (reverse low_program ≡ later ++ NodeItem (lowered_node enums n) ∷ map (lowered_item enums) earlier)
+  low-stands earlier n e = (map (lowered_item enums) e.0, map_reverse (lowered_item enums) after ∙ ap (map (lowered_item enums)) e.1 ∙ map-append (lowered_item enums) e.0 (NodeItem n ∷ earlier))
+
+  pub scoped : (earlier : List Item) (n : Node) → Stands after earlier n → (ds : List Decl) (es : Eqns) → n.body ≡ block ds es → (is_known : List ℕ → Bool) (cs : List Comparison) → Names (is_integer after (typed_in ds (types_around n))) is_known es cs
+      → IsScoped k (lowered_node enums n) cs
+  scoped earlier n e ds es is_body is_known cs h =
+      let low = lowered_node enums n in
+      let before = map (lowered_item enums) earlier in
+      let at = low-stands earlier n e in
+      let base = scope_behind before in
+      let among = node_among before in
+      let own = declaring (lowering.types_of n) ds in
+      let body_eqns = eqns_of (lowered_eqns enums same_name own 0 es) in
+      let sound = subst (SoundBehind types) at.1 (ready_sound_law program after r removable has_constructors) in
+      let ok : NodeSound types among base low = sound_at types at.0 before low sound in
+      let apart = lowered_apart program after r.named (clocked_of (replaced program) after r.clocks) in
+      let none = no_variables before in
+      let outer = body_scope base low in
+      let lasts = lasts_in low.outputs no_lasts in
+      let is_low : low.body ≡ block ds body_eqns = low-body n ds es is_body in
+      let block_ok : BlockSound types among outer lasts (block ds body_eqns) = subst (BlockSound types among outer lasts) is_low ok.1.1.1.1.0 in
+      let s = with_variables outer ds in
+      let ground = grounded_more k ds outer (grounded_more k (controls_of low.contract) (inside_node base low) (grounded_more k low.outputs (with_variables base low.inputs) (grounded_more k low.inputs base (grounded low_program at.0 before low at.1 apart)))) in
+      let around = around_body k low in
+      let out = over around.0 unknown in
+      let sees_here : SeesTypes k s (over (sketch_block k Body out base_site (block ds body_eqns) around.1).0 out) =
+      layer_sees k Body out base_site ds (each_once [] (names_of_eqns body_eqns)) around.1 outer (declared_types types among s body_eqns ds block_ok.0) (around_sees k types among base low none ok) in
+      let sees : SeesTypes k s (body_sight k low) = subst (λ (b : Block). SeesTypes k s (over (sketch_block k Body out base_site b around.1).0 out)) (sym is_low) sees_here in
+      let agrees_low : Agrees outer (types_around low) = agrees_body types among base low none ok in
+      let same : types_around low ≡ types_around n = ap (λ cs. typed_in cs (typed_in n.inputs (typed_in n.outputs tree.untyped))) (controls_same enums (lowering.types_of n) n.contract) in
+      let agrees : Agrees s (typed_in ds (types_around n)) = agrees_inside types among outer ds (types_around n) (own_types types among s body_eqns ds block_ok.0) (subst (Agrees outer) same agrees_low) in
+      let whole = (each_at IsWhole at.0 low before (subst (EachNode IsWhole) at.1 (each_reverse IsWhole low_program (whole_law program after r removable)))).0 in
+      let low_types = types_of low_program in
+      let low_tested = subst (λ ts. AreTested ts (reverse low_program)) (sym (types_low enums after)) (tested_law program after r removable has_constructors) in
+      let tested = tested_at low_types at.0 low before (subst (AreTested low_types) at.1 low_tested) in
+      let sole_name : (c : Comparison) → IsSole c.0 body_eqns → (x : ℕ) → variable_of k low c.0 ≡ Some x → HasOneClock x (sketch_node k low).eqns =
+      (λ c q. node-sole low_types (differ_law program after r) (filled_nodes low_program).outputs k (ready_knows program after r removable form) base low ds body_eqns is_low whole.plain tested c.0 q) in
+      record {
+        types = s;
+        ground = ground;
+        sees = sees;
+        ints = all-ints types among s (lasts_in ds lasts) (typed_in ds (types_around n)) agrees outs (outs-are s ground) enums own is_known es cs h block_ok.1.1;
+        sole = each_other (λ (c : Comparison). IsSole c.0 body_eqns) (λ (c : Comparison). (x : ℕ) → variable_of k low c.0 ≡ Some x → HasOneClock x (sketch_node k low).eqns) sole_name cs
+            (names-sole (is_integer after (typed_in ds (types_around n))) is_known enums own es cs h);
+      }
+    where
+      low-body : (n : Node) (ds : List Decl) (es : Eqns) → n.body ≡ block ds es → (lowered_node enums n).body ≡ block ds (eqns_of (lowered_eqns enums same_name (declaring (lowering.types_of n) ds) 0 es))
+      low-body n ds es is_body =
+          ap (lowering.lowered_body_of enums (lowering.types_of n) n.span) is_body
+          ∙ ap (λ xs. block (renamed_decls same_name ds) (eqns_of xs)) (append-nil (lowered_eqns enums same_name (declaring (lowering.types_of n) ds) 0 es))
+          ∙ ap (λ xs. block xs (eqns_of (lowered_eqns enums same_name (declaring (lowering.types_of n) ds) 0 es))) (decls_same ds)
