@@ -1,4 +1,6 @@
 pub mod Judged
+pub mod Counts
 pub mod Arranged
 pub mod Refusals
 pub mod OneCause
+pub mod OneWalk

@@ -13,11 +13,16 @@ use Rattle.hp_typing.specs.Scopes.{with_variables, inside, inside_node}
 use Rattle.hp_typing.specs.Types.{type_of, types_in, outputs_in, single, args_fit, agrees}
 use Rattle.law_judged.specs.Typed.Scopes.{Scope}
 use Rattle.law_judged.specs.Typed.Typed.{ExprHasType, ExprsHaveTypes, PartsHaveTypes, RightHasTypes, BlockHasTypes, EqnsHaveTypes, EqnHasTypes, ArmsHaveTypes, StatesHaveTypes, ConditionHasType, ContractHasTypes, NodeHasTypes}
-use Rattle.hp_expand.specs.Sizes.{Size, in_node}
+use Rattle.hp_expand.specs.Sizes.{in_node}
 use Rattle.hp_expand.specs.Shapes as shapes
-use Rattle.hp_expand.specs.Shapes.{Form, Mark, plain_at, bound_at, integer_at, of_call, brings}
-use Rattle.hp_expand.specs.Formed.{InlineNoContract, IsShaped}
+use Rattle.hp_expand.specs.Shapes.{Mark, plain_at, bound_at, integer_at, of_call, brings}
+use Rattle.hp_expand.specs.Formed.{InlineNoContract}
 use Rattle.hp_expand.specs.Fitting.{count, IsInlinable, Fits, AllFit, PartsFit, RightFits, BlockFits, EqnsFit, EqnFits, ArmsFit, StatesFit, ConditionFits, ContractFits, NodeFits}
+use Rattle.hp_compile.proofs.CountLemmas.Types.{Size, Form}
+
+-- no node with a contract is inlined in this one
+abbrev pub InlinesNone : (List ℕ → Form) → Node → Type 0
+InlinesNone forms n = InlineNoContract (shapes.in_contract forms n.contract) × InlineNoContract (shapes.in_block forms n.body)
 
 -- ---- marks
 
@@ -219,9 +224,9 @@ module _ (sizes : List ℕ → Size) (forms : List ℕ → Form) (nodes : List �
         condition_fits (inside s c.body) c.enforce i h.1.1 (front enforce controls (rest assume (enforce ++ controls) behind))),
       )
 
-  pub node_fits : (s : Scope) (n : Node) → s.nodes ≡ known → NodeHasTypes s n → IsShaped forms n → NodeFits sizes nodes n
+  pub node_fits : (s : Scope) (n : Node) → s.nodes ≡ known → NodeHasTypes s n → InlinesNone forms n → NodeFits sizes nodes n
   node_fits s n k h shaped =
       let here : (inside_node s n).nodes ≡ known = variables_kept (with_variables s n.inputs) n.outputs ∙ variables_kept s n.inputs ∙ k in (
-        contract_fits (inside_node s n) n.contract here h.1.1.0 shaped.contract_inlines_no_contract,
-        block_fits (with_variables (inside_node s n) (controls_of n.contract)) n.body (variables_kept (inside_node s n) (controls_of n.contract) ∙ here) h.1.1.1.1 shaped.body_inlines_no_contract,
+        contract_fits (inside_node s n) n.contract here h.1.1.0 shaped.0,
+        block_fits (with_variables (inside_node s n) (controls_of n.contract)) n.body (variables_kept (inside_node s n) (controls_of n.contract) ∙ here) h.1.1.1.1 shaped.1,
       )

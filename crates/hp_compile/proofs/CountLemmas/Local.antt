@@ -9,7 +9,8 @@ use Rattle.hp_tree.specs.Meaning.{controls_of}
 use Rattle.hp_names.specs.Scopes.{with_variable, with_variables, inside, inside_node}
 use Rattle.hp_names.specs.Rules.{ExprIsNamed, ExprsAreNamed, PartsAreNamed, TransitionsAreNamed, BlockIsNamed, EqnsAreNamed, EqnIsNamed, ArmsAreNamed, StatesAreNamed, ConditionIsNamed, ContractIsNamed, NodeIsNamed}
 use Rattle.law_judged.specs.Named.Scopes.{NameScope}
-use Rattle.hp_expand.specs.Sizes.{Size, places, join, deeper, of_call, in_expr, in_exprs, in_parts, in_right, in_transitions, in_block, in_eqns, in_eqn, in_arms, in_states, in_condition, in_contract, in_node}
+use Rattle.hp_expand.specs.Sizes.{places, join, deeper, of_call, in_expr, in_exprs, in_parts, in_right, in_transitions, in_block, in_eqns, in_eqn, in_arms, in_states, in_condition, in_contract, in_node}
+use Rattle.hp_compile.proofs.CountLemmas.Types.{Size}
 
 -- variables bring no nodes
 variable_kept : (s : NameScope) (d : Decl) (first : Option Const) → (with_variable s d first).nodes ≡ s.nodes

@@ -13,13 +13,14 @@ use Rattle.hp_tree.specs.Expressions.{Expr, constant, variable, last_of, one, tw
 use Rattle.hp_tree.specs.Blocks.{Block, block, Eqns, no_eqn, more_eqns, Eqn, define, switch, reset, automaton, Arms, no_arm, more_arms, States, no_state, more_states}
 use Rattle.hp_tree.specs.Programs.{Contract, Node}
 use Rattle.hp_expand.specs.Sizes as sizes
-use Rattle.hp_expand.specs.Sizes.{Size, join, called, of_call}
+use Rattle.hp_expand.specs.Sizes.{join, called, of_call}
 use Rattle.hp_expand.specs.Counts as walk
 use Rattle.hp_expand.specs.Counts.{passed, or_passed, passed_by, at_node}
 use Rattle.hp_expand.specs.Plain.{IsPlain, AllArePlain, PartsArePlain, BlockIsPlain, EqnsArePlain, EqnIsPlain, ArmsArePlain, StatesArePlain, ConditionIsPlain, ContractIsPlain, NodeIsPlain, ItemsArePlain}
 use Rattle.hp_compile.specs.Counts as plain
 use Rattle.hp_compile.specs.Counts.{Inside, both, calling, Instance, total, greatest, instance_of, with_instance, none_known, Count, counts_of_node, counts_in, counts, KeepLimits, if_passed, first_passed}
 use Rattle.hp_compile.proofs.CountLemmas.Tests.{TestsAreSimple, BlockTests, EqnsTests, EqnTests, ArmsTests, StatesTests, ContractTests, NodeTests, ItemsTests, simple_plain}
+use Rattle.hp_compile.proofs.CountLemmas.Types.{Size}
 
 abbrev size : ℕ → ℕ → ℕ → ℕ → ℕ → Size
 size p n i c k = record { places = p; nest = n; instances = i; cells = c; calls = k }

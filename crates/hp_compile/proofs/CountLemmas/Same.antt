@@ -17,10 +17,8 @@ use Rattle.law_judged.specs.Typed.Scopes.{Scope}
 use Rattle.law_judged.specs.Typed.Typed.{NodeHasTypes, ItemsHaveTypes}
 use Rattle.law_judged.proofs.NamedLemmas.Sets.{same_name, name_same, kept_name, new_name}
 use Rattle.hp_expand.specs.Sizes as sizes
-use Rattle.hp_expand.specs.Sizes.{Size, in_node}
+use Rattle.hp_expand.specs.Sizes.{in_node}
 use Rattle.hp_expand.specs.Shapes as shapes
-use Rattle.hp_expand.specs.Shapes.{Form}
-use Rattle.hp_expand.specs.Formed.{IsShaped, AreShaped}
 use Rattle.hp_expand.specs.Counts as counts
 use Rattle.hp_expand.specs.Counts.{passed_by, at_node}
 use Rattle.hp_expand.specs.Replacing as new
@@ -28,7 +26,8 @@ use Rattle.hp_expand.specs.Numbering as numbering
 use Rattle.hp_expand.specs.Numbering.{replaced_node, with_node, replaced_items, no_node, replaced}
 use Rattle.hp_expand.proofs.ReplacedSizes.{counted_law}
 use Rattle.hp_compile.proofs.CountLemmas.Local.{node_local}
-use Rattle.hp_compile.proofs.CountLemmas.Fits.{Stands, Table, node_fits}
+use Rattle.hp_compile.proofs.CountLemmas.Fits.{InlinesNone, Stands, Table, node_fits}
+use Rattle.hp_compile.proofs.CountLemmas.Types.{Size, Form}
 
 -- ---- names that are known, and one more
 
@@ -115,7 +114,7 @@ apart x y h = by (bytes_eq x y) (same_name x y)
     by false g = refl
 
 module _ (s : NameScope) (t : Scope) (forms : List ℕ → Form) (nodes : List ℕ → Node) (known : List ℕ → Size) (b : Behind s t forms nodes known) (y : Node) (fresh : Contains s.nodes y.name → ⊥) (named : NodeIsNamed s y)
-    (typed : NodeHasTypes t y) (shaped : IsShaped forms y) where
+    (typed : NodeHasTypes t y) (shaped : InlinesNone forms y) where
   abbrev r : Node
   r = replaced_node nodes y
 
@@ -205,8 +204,14 @@ nothing_behind = record { interface = λ f n h. absurd (cc h); listed = λ f h. 
 
 -- ---- programs
 
+-- no node with a contract is inlined
+abbrev pub AllInlineNone : (List ℕ → Form) → List Item → Type 0
+AllInlineNone forms [] = Unit {0}
+AllInlineNone forms (TypeItem t ∷ items) = AllInlineNone forms items
+AllInlineNone forms (NodeItem n ∷ items) = InlinesNone forms n × AllInlineNone (shapes.with_form forms n.name (shapes.form_of forms n)) items
+
 items_same : (s : NameScope) (t : Scope) (forms : List ℕ → Form) (nodes : List ℕ → Node) (known : List ℕ → Size) (total : ℕ) → Behind s t forms nodes known → (items : List Item) → ItemsAreNamed s items → ItemsHaveTypes t items
-    → AreShaped forms items → counts.in_items known total items ≡ counts.in_items known total (replaced_items nodes items)
+    → AllInlineNone forms items → counts.in_items known total items ≡ counts.in_items known total (replaced_items nodes items)
 items_same s t forms nodes known total b [] n h w = refl
 items_same s t forms nodes known total b (TypeItem y ∷ items) n h w =
     items_same (names.behind s (TypeItem y)) (types.behind t (TypeItem y)) forms nodes known total (behind_type s (names.behind s (TypeItem y)) t (types.behind t (TypeItem y)) forms nodes known refl refl b) items n.1 h.1 w
@@ -219,5 +224,5 @@ items_same s t forms nodes known total b (NodeItem y ∷ items) n h w =
     (items_same (names.behind s (NodeItem y)) (types.behind t (NodeItem y)) more (with_node nodes r) (sizes.with_node known y.name size) (total + size.places) (behind_node s t forms nodes known b y n.0.0 n.0.1 h.0 w.0) items n.1 h.1 w.1)
     ∙ ap (λ (z : Size). at_node y.name (passed_by total z) (counts.in_items (sizes.with_node known y.name z) (total + z.places) others)) (sym (one_size s t forms nodes known b y n.0.0 n.0.1 h.0 w.0))
 
-pub same_counts : (program : List Item) → ItemsAreNamed names.nothing program → ItemsHaveTypes types.nothing program → AreShaped shapes.nothing_known program → counts.limit_of program ≡ counts.limit_of (replaced program)
+pub same_counts : (program : List Item) → ItemsAreNamed names.nothing program → ItemsHaveTypes types.nothing program → AllInlineNone shapes.nothing_known program → counts.limit_of program ≡ counts.limit_of (replaced program)
 same_counts program n h w = items_same names.nothing types.nothing shapes.nothing_known no_node sizes.nothing_known 0 nothing_behind program n h w

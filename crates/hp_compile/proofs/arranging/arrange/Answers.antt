@@ -8,13 +8,19 @@ use Rattle.hp_compile.specs.Arranged.{HasClocks}
 use Rattle.hp_compile.specs.Refusals.{IsRefused, of_expanding, of_clocks, of_init, of_cause}
 use Rattle.hp_compile.specs.declared.refusal.Refusal.TheVariants.{OutOfMemory}
 use Rattle.hp_compile.proofs.ReadyLaws.{named, ready}
-use Rattle.hp_compile.proofs.RefusalLaws.{handed, form_refuses, clocks_refuse, init_refuses, cause_refuses}
+use Rattle.hp_compile.proofs.FormLaws.{formed}
+use Rattle.hp_compile.proofs.RefusalLaws.{handed, form_refuses, form_memory, clocks_refuse, init_refuses, cause_refuses}
 use Rattle.hp_compile.proofs.arranging.arrange.Goals as goal
 
 pub returns-in_err-expanded-clause-refused : goal.returns-in_err-expanded-clause-refused
 returns-in_err-expanded-clause-refused c = λ text judged.
     handed (IsRefused text) c.from_residual.result (of_expanding c.in_err-expanded.field-0.0) c.from_residual.ensures.1
     (form_refuses text c.args.program.now c.in_err-expanded.field-0.0 judged c.in_err-expanded.ensures.refused)
+
+pub returns-in_err-expanded-clause-accepted : goal.returns-in_err-expanded-clause-accepted
+returns-in_err-expanded-clause-accepted c = λ a.
+    let memory = form_memory c.requires.0 c.args.program.now c.in_err-expanded.field-0.0 c.requires.1 a.well_formed c.in_err-expanded.ensures.refused in
+    handed (λ e. e ≡ OutOfMemory) c.from_residual.result (of_expanding c.in_err-expanded.field-0.0) c.from_residual.ensures.1 (ap of_expanding memory)
 
 pub returns-in_err-clocked-clause-refused : goal.returns-in_err-clocked-clause-refused
 returns-in_err-clocked-clause-refused c = λ text judged.
@@ -27,7 +33,7 @@ pub returns-in_err-clocked-clause-accepted : goal.returns-in_err-clocked-clause-
 returns-in_err-clocked-clause-accepted c = λ a.
     let program : List Item = c.args.program.now in
     let same : c.in_ok-expanded.expanded ≡ replaced program = c.in_ok-expanded.ensures.replaced in
-    let names : AreNamed (replaced program) = named c.requires.0 program c.requires.1 a.formed in
+    let names : AreNamed (replaced program) = named c.requires.0 program c.requires.1 (formed c.requires.0 program c.requires.1 a.well_formed) in
     let memory = c.in_err-clocked.ensures.accepted (subst HaveClocks (sym same) a.clocks) (subst NoneLong (sym same) a.short) (subst AreNamed (sym same) names) in
     handed (λ e. e ≡ OutOfMemory) c.from_residual-in_err-clocked.result (of_clocks c.in_err-clocked.field-0.0) c.from_residual-in_err-clocked.ensures.1 (ap of_clocks memory)
 
