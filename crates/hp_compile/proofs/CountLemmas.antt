@@ -5,3 +5,4 @@ pub mod Same
 pub mod Tests
 pub mod Plain
 pub mod Shaped
+mod Worked
