@@ -33,8 +33,6 @@ use Rattle.hp_names.specs.declared.error.NameErr.TheVariants as name_error
 use Rattle.hp_typing.specs.Breaches as types
 use Rattle.hp_typing.specs.Claims as typing
 use Rattle.hp_typing.specs.Definedness.{definition_claims}
-use Rattle.hp_typing.specs.DefinitionRules.{WellDefined}
-use Rattle.hp_typing.specs.Rules.{WellTyped}
 use Rattle.hp_typing.specs.declared.error.TypeErr.{TypeErr}
 use Rattle.hp_typing.specs.declared.error.TypeErr.TheVariants as type_error
 use Rattle.hp_compile.specs.declared.refusal.Refusal.{Refusal}

@@ -5,7 +5,6 @@ use Rattle.hp_base.specs.declared.span.Span.{Span}
 use Rattle.hp_base.specs.declared.ty.Ty.{Ty}
 use Rattle.hp_base.specs.Known.Known.{lookup, with_entry}
 use Rattle.hp_tree.specs.Expressions.{Expr, constant, variable, last_of, one, two, choose, pre, fby, arrow, when_is, merge, call, Exprs, no_expr, more_exprs, Parts, no_part, more_parts}
-use Rattle.hp_tree.specs.declared.block.Trans.{Trans}
 use Rattle.hp_tree.specs.Blocks.{Decl, Block, block, Eqns, no_eqn, more_eqns, Eqn, define, switch, reset, automaton, Arms, no_arm, more_arms, States, no_state, more_states}
 use Rattle.hp_tree.specs.Programs.{Contract, Node}
 use Rattle.hp_tree.specs.Meaning.{controls_of}
@@ -125,8 +124,10 @@ module _ (sizes : List ℕ → Size) (forms : List ℕ → Form) (nodes : List �
     expr_fits s (choose at a b c) k h m =
         let behind = rest (shapes.in_expr forms a) (shapes.in_expr forms b ++ shapes.in_expr forms c) m in (
           expr_fits s a k h.0 (front (shapes.in_expr forms a) (shapes.in_expr forms b ++ shapes.in_expr forms c) m),
-          (expr_fits s b k h.1.0 (front (shapes.in_expr forms b) (shapes.in_expr forms c) behind),
-          expr_fits s c k h.1.1.0 (rest (shapes.in_expr forms b) (shapes.in_expr forms c) behind)),
+          (
+            expr_fits s b k h.1.0 (front (shapes.in_expr forms b) (shapes.in_expr forms c) behind),
+            expr_fits s c k h.1.1.0 (rest (shapes.in_expr forms b) (shapes.in_expr forms c) behind),
+          ),
         )
     expr_fits s (pre at a) k h m = expr_fits s a k h.0 m
     expr_fits s (fby at a b) k h m =
@@ -220,8 +221,10 @@ module _ (sizes : List ℕ → Size) (forms : List ℕ → Form) (nodes : List �
       let controls = shapes.in_controls c.controls in
       let behind = rest own (assume ++ (enforce ++ controls)) m in (
         block_fits s c.body k h.0 (front own (assume ++ (enforce ++ controls)) m),
-        (condition_fits (inside s c.body) c.assume i h.1.0 (front assume (enforce ++ controls) behind),
-        condition_fits (inside s c.body) c.enforce i h.1.1 (front enforce controls (rest assume (enforce ++ controls) behind))),
+        (
+          condition_fits (inside s c.body) c.assume i h.1.0 (front assume (enforce ++ controls) behind),
+          condition_fits (inside s c.body) c.enforce i h.1.1 (front enforce controls (rest assume (enforce ++ controls) behind)),
+        ),
       )
 
   pub node_fits : (s : Scope) (n : Node) → s.nodes ≡ known → NodeHasTypes s n → InlinesNone forms n → NodeFits sizes nodes n
