@@ -1,7 +1,6 @@
 -- What a judged program has to meet further, and what it is then.
 use Rattle.std.specs.Prelude.{ℕ, List, Option}
 use Rattle.hp_tree.specs.declared.program.Item.{Item}
-use Rattle.hp_expand.specs.Formed.{HasShapes}
 use Rattle.hp_expand.specs.Refusals.{first_of, IsFormed}
 use Rattle.hp_expand.specs.Shapes.{breach_in}
 use Rattle.hp_expand.specs.declared.error.ExpandErr.{ExpandErr}
@@ -12,6 +11,7 @@ use Rattle.hp_init.specs.Initialised.{IsInitialised}
 use Rattle.hp_meaning.specs.Causal.RanksOfPoints.{AllFall}
 use Rattle.hp_cause.specs.Ordering.{AllNodesCausal}
 use Rattle.hp_compile.specs.Counts.{counts, KeepLimits, first_passed}
+use Rattle.hp_compile.specs.Shapes.{HasShapes}
 
 -- Its contracts have their shapes, and with its inlined calls replaced its counts are within the limits.
 pub record IsWellFormed (program : List Item) : Type 0 where

@@ -1,6 +1,6 @@
 -- What is counted of a program without inlined calls, node by node. A place is a declaration, an expression or a part of one, or one of the four words of an automaton.
 -- Source: own; the limits of the language.
-use Rattle.std.specs.Prelude.{ℕ, suc, ◌+◌, ◌≤◌, max, nat_lt, if◌then◌else◌, List, [], ◌∷◌, ◌++◌, length, Option, None, Some}
+use Rattle.std.specs.Prelude.{ℕ, suc, Bool, ◌+◌, ◌≤◌, max, nat_lt, if◌then◌else◌, List, [], ◌∷◌, ◌++◌, length, Option, None, Some}
 use Rattle.std.specs.Str.{bytes_eq}
 use Rattle.hp_base.specs.Limits.{most}
 use Rattle.hp_base.specs.declared.limit.Limit.{Limit}
@@ -13,27 +13,28 @@ use Rattle.hp_tree.specs.Expressions.{Expr, constant, variable, last_of, one, tw
 use Rattle.hp_tree.specs.Blocks.{Block, block, Eqns, no_eqn, more_eqns, Eqn, define, switch, reset, automaton, Arms, no_arm, more_arms, States, no_state, more_states}
 use Rattle.hp_tree.specs.Programs.{Contract, Node}
 
--- ---- what there is in a part: its places, how many blocks stand in each other, and the nodes that it calls
+-- ---- what there is in a part: its places, how many blocks stand in each other, the nodes that it calls, and those whose calls are to be inlined
 
 pub record Inside : Type 0 where
   pub places : ℕ
   pub levels : ℕ
   pub calls : List (List ℕ)
+  pub inlined : List (List ℕ)
 
 abbrev pub nothing : Inside
-nothing = record { places = 0; levels = 0; calls = [] }
+nothing = record { places = 0; levels = 0; calls = []; inlined = [] }
 
 -- so many places
 unfoldable pub places : ℕ → Inside
-places n = record { places = n; levels = 0; calls = [] }
+places n = record { places = n; levels = 0; calls = []; inlined = [] }
 
 -- a call of this node
-unfoldable pub calling : List ℕ → Inside
-calling f = record { places = 0; levels = 0; calls = f ∷ [] }
+unfoldable pub calling : List ℕ → Bool → Inside
+calling f inlined = record { places = 0; levels = 0; calls = if inlined then [] else f ∷ []; inlined = if inlined then f ∷ [] else [] }
 
 -- two parts
 unfoldable pub both : Inside → Inside → Inside
-both a b = record { places = a.places + b.places; levels = max a.levels b.levels; calls = a.calls ++ b.calls }
+both a b = record { places = a.places + b.places; levels = max a.levels b.levels; calls = a.calls ++ b.calls; inlined = a.inlined ++ b.inlined }
 
 -- a block with this in it
 unfoldable pub deeper : Inside → Inside
@@ -52,7 +53,7 @@ abbrev mutual
   in_expr (arrow at a b) = both (places 1) (both (in_expr a) (in_expr b))
   in_expr (when_is at a c x) = both (places 1) (in_expr a)
   in_expr (merge at x ps) = both (places 1) (in_parts ps)
-  in_expr (call at f inlined es) = both (places 1) (both (calling f) (in_exprs es))
+  in_expr (call at f inlined es) = both (places 1) (both (calling f inlined) (in_exprs es))
 
   pub in_exprs : Exprs → Inside
   in_exprs no_expr = nothing

@@ -1,5 +1,6 @@
 pub mod Judged
 pub mod Counts
+pub mod Shapes
 pub mod Arranged
 pub mod Refusals
 pub mod OneCause

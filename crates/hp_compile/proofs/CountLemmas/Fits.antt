@@ -25,19 +25,19 @@ InlinesNone forms n = InlineNoContract (shapes.in_contract forms n.contract) × 
 
 -- ---- marks
 
-front : (xs ys : List Mark) → InlineNoContract (xs ++ ys) → InlineNoContract xs
+pub front : (xs ys : List Mark) → InlineNoContract (xs ++ ys) → InlineNoContract xs
 front [] ys h = tt
 front (plain_at at ∷ xs) ys h = front xs ys h
 front (bound_at at ∷ xs) ys h = absurd h
 front (integer_at at ∷ xs) ys h = front xs ys h
 
-rest : (xs ys : List Mark) → InlineNoContract (xs ++ ys) → InlineNoContract ys
+pub rest : (xs ys : List Mark) → InlineNoContract (xs ++ ys) → InlineNoContract ys
 rest [] ys h = h
 rest (plain_at at ∷ xs) ys h = rest xs ys h
 rest (bound_at at ∷ xs) ys h = absurd h
 rest (integer_at at ∷ xs) ys h = rest xs ys h
 
-unbound : (at : Span) (form : Form) → InlineNoContract (of_call at true form) → form.has_contract ≡ false
+pub unbound : (at : Span) (form : Form) → InlineNoContract (of_call at true form) → form.has_contract ≡ false
 unfolding of_call
 unbound at form h = by form.has_contract h
   where

@@ -52,7 +52,7 @@ module _ (known : List ℕ → Size) where
   chain_of f = suc (known f).calls
 
   -- what is in a part, as the walk says it
-  unfoldable size_of : Inside → Size
+  unfoldable pub size_of : Inside → Size
   size_of a = record { places = a.places; nest = a.levels; instances = total instances_of a.calls; cells = total cells_of a.calls; calls = greatest chain_of a.calls }
 
   both_sizes : (a b : Inside) → join (size_of a) (size_of b) ≡ size_of (both a b)
@@ -75,7 +75,7 @@ module _ (known : List ℕ → Size) where
   unfolding sizes.deeper plain.deeper size_of
   deeper_size a s p = ap sizes.deeper p
 
-  called_size : (f : List ℕ) → called (known f) ≡ size_of (calling f)
+  called_size : (f : List ℕ) → called (known f) ≡ size_of (calling f false)
   unfolding called calling size_of
   called_size f = λ i. size 0 0 (plus_none (instances_of f) i) (plus_none (cells_of f) i) (max_none (chain_of f) i)
 
@@ -89,9 +89,10 @@ module _ (known : List ℕ → Size) where
   unfolding of_call
   opened n f s = refl
 
-  call_size : (n : ℕ) (inlined : Bool) (f : List ℕ) (a : Inside) (s : Size) → inlined ≡ false → s ≡ size_of a → of_call n inlined (known f) s ≡ size_of (both (plain.places 1) (both (calling f) a))
+  call_size : (n : ℕ) (inlined : Bool) (f : List ℕ) (a : Inside) (s : Size) → inlined ≡ false → s ≡ size_of a → of_call n inlined (known f) s ≡ size_of (both (plain.places 1) (both (calling f inlined) a))
   call_size n inlined f a s e p =
-      ap (λ b. of_call n b (known f) s) e ∙ opened n f s ∙ above (both (calling f) a) (join (called (known f)) s) (pair (calling f) a (called (known f)) s (called_size f) p)
+      ap (λ b. of_call n b (known f) s) e ∙ opened n f s ∙ above (both (calling f false) a) (join (called (known f)) s) (pair (calling f false) a (called (known f)) s (called_size f) p)
+      ∙ ap (λ b. size_of (both (plain.places 1) (both (calling f b) a))) (sym e)
 
   mutual
     expr_same : (e : Expr) → IsPlain e → sizes.in_expr known e ≡ size_of (plain.in_expr e)
@@ -175,7 +176,7 @@ module _ (known : List ℕ → Size) where
   condition_same None h = none_size
   condition_same (Some e) h = expr_same e h
 
-  contract_same : (c : Option Contract) → ContractIsPlain c → ContractTests c → sizes.in_contract known c ≡ size_of (plain.in_contract c)
+  pub contract_same : (c : Option Contract) → ContractIsPlain c → ContractTests c → sizes.in_contract known c ≡ size_of (plain.in_contract c)
   contract_same None h t = none_size
   contract_same (Some c) h t =
       let assume = plain.in_condition c.assume in

@@ -18,6 +18,7 @@ use Rattle.law_judged.proofs.NamedLemmas.Sets.{same_name, name_same, kept_name, 
 use Rattle.hp_expand.specs.Sizes as sizes
 use Rattle.hp_expand.specs.Sizes.{in_node}
 use Rattle.hp_expand.specs.Shapes as shapes
+use Rattle.hp_expand.specs.Fitting.{NodeFits}
 use Rattle.hp_expand.specs.Counts as counts
 use Rattle.hp_expand.specs.Counts.{passed_by, at_node}
 use Rattle.hp_expand.specs.Replacing as new
@@ -124,14 +125,17 @@ module _ (s : NameScope) (t : Scope) (forms : List ℕ → Form) (nodes : List �
         let i = b.interface f n h in
         record { inputs = i.inputs; outputs = i.outputs; free = i.free; size = b.sized other same f (b.listed f (some_of (lookup t.nodes f) n h)) }
 
+    fits : NodeFits other nodes y
+    fits = node_fits other forms nodes t.nodes stands t y refl typed shaped
+
     node_sized : in_node other r ≡ in_node other y
-    node_sized = counted_law other nodes y (node_fits other forms nodes t.nodes stands t y refl typed shaped)
+    node_sized = counted_law other nodes y fits
 
     node_same : in_node known y ≡ in_node other r
     node_same = sym (node_sized ∙ node_local other known s.nodes same s y refl named)
 
-  one_size : in_node known r ≡ in_node known y
-  one_size = node_sized known (λ f h. refl)
+  fits_now : NodeFits known nodes y
+  fits_now = fits known (λ f h. refl)
 
   unknown : lookup t.nodes y.name ≡ None
   unknown = none_if (lookup t.nodes y.name) (λ k. fresh (b.listed y.name k))
@@ -209,19 +213,35 @@ AllInlineNone forms [] = Unit {0}
 AllInlineNone forms (TypeItem t ∷ items) = AllInlineNone forms items
 AllInlineNone forms (NodeItem n ∷ items) = InlinesNone forms n × AllInlineNone (shapes.with_form forms n.name (shapes.form_of forms n)) items
 
-items_same : (s : NameScope) (t : Scope) (forms : List ℕ → Form) (nodes : List ℕ → Node) (known : List ℕ → Size) (total : ℕ) → Behind s t forms nodes known → (items : List Item) → ItemsAreNamed s items → ItemsHaveTypes t items
-    → AllInlineNone forms items → counts.in_items known total items ≡ counts.in_items known total (replaced_items nodes items)
-items_same s t forms nodes known total b [] n h w = refl
-items_same s t forms nodes known total b (TypeItem y ∷ items) n h w =
-    items_same (names.behind s (TypeItem y)) (types.behind t (TypeItem y)) forms nodes known total (behind_type s (names.behind s (TypeItem y)) t (types.behind t (TypeItem y)) forms nodes known refl refl b) items n.1 h.1 w
-items_same s t forms nodes known total b (NodeItem y ∷ items) n h w =
+-- each inlined call fits, where what is known of nodes is what they were counted and what they became
+abbrev pub AllFit : (List ℕ → Size) → (List ℕ → Node) → List Item → Type 0
+AllFit known nodes [] = Unit {0}
+AllFit known nodes (TypeItem t ∷ items) = AllFit known nodes items
+AllFit known nodes (NodeItem n ∷ items) = NodeFits known nodes n × AllFit (sizes.with_node known n.name (in_node known n)) (with_node nodes (replaced_node nodes n)) items
+
+items_fit : (s : NameScope) (t : Scope) (forms : List ℕ → Form) (nodes : List ℕ → Node) (known : List ℕ → Size) → Behind s t forms nodes known → (items : List Item) → ItemsAreNamed s items → ItemsHaveTypes t items
+    → AllInlineNone forms items → AllFit known nodes items
+items_fit s t forms nodes known b [] n h w = tt
+items_fit s t forms nodes known b (TypeItem y ∷ items) n h w =
+    items_fit (names.behind s (TypeItem y)) (types.behind t (TypeItem y)) forms nodes known (behind_type s (names.behind s (TypeItem y)) t (types.behind t (TypeItem y)) forms nodes known refl refl b) items n.1 h.1 w
+items_fit s t forms nodes known b (NodeItem y ∷ items) n h w =
+    let more = shapes.with_form forms y.name (shapes.form_of forms y) in (
+      fits_now s t forms nodes known b y n.0.0 n.0.1 h.0 w.0,
+      items_fit (names.behind s (NodeItem y)) (types.behind t (NodeItem y)) more (with_node nodes (replaced_node nodes y)) (sizes.with_node known y.name (in_node known y)) (behind_node s t forms nodes known b y n.0.0 n.0.1 h.0 w.0) items n.1 h.1 w.1,
+    )
+
+pub calls_fit : (program : List Item) → ItemsAreNamed names.nothing program → ItemsHaveTypes types.nothing program → AllInlineNone shapes.nothing_known program → AllFit sizes.nothing_known no_node program
+calls_fit program n h w = items_fit names.nothing types.nothing shapes.nothing_known no_node sizes.nothing_known nothing_behind program n h w
+
+items_same : (nodes : List ℕ → Node) (known : List ℕ → Size) (total : ℕ) (items : List Item) → AllFit known nodes items → counts.in_items known total items ≡ counts.in_items known total (replaced_items nodes items)
+items_same nodes known total [] h = refl
+items_same nodes known total (TypeItem y ∷ items) h = items_same nodes known total items h
+items_same nodes known total (NodeItem y ∷ items) h =
     let r = replaced_node nodes y in
     let size = in_node known y in
-    let more = shapes.with_form forms y.name (shapes.form_of forms y) in
     let others = replaced_items (with_node nodes r) items in
-    ap (at_node y.name (passed_by total size))
-    (items_same (names.behind s (NodeItem y)) (types.behind t (NodeItem y)) more (with_node nodes r) (sizes.with_node known y.name size) (total + size.places) (behind_node s t forms nodes known b y n.0.0 n.0.1 h.0 w.0) items n.1 h.1 w.1)
-    ∙ ap (λ (z : Size). at_node y.name (passed_by total z) (counts.in_items (sizes.with_node known y.name z) (total + z.places) others)) (sym (one_size s t forms nodes known b y n.0.0 n.0.1 h.0 w.0))
+    ap (at_node y.name (passed_by total size)) (items_same (with_node nodes r) (sizes.with_node known y.name size) (total + size.places) items h.1)
+    ∙ ap (λ (z : Size). at_node y.name (passed_by total z) (counts.in_items (sizes.with_node known y.name z) (total + z.places) others)) (sym (counted_law known nodes y h.0))
 
-pub same_counts : (program : List Item) → ItemsAreNamed names.nothing program → ItemsHaveTypes types.nothing program → AllInlineNone shapes.nothing_known program → counts.limit_of program ≡ counts.limit_of (replaced program)
-same_counts program n h w = items_same names.nothing types.nothing shapes.nothing_known no_node sizes.nothing_known 0 nothing_behind program n h w
+pub same_counts : (program : List Item) → AllFit sizes.nothing_known no_node program → counts.limit_of program ≡ counts.limit_of (replaced program)
+same_counts program h = items_same no_node sizes.nothing_known 0 program h

@@ -1,10 +1,11 @@
--- A worked program with an inlined call, counted by computing.
+-- A worked program with inlined calls: its counts, and what a contract calls, by computing.
 use Rattle.std.proofs.Common.{◌≡◌, ℕ, true, false, List, [], ◌∷◌, None, Some, refl}
 use Rattle.hp_base.specs.declared.limit.What.TheVariants.{Nest, Places, Total, Instances, Cells, Calls}
 use Rattle.hp_base.specs.declared.span.Span.{Span}
 use Rattle.hp_base.specs.declared.ty.Ty.TheVariants as ty
 use Rattle.hp_tree.specs.declared.expr.Op1.TheVariants.{Not}
-use Rattle.hp_tree.specs.declared.program.Item.TheVariants.{NodeItem}
+use Rattle.hp_tree.specs.declared.program.Item.{Item}
+use Rattle.hp_tree.specs.declared.program.Item.TheVariants.{TypeItem, NodeItem}
 use Rattle.hp_tree.specs.Expressions.{variable, one, call, no_expr, more_exprs}
 use Rattle.hp_tree.specs.Blocks.{Decl, block, no_eqn, more_eqns, define, reset}
 use Rattle.hp_tree.specs.Programs.{Node}
@@ -87,3 +88,24 @@ counted = refl
 told : first_passed (record { node = g; what = Nest; count = 64 } ∷ record { node = f; what = Nest; count = 81 } ∷ record { node = h; what = Nest; count = 70 } ∷ []) ≡ Some (f, record { what = Nest; found = 65 })
 unfolding if_passed
 told = refl
+
+-- node h(x : bool) returns (y : bool) contract enforce inlined f(x) let y = x tel
+abbrev asking : Node
+asking = record inliner {
+  contract = Some (record { body = block [] no_eqn; assume = None; enforce = Some (call at f true (more_exprs (variable at x) no_expr)); controls = []; span = at });
+  body = block [] (more_eqns (define at ((y, at) ∷ []) (variable at x)) no_eqn);
+}
+
+abbrev called_by_contracts : List Item → List (List (List ℕ))
+called_by_contracts [] = []
+called_by_contracts (TypeItem t ∷ items) = called_by_contracts items
+called_by_contracts (NodeItem n ∷ items) = (in_contract n.contract).calls ∷ called_by_contracts items
+
+-- its contract inlines `f`, and so calls `g`
+asked : (in_node asking).inlined ≡ f ∷ []
+unfolding places calling both
+asked = refl
+
+brought : called_by_contracts (replaced (NodeItem empty ∷ NodeItem caller ∷ NodeItem asking ∷ [])) ≡ [] ∷ [] ∷ (g ∷ []) ∷ []
+unfolding places calling both
+brought = refl
