@@ -1,5 +1,5 @@
 -- What is said of the program of a text in one walk is what is said of it with its inlined calls replaced.
-use Rattle.std.proofs.Common.{◌≡◌, ◌↔◌, ℕ, List, Option, None, Some, refl, sym, ap, ◌∙◌}
+use Rattle.std.proofs.Common.{◌≡◌, ℕ, List, Option, None, Some, refl, sym, ap, ◌∙◌}
 use Rattle.hp_base.specs.declared.limit.Limit.{Limit}
 use Rattle.hp_tree.specs.declared.program.Item.{Item}
 use Rattle.hp_expand.specs.Sizes as sizes

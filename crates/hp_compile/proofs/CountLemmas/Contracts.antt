@@ -1,5 +1,5 @@
 -- Contracts have their shapes by the walk exactly where they have them once inlined calls are replaced.
-use Rattle.std.proofs.Common.{◌≡◌, ◌↔◌, ℕ, suc, ◌+◌, Bool, true, false, if◌then◌else◌, List, [], ◌∷◌, Option, None, Some, refl, sym, ap, ◌∙◌, subst, arith}
+use Rattle.std.proofs.Common.{◌≡◌, ◌↔◌, ℕ, suc, Bool, true, false, if◌then◌else◌, List, [], ◌∷◌, Option, refl, sym, ap, ◌∙◌, subst, arith}
 use Rattle.std.specs.Prelude.{is_some}
 use Rattle.std.specs.Str.{bytes_eq}
 use Rattle.hp_tree.specs.declared.program.Item.{Item}
@@ -11,13 +11,13 @@ use Rattle.hp_expand.specs.Sizes as sizes
 use Rattle.hp_expand.specs.Sizes.{places, join}
 use Rattle.hp_expand.specs.Shapes as shapes
 use Rattle.hp_expand.specs.Formed.{IsShaped, AreShaped}
-use Rattle.hp_expand.specs.Fitting.{ContractFits, NodeFits}
+use Rattle.hp_expand.specs.Fitting.{NodeFits}
 use Rattle.hp_expand.specs.Plain.{NodeIsPlain, ItemsArePlain}
 use Rattle.hp_expand.specs.Numbering.{replaced_node, with_node, replaced_items}
 use Rattle.hp_expand.proofs.ReplacedSizes.{counted_law}
 use Rattle.hp_compile.specs.Counts as plain
 use Rattle.hp_compile.specs.Counts.{Inside, total}
-use Rattle.hp_compile.specs.Shapes.{HaveNone, InlineNone, CallsNothing, ControlsNoInteger}
+use Rattle.hp_compile.specs.Shapes.{InlineNone, CallsNothing, ControlsNoInteger}
 use Rattle.hp_compile.proofs.CountLemmas.Types.{Size, Form}
 use Rattle.hp_compile.proofs.CountLemmas.Fits.{InlinesNone}
 use Rattle.hp_compile.proofs.CountLemmas.Same.{AllInlineNone, AllFit}
@@ -101,8 +101,8 @@ all_shaped known forms nodes tied (NodeItem n ∷ items) i f p t =
     let more = shapes.with_form forms n.name (shapes.form_of forms n) in
     let behind = all_shaped (sizes.with_node known n.name (sizes.in_node known n)) more (with_node nodes (replaced_node nodes n)) (tied_more known forms tied n i.0) items i.1 f.1 p.1 t.1 in (
       λ h.
-      let a = here.0 h.0 in
-      let b = behind.0 h.1 in
-      ((a.0, b.0), (a.1, b.1)),
+          let a = here.0 h.0 in
+          let b = behind.0 h.1 in
+          ((a.0, b.0), (a.1, b.1)),
       λ h. (here.1 (h.0.0, h.1.0), behind.1 (h.0.1, h.1.1)),
     )

@@ -1,6 +1,5 @@
 -- No node with a contract is inlined in a part exactly where none of those whose calls are to be inlined there has one.
-use Rattle.std.proofs.Common.{◌≡◌, ◌↔◌, ℕ, Bool, true, false, if◌then◌else◌, List, [], ◌∷◌, ◌++◌, Option, None, Some, refl, sym, ap, ◌∙◌, subst}
-use Rattle.std.proofs.lemmas.List.{append_assoc}
+use Rattle.std.proofs.Common.{◌≡◌, ◌↔◌, ℕ, Bool, true, false, if◌then◌else◌, List, [], ◌∷◌, ◌++◌, Option, None, Some, refl, sym, ap, subst}
 use Rattle.hp_base.specs.declared.span.Span.{Span}
 use Rattle.hp_base.specs.declared.ty.Ty.{Ty}
 use Rattle.hp_base.specs.declared.ty.Ty.TheVariants as ty
@@ -162,13 +161,13 @@ module _ (forms : List ℕ → Form) where
       let a = condition_same c.assume in
       let g = condition_same c.enforce in (
         λ h.
-        let behind = rest own (assume ++ (enforce ++ controls)) h in
-        names_both fs (us ++ ws) (b.0 (front own (assume ++ (enforce ++ controls)) h))
-        (names_both us ws (a.0 (front assume (enforce ++ controls) behind)) (g.0 (front enforce controls (rest assume (enforce ++ controls) behind)))),
+            let behind = rest own (assume ++ (enforce ++ controls)) h in
+            names_both fs (us ++ ws) (b.0 (front own (assume ++ (enforce ++ controls)) h))
+            (names_both us ws (a.0 (front assume (enforce ++ controls) behind)) (g.0 (front enforce controls (rest assume (enforce ++ controls) behind)))),
         λ h.
-        let behind = names_rest fs (us ++ ws) h in
-        marks_both own (assume ++ (enforce ++ controls)) (b.1 (names_front fs (us ++ ws) h))
-        (marks_both assume (enforce ++ controls) (a.1 (names_front us ws behind)) (marks_both enforce controls (g.1 (names_rest us ws behind)) (controls_none c.controls))),
+            let behind = names_rest fs (us ++ ws) h in
+            marks_both own (assume ++ (enforce ++ controls)) (b.1 (names_front fs (us ++ ws) h))
+            (marks_both assume (enforce ++ controls) (a.1 (names_front us ws behind)) (marks_both enforce controls (g.1 (names_rest us ws behind)) (controls_none c.controls))),
       )
 
   pub node_same : (n : Node) → InlinesNone forms n ↔ HaveNone has (plain.in_node n).inlined

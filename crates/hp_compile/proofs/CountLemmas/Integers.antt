@@ -1,5 +1,5 @@
 -- A contract has no controllable variable that is an integer exactly where no such mark stands in it.
-use Rattle.std.proofs.Common.{◌≡◌, ◌↔◌, ℕ, Bool, true, false, if◌then◌else◌, List, [], ◌∷◌, ◌++◌, Option, None, Some, refl}
+use Rattle.std.proofs.Common.{◌↔◌, ℕ, Bool, true, false, if◌then◌else◌, List, [], ◌∷◌, ◌++◌, Option, None, Some, refl}
 use Rattle.std.specs.Prelude.{◌≢◌}
 use Rattle.std.specs.List.{AllByRecursion}
 use Rattle.hp_base.specs.declared.span.Span.{Span}

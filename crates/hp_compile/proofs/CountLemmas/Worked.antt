@@ -10,7 +10,7 @@ use Rattle.hp_tree.specs.Expressions.{variable, one, call, no_expr, more_exprs}
 use Rattle.hp_tree.specs.Blocks.{Decl, block, no_eqn, more_eqns, define, reset}
 use Rattle.hp_tree.specs.Programs.{Node}
 use Rattle.hp_expand.specs.Numbering.{replaced}
-use Rattle.hp_compile.specs.Counts.{places, calling, both, deeper, instance_of, counts, if_passed, first_passed}
+use Rattle.hp_compile.specs.Counts.{places, calling, both, deeper, in_contract, in_node, instance_of, counts, if_passed, first_passed}
 
 abbrev at : Span
 at = record { line = 1; col = 1; end = 1 }
