@@ -1,7 +1,7 @@
 -- What a judged program has to meet further, and what it is then.
 use Rattle.std.specs.Prelude.{ℕ, List, Option}
 use Rattle.hp_tree.specs.declared.program.Item.{Item}
-use Rattle.hp_expand.specs.Refusals.{first_of, IsFormed}
+use Rattle.hp_expand.specs.Refusals.{first_of}
 use Rattle.hp_expand.specs.Shapes.{breach_in}
 use Rattle.hp_expand.specs.declared.error.ExpandErr.{ExpandErr}
 use Rattle.hp_expand.specs.Numbering.{replaced}
@@ -37,7 +37,7 @@ pub record IsArrangeable (program : List Item) : Type 0 where
 
 -- What it is then: this is the program with its clocks written, which is causal, and these are ranks of the points of its nodes.
 pub record IsArranged (program clocked : List Item) (ranks : List (List ℕ)) : Type 0 where
-  pub formed : IsFormed program
+  pub well_formed : IsWellFormed program
   pub clocks : HasClocks (replaced program) clocked
   pub initialised : IsInitialised (replaced program)
   pub causal : AllNodesCausal clocked

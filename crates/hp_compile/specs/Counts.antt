@@ -129,7 +129,7 @@ instance_of known a = record {
 abbrev pub with_instance : (List ℕ → Instance) → List ℕ → Instance → List ℕ → Instance
 with_instance known f i x = if bytes_eq f x then i else known x
 
--- Before the first node none is known. No node is called that is not.
+-- before the first node none is known, and none is called
 abbrev pub none_known : List ℕ → Instance
 none_known f = record { instances = 1; cells = 0; chain = 1 }
 
