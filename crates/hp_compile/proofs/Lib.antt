@@ -5,3 +5,5 @@ pub mod FirstOnes
 pub mod OneParse
 pub mod OneFault
 pub mod OneCauseLaws
+pub mod CountLemmas
+pub mod FormLaws

@@ -13,7 +13,6 @@ use Rattle.hp_parser.specs.Refusals as parser
 use Rattle.hp_parser.specs.declared.parsing.ParseErr.{ParseErr}
 use Rattle.hp_parser.specs.declared.parsing.ParseErr.TheVariants as parsing
 use Rattle.hp_expand.specs.Numbering.{replaced}
-use Rattle.hp_expand.specs.Refusals.{IsFormed, refusal_of}
 use Rattle.hp_expand.specs.declared.error.ExpandErr.{ExpandErr}
 use Rattle.hp_clocks.specs.Answers.{AreNamed, Refuses as ClocksRefused}
 use Rattle.hp_clocks.specs.declared.error.ClockErr.{ClockErr}
@@ -36,7 +35,7 @@ use Rattle.hp_typing.specs.DefinitionRules.{WellDefined}
 use Rattle.hp_typing.specs.Rules.{WellTyped}
 use Rattle.hp_typing.specs.declared.error.TypeErr.{TypeErr}
 use Rattle.hp_typing.specs.declared.error.TypeErr.TheVariants as type_error
-use Rattle.hp_compile.specs.Arranged.{HasClocks, IsArranged}
+use Rattle.hp_compile.specs.Arranged.{HasClocks, IsArranged, IsWellFormed, first_breach}
 use Rattle.hp_compile.specs.Judged.{IsJudged, IsProgramOf}
 use Rattle.hp_compile.specs.OneCause.{AreSame, Names, NoCauseLaw, OneCauseLaw}
 use Rattle.hp_compile.specs.Refusals.{Causes, IsRefused, of_lexing, of_parsing}
@@ -44,6 +43,7 @@ use Rattle.hp_compile.specs.declared.refusal.Refusal.{Refusal}
 use Rattle.hp_compile.specs.declared.refusal.Refusal.TheVariants as refusal
 use Rattle.hp_compile.proofs.OneFault.{all_breaches, one_clock, one_late, one_name, one_node, one_type, same_clocked, well_clocked, well_initialised, well_named, well_ordered, well_typed}
 use Rattle.hp_compile.proofs.OneParse.{none_refused, one_program, one_refusal}
+use Rattle.hp_compile.proofs.FormLaws as forms
 use Rattle.hp_compile.proofs.ReadyLaws as ready
 
 -- ---- two ends, where one that is accepted has none
@@ -159,11 +159,11 @@ clocks_agree items known = step (Misclocked items) (Clocked items)
 
 record Misformed (program : List Item) (end : Option Refusal) : Type 0 where
   pub error : ExpandErr
-  pub first : refusal_of program ≡ Some error
+  pub first : first_breach program ≡ Some error
   pub is : end ≡ Some (refusal.Expand error)
 
 record Formed (program : List Item) (end : Option Refusal) : Type 0 where
-  pub formed : IsFormed program
+  pub formed : IsWellFormed program
   pub next : AtClocks (replaced program) end
 
 abbrev AtForms : List Item → Option Refusal → Type 0
@@ -178,8 +178,8 @@ no_error e h = cc
 forms_agree : (text : List ℕ) (program : List Item) → IsJudged text program → (a b : Option Refusal) → AtForms program a → AtForms program b → Agree a b
 forms_agree text program judged = step (Misformed program) (Formed program)
     (λ a b x y. agree_by a b (refusal.Expand x.error) (refusal.Expand y.error) x.is y.is (ap refusal.Expand (same_error x.error y.error (sym x.first ∙ y.first))))
-    (λ a b x y. no_error x.error (sym x.first ∙ y.formed))
-    (λ a b x y. clocks_agree (replaced program) (ready.named text program judged x.formed) a b x.next y.next)
+    (λ a b x y. no_error x.error (sym x.first ∙ sym (forms.one_breach text program judged) ∙ forms.formed text program judged y.formed))
+    (λ a b x y. clocks_agree (replaced program) (ready.named text program judged (forms.formed text program judged x.formed)) a b x.next y.next)
 
 -- ---- types and definitions
 
@@ -281,7 +281,7 @@ module _ (text : List ℕ) (end : Option Refusal) where
   formed_end program judged next =
       named_end program judged.program_of (inr (record { named = judged.named; next = inr (record { typed = judged.typed; defined = judged.defined; next = next }) }))
 
-  clocked_end : (program clocked : List Item) → IsJudged text program → IsFormed program → HasClocks (replaced program) clocked → AtInit (replaced program) clocked end → AtTokens text end
+  clocked_end : (program clocked : List Item) → IsJudged text program → IsWellFormed program → HasClocks (replaced program) clocked → AtInit (replaced program) clocked end → AtTokens text end
   clocked_end program clocked judged formed clocks next =
       formed_end program judged (inr (record { formed = formed; next = inr (record { clocked = clocked; clocks = clocks; next = next }) }))
 
@@ -307,7 +307,7 @@ module _ (text : List ℕ) where
 
   accepted_end : (program clocked : List Item) (ranks : List (List ℕ)) → IsJudged text program → IsArranged program clocked ranks → AtTokens text None
   accepted_end program clocked ranks judged arranged =
-      clocked_end text None program clocked judged arranged.formed arranged.clocks (inr (record { initialised = arranged.initialised; next = inr (record { causal = arranged.causal; is = refl }) }))
+      clocked_end text None program clocked judged arranged.well_formed arranged.clocks (inr (record { initialised = arranged.initialised; next = inr (record { causal = arranged.causal; is = refl }) }))
 
 pub one_cause : OneCauseLaw
 one_cause text cause other h k = ends_agree text (Some cause) (Some other) (end_of text cause h) (end_of text other k)

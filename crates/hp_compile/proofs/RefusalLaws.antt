@@ -1,5 +1,5 @@
 -- The errors of the steps are causes of a refusal.
-use Rattle.std.proofs.Common.{◌≡◌, ◌≢◌, ℕ, List, Result, Ok, Err, ap, sym, subst, ◌∙◌}
+use Rattle.std.proofs.Common.{◌≡◌, ◌≢◌, ℕ, List, None, Some, Result, Ok, Err, refl, ap, sym, subst, ◌∙◌}
 use Rattle.std.specs.Prelude.{IfErr, MatchResult, IsErrAnd}
 use Rattle.hp_lexer.specs.Lexing.{AreTokensOf, Refuses}
 use Rattle.hp_lexer.specs.declared.lexer.LexErr.{LexErr}
@@ -15,7 +15,7 @@ use Rattle.hp_expand.specs.declared.error.ExpandErr.{ExpandErr}
 use Rattle.hp_expand.specs.declared.error.ExpandErr.TheVariants as expand_error
 use Rattle.hp_expand.specs.Numbering.{replaced}
 use Rattle.hp_clocks.specs.Answers.{Refuses as ClocksRefused}
-use Rattle.hp_compile.specs.Arranged.{HasClocks}
+use Rattle.hp_compile.specs.Arranged.{HasClocks, IsWellFormed}
 use Rattle.hp_clocks.specs.declared.error.ClockErr.{ClockErr}
 use Rattle.hp_clocks.specs.declared.error.ClockErr.TheVariants as clock_error
 use Rattle.hp_init.specs.Answers.{NamesLate}
@@ -33,13 +33,12 @@ use Rattle.hp_names.specs.declared.error.NameErr.TheVariants as name_error
 use Rattle.hp_typing.specs.Breaches as types
 use Rattle.hp_typing.specs.Claims as typing
 use Rattle.hp_typing.specs.Definedness.{definition_claims}
-use Rattle.hp_typing.specs.DefinitionRules.{WellDefined}
-use Rattle.hp_typing.specs.Rules.{WellTyped}
 use Rattle.hp_typing.specs.declared.error.TypeErr.{TypeErr}
 use Rattle.hp_typing.specs.declared.error.TypeErr.TheVariants as type_error
 use Rattle.hp_compile.specs.declared.refusal.Refusal.{Refusal}
 use Rattle.hp_compile.specs.declared.refusal.Refusal.TheVariants as refusal
 use Rattle.hp_compile.specs.Judged.{IsProgramOf, IsJudged}
+use Rattle.hp_compile.proofs.FormLaws.{one_breach, well_formed, formed}
 use Rattle.hp_compile.specs.Refusals.{Causes, IsRefused, of_lexing, of_parsing, of_names, of_types, of_expanding, of_clocks, of_init, of_cause}
 
 pub lexing_refuses : (text : List ℕ) (e : LexErr) → (e ≢ lexing.OutOfMemory → Refuses text e) → IsRefused text (of_lexing e)
@@ -65,23 +64,32 @@ types_refuse text program (type_error.Twice x at) p n h = Causes.mistyped progra
 types_refuse text program (type_error.Branch x at) p n h = Causes.mistyped program p n h (λ q. cc)
 types_refuse text program type_error.OutOfMemory p n h = tt
 
+some_none : (e : ExpandErr) → Some e ≡ None → ⊥
+some_none e h = cc
+
 pub form_refuses : (text : List ℕ) (program : List Item) (e : ExpandErr) → IsJudged text program → Names (refusal_of program) e → IsRefused text (of_expanding e)
-form_refuses text program (expand_error.Shape node at shape) j h = Causes.misformed program j.program_of j.named j.typed j.defined h
-form_refuses text program (expand_error.Limit node limit) j h = Causes.misformed program j.program_of j.named j.typed j.defined h
+form_refuses text program (expand_error.Shape node at shape) j h = Causes.misformed program j.program_of j.named j.typed j.defined (sym (one_breach text program j) ∙ h)
+form_refuses text program (expand_error.Limit node limit) j h = Causes.misformed program j.program_of j.named j.typed j.defined (sym (one_breach text program j) ∙ h)
 form_refuses text program expand_error.OutOfMemory j h = tt
 
+-- of a well-formed program nothing is said but want of memory
+pub form_memory : (text : List ℕ) (program : List Item) (e : ExpandErr) → IsJudged text program → IsWellFormed program → Names (refusal_of program) e → e ≡ expand_error.OutOfMemory
+form_memory text program (expand_error.Shape node at shape) j w h = absurd (some_none (expand_error.Shape node at shape) (sym h ∙ formed text program j w))
+form_memory text program (expand_error.Limit node limit) j w h = absurd (some_none (expand_error.Limit node limit) (sym h ∙ formed text program j w))
+form_memory text program expand_error.OutOfMemory j w h = refl
+
 pub clocks_refuse : (text : List ℕ) (program : List Item) (e : ClockErr) → IsJudged text program → IsFormed program → ClocksRefused (replaced program) e → IsRefused text (of_clocks e)
-clocks_refuse text program (clock_error.Clash node at) j f h = Causes.misclocked program j f h (λ q. cc)
-clocks_refuse text program (clock_error.Limit node limit) j f h = Causes.misclocked program j f h (λ q. cc)
+clocks_refuse text program (clock_error.Clash node at) j f h = Causes.misclocked program j (well_formed text program j f) h (λ q. cc)
+clocks_refuse text program (clock_error.Limit node limit) j f h = Causes.misclocked program j (well_formed text program j f) h (λ q. cc)
 clocks_refuse text program clock_error.OutOfMemory j f h = tt
 
 pub init_refuses : (text : List ℕ) (program clocked : List Item) (e : InitErr) → IsJudged text program → IsFormed program → HasClocks (replaced program) clocked → NamesLate (replaced program) e → IsRefused text (of_init e)
-init_refuses text program clocked (init_error.Late node at) j f c h = Causes.late program clocked j f c h (λ q. cc)
+init_refuses text program clocked (init_error.Late node at) j f c h = Causes.late program clocked j (well_formed text program j f) c h (λ q. cc)
 init_refuses text program clocked init_error.OutOfMemory j f c h = tt
 
 pub cause_refuses : (text : List ℕ) (program clocked : List Item) (e : CauseErr) → IsJudged text program → IsFormed program → HasClocks (replaced program) clocked → IsInitialised (replaced program) →
     NamesCycle clocked e → IsRefused text (of_cause e)
-cause_refuses text program clocked (cause_error.Cycle node points) j f c i h = Causes.cyclic program clocked j f c i h (λ q. cc)
+cause_refuses text program clocked (cause_error.Cycle node points) j f c i h = Causes.cyclic program clocked j (well_formed text program j f) c i h (λ q. cc)
 cause_refuses text program clocked cause_error.OutOfMemory j f c i h = tt
 
 -- want of memory is answered as such

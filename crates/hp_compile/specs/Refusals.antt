@@ -14,10 +14,9 @@ use Rattle.hp_parser.specs.Lexemes.{lexemes}
 use Rattle.hp_parser.specs.Refusals as parser
 use Rattle.hp_parser.specs.declared.parsing.ParseErr.{ParseErr}
 use Rattle.hp_parser.specs.declared.parsing.ParseErr.TheVariants as parsing
-use Rattle.hp_expand.specs.Refusals.{refusal_of, IsFormed}
 use Rattle.hp_expand.specs.Numbering.{replaced}
 use Rattle.hp_clocks.specs.Answers.{Refuses as ClocksRefused}
-use Rattle.hp_compile.specs.Arranged.{HasClocks}
+use Rattle.hp_compile.specs.Arranged.{HasClocks, IsWellFormed, first_breach}
 use Rattle.hp_clocks.specs.declared.error.ClockErr.{ClockErr}
 use Rattle.hp_clocks.specs.declared.error.ClockErr.TheVariants as clock_error
 use Rattle.hp_init.specs.Answers.{NamesLate}
@@ -104,18 +103,18 @@ pub data Causes (text : List ℕ) : Refusal → Type 0 where
   -- its names are well used, and this is the first wrong type, or where there is none the first wrong definition
   mistyped : {e : TypeErr} (program : List Item) → IsProgramOf text program → WellNamed program → types.NamesFirst (types.or_else (types.breaches (typing.claims program)) (types.breaches (definition_claims program))) e →
       e ≢ type_error.OutOfMemory → Causes text (refusal.Types e)
-  -- its names and types are right, and this is the first breach of the shapes of contracts, or where there is none the first limit that is passed
-  misformed : {e : ExpandErr} (program : List Item) → IsProgramOf text program → WellNamed program → WellTyped program → WellDefined program → refusal_of program ≡ Some e →
+  -- its names and types are right, and this is the first breach of the shapes of contracts, or where there is none the first limit that is passed once its inlined calls are replaced
+  misformed : {e : ExpandErr} (program : List Item) → IsProgramOf text program → WellNamed program → WellTyped program → WellDefined program → first_breach program ≡ Some e →
       Causes text (refusal.Expand e)
   -- its names, types and counts are right, and with its inlined calls replaced this is the first unit such that the units up to it allow no clocks, or where there is none the
   -- first clock that is too long
-  misclocked : {e : ClockErr} (program : List Item) → IsJudged text program → IsFormed program → ClocksRefused (replaced program) e → e ≢ clock_error.OutOfMemory →
+  misclocked : {e : ClockErr} (program : List Item) → IsJudged text program → IsWellFormed program → ClocksRefused (replaced program) e → e ≢ clock_error.OutOfMemory →
       Causes text (refusal.Clocks e)
   -- it has clocks, and this is the first unit that wants a value from the first instant on which is not there
-  late : {e : InitErr} (program clocked : List Item) → IsJudged text program → IsFormed program → HasClocks (replaced program) clocked → NamesLate (replaced program) e → e ≢ init_error.OutOfMemory →
+  late : {e : InitErr} (program clocked : List Item) → IsJudged text program → IsWellFormed program → HasClocks (replaced program) clocked → NamesLate (replaced program) e → e ≢ init_error.OutOfMemory →
       Causes text (refusal.Init e)
   -- its values are there from the first instant on, and these are the points of a cycle of reads in the first node that has one
-  cyclic : {e : CauseErr} (program clocked : List Item) → IsJudged text program → IsFormed program → HasClocks (replaced program) clocked → IsInitialised (replaced program) → NamesCycle clocked e →
+  cyclic : {e : CauseErr} (program clocked : List Item) → IsJudged text program → IsWellFormed program → HasClocks (replaced program) clocked → IsInitialised (replaced program) → NamesCycle clocked e →
       e ≢ cause_error.OutOfMemory → Causes text (refusal.Cause e)
 
 abbrev pub IsRefused : List ℕ → Refusal → Type 0

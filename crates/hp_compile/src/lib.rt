@@ -8,5 +8,5 @@ mod refusal;
 
 pub use arranging::{arrange, front};
 pub use judging::judge;
-pub use laws::one_cause;
+pub use laws::{one_cause, one_walk};
 pub use refusal::{Place, Refusal};
