@@ -45,7 +45,7 @@ use Rattle.law_automata.proofs.ReadiedLemmas.SoundPrograms.{ready_sound_law}
 use Rattle.law_automata.proofs.ReadiedLemmas.Whole.{whole_law}
 use Rattle.law_equations.specs.Answered.Answering.{filled_nodes}
 use Rattle.law_equations.specs.Made.Laws.{around_body}
-use Rattle.law_equations.specs.Made.Making.{Body, Known, base_site, each_once, names_of_eqns, outputs_of, over, sketch_block, sketch_node, unknown}
+use Rattle.law_equations.specs.Made.Making.{Body, Known, base_site, each_once, names_of_eqns, over, sketch_block, sketch_node, unknown}
 use Rattle.law_equations.specs.Made.Types.{obc_types_of}
 use Rattle.hp_complete.specs.Declaring.{known_of}
 use Rattle.hp_complete.proofs.KnownLaws.{nodes-known}
@@ -61,7 +61,7 @@ use Rattle.law_wellmade.proofs.TestedLemmas.FittedLaws.{differ_law}
 use Rattle.law_wellmade.proofs.TestedLemmas.TestedPrograms.{tested_law}
 use Rattle.law_wellmade.specs.Timely.Tested.{AreTested}
 use Rattle.law_choices.specs.Flat.Names.{body_sight, variable_of}
-use Rattle.law_choices.specs.Seeing.Comparing.{Comparison, is_integer, types_around}
+use Rattle.law_choices.specs.Seeing.Comparing.{Comparison, is_integer, outputs_by, types_around}
 use Rattle.law_choices.proofs.ClosedLemmas.ClosedLaws.{each_other}
 use Rattle.law_choices.proofs.FlatLemmas.Among.{each_at, tested_at}
 use Rattle.law_choices.proofs.ObservedLemmas.Said.{decls_same}
@@ -189,20 +189,20 @@ module _ (program after : List Item) (r : IsReady program after) (removable : Is
   types = types_of after
 
   abbrev outs : List ℕ → List Decl
-  outs f = outputs_of (node_among (reverse after) f)
+  outs f = outputs_by (node_among (reverse after) f)
 
   has_constructors : HaveConstructors program
   has_constructors = some_constructors program (some_of (types_of program) form.counts)
 
   -- the outputs of nodes stay
-  outs-same : (o : Option Node) → outputs_of (option_map (lowered_node enums) o) ≡ outputs_of o
+  outs-same : (o : Option Node) → outputs_by (option_map (lowered_node enums) o) ≡ outputs_by o
   outs-same None = refl
   outs-same (Some n) = refl
 
   outs-are : (s : Scope) → Grounded k s → (f : List ℕ) (n : Node) → lookup s.nodes f ≡ Some n → outs f ≡ n.outputs
   outs-are s ground f n h =
-      sym (outs-same (node_among (reverse after) f)) ∙ sym (ap outputs_of (lowered_among enums (reverse after) f)) ∙ sym (ap (λ xs. outputs_of (node_among xs f)) (map_reverse (lowered_item enums) after))
-      ∙ sym (ap outputs_of (nodes-known low_program f)) ∙ ap outputs_of (ground.nodes f n h)
+      sym (outs-same (node_among (reverse after) f)) ∙ sym (ap outputs_by (lowered_among enums (reverse after) f)) ∙ sym (ap (λ xs. outputs_by (node_among xs f)) (map_reverse (lowered_item enums) after))
+      ∙ sym (ap outputs_by (nodes-known low_program f)) ∙ ap outputs_by (ground.nodes f n h)
 
   low-stands : (earlier : List Item) (n : Node) → Stands after earlier n → (later : List Item) × (reverse low_program ≡ later ++ NodeItem (lowered_node enums n) ∷ map (lowered_item enums) earlier)
   low-stands earlier n e = (map (lowered_item enums) e.0, map_reverse (lowered_item enums) after ∙ ap (map (lowered_item enums)) e.1 ∙ map-append (lowered_item enums) e.0 (NodeItem n ∷ earlier))

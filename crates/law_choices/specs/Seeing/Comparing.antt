@@ -6,14 +6,13 @@ use Rattle.hp_tree.specs.declared.expr.Op2.{Op2}
 use Rattle.hp_tree.specs.declared.program.Item.{Item}
 use Rattle.hp_tree.specs.ExpressionTypes.{Scope, type_of, typed_in, untyped}
 use Rattle.hp_tree.specs.Expressions.{Expr, two}
-use Rattle.hp_tree.specs.Blocks.{Block, block, Eqns, no_eqn, more_eqns, Eqn, define}
+use Rattle.hp_tree.specs.Blocks.{Block, block, Decl, Eqns, no_eqn, more_eqns, Eqn, define}
 use Rattle.hp_tree.specs.Operators.{is_comparison}
 use Rattle.hp_tree.specs.Programs.{Node}
 use Rattle.hp_tree.specs.Instant.{Body, Equations, Head, Inputs, Place, Right, Tail}
 use Rattle.hp_tree.specs.Meaning.{controls_of, node_among, types_of}
 use Rattle.hp_meaning.specs.Causal.Sources.{below}
 use Rattle.hp_meaning.specs.Contract.Slots.{FreePlace, free_places, is_int}
-use Rattle.law_equations.specs.Made.Making.{outputs_of}
 use Rattle.law_choices.specs.Flat.Names.{is_body_name}
 use Rattle.law_choices.specs.Playing.Inputs.{places_in_row}
 
@@ -45,9 +44,14 @@ named_in integer known (more_eqns e es) w = if_named (named_by integer known e) 
 abbrev pub types_around : Node → Scope
 types_around n = typed_in (controls_of n.contract) (typed_in n.inputs (typed_in n.outputs untyped))
 
+-- the outputs of a node, if there is one
+abbrev pub outputs_by : Option Node → List Decl
+outputs_by None = []
+outputs_by (Some n) = n.outputs
+
 -- an expression that is an integer, where names have these types
 abbrev pub is_integer : List Item → Scope → Expr → Bool
-is_integer program names e = is_int (type_of (types_of program) (λ f. outputs_of (node_among (reverse program) f)) e names)
+is_integer program names e = is_int (type_of (types_of program) (λ f. outputs_by (node_among (reverse program) f)) e names)
 
 -- the right sides in the outermost block of a node
 abbrev pub named_in_body : List Item → Node → Block → (Place → Place) → List FreePlace
