@@ -11,6 +11,7 @@ use Rattle.law_controlled.specs.Said.{GreatestSaidLaw}
 use Rattle.law_decided.specs.Laws.{IsAcceptedText}
 use Rattle.law_decided.specs.Mirrored.{MachinesLaw}
 use Rattle.law_decided.specs.Outcomes.{AreSaid, OutcomesLaw}
+use Rattle.hp_compile.proofs.FormLaws.{formed}
 use Rattle.hp_compile.specs.Arranged.{IsArranged}
 use Rattle.hp_compile.specs.Judged.{IsJudged}
 use Rattle.hp_tree.specs.Programs.{Node}
@@ -29,7 +30,7 @@ accepted_by text program clocked ranks judged arranged =
       named = judged.named;
       typed = judged.typed;
       defined = judged.defined;
-      formed = arranged.formed;
+      formed = formed text program judged arranged.well_formed;
       initialised = arranged.initialised;
       clocks = arranged.clocks;
       fall = arranged.ordered;
@@ -50,7 +51,7 @@ pub all_greatest : GreatestSaidLaw → (files : Option Files) (file : List ℕ) 
 all_greatest law files file program held o safe machines =
     let j = held.judged in
     let a = held.arranged in
-    law held.text j.program_of.tokens program held.clocked held.ranks o j.program_of.spelled j.program_of.read j.named j.typed j.defined a.formed a.initialised a.clocks a.ordered safe machines
+    law held.text j.program_of.tokens program held.clocked held.ranks o j.program_of.spelled j.program_of.read j.named j.typed j.defined (formed held.text program j a.well_formed) a.initialised a.clocks a.ordered safe machines
 
 said_of : OutcomesLaw → (program ordered : List Item) → IsArrangedText program ordered → AreSaid ordered
 said_of law program ordered t = law t.0 t.2.program_of.tokens program ordered t.1 (accepted_by t.0 program ordered t.1 t.2 t.3)

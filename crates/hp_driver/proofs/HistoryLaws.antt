@@ -15,6 +15,7 @@ use Rattle.hp_obc.specs.Kinded.{kinds_in}
 use Rattle.hp_obc.specs.Machines.{Machine, Obc}
 use Rattle.hp_obc.specs.Steps.{machine_behaviour, run}
 use Rattle.hp_tree.specs.Reaction.{IsRun}
+use Rattle.hp_compile.proofs.FormLaws.{formed}
 use Rattle.hp_compile.specs.Arranged.{IsArranged}
 use Rattle.hp_compile.specs.Judged.{IsJudged}
 use Rattle.hp_meaning.specs.Causal.Runs.{NoControls}
@@ -60,7 +61,7 @@ accepted_plain text program clocked ranks judged arranged none =
       named = judged.named;
       typed = judged.typed;
       defined = judged.defined;
-      formed = arranged.formed;
+      formed = formed text program judged arranged.well_formed;
       initialised = arranged.initialised;
       clocks = arranged.clocks;
       fall = arranged.ordered;

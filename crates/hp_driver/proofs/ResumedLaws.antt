@@ -6,6 +6,7 @@ use Rattle.std.proofs.lemmas.Cmp.{nat_list_cmp_total}
 use Rattle.std.proofs.lemmas.Slice.Eq.{bytes_eq-Decides}
 use Rattle.hp_clocks.specs.Answers.{IsClocked}
 use Rattle.hp_clocks.specs.Writing.{AreWritten}
+use Rattle.hp_compile.proofs.FormLaws.{formed}
 use Rattle.hp_compile.specs.Arranged.{HasClocks}
 use Rattle.hp_compile.specs.Judged.{IsJudged}
 use Rattle.hp_expand.specs.Numbering.{replaced}
@@ -107,7 +108,7 @@ module _ (file node : List ℕ) (before found : Files) (source : map.get found f
       chosen_one =
           let j = a.held.judged in
           let arranged = a.held.arranged in
-          choosing a.held.text j.program_of.tokens a.program a.held.clocked a.held.ranks o p j.program_of.spelled j.program_of.read j.named j.typed j.defined arranged.formed arranged.initialised arranged.clocks arranged.ordered a.machines
+          choosing a.held.text j.program_of.tokens a.program a.held.clocked a.held.ranks o p j.program_of.spelled j.program_of.read j.named j.typed j.defined (formed a.held.text a.program j arranged.well_formed) arranged.initialised arranged.clocks arranged.ordered a.machines
           (subst (λ items. AreControlledMachines items p) (sym (same_arranged shortest a.program b.program a.held b.held)) b.machines)
 
       headed : heading_of_machine is.machine ≡ heading_of_machine its.machine
