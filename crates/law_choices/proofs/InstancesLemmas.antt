@@ -1,3 +1,7 @@
 pub mod Called
 pub mod Reacting
 pub mod Joined
+pub mod ShortValues
+pub mod ShortNodes
+pub mod ShortRuns
+pub mod InTheirKinds

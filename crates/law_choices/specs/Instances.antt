@@ -1,1 +1,3 @@
 pub mod Reacting
+pub mod Integers
+pub mod InKind

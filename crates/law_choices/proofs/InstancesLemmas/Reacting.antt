@@ -83,7 +83,7 @@ module _ (choices : Choices) (types : List TypeDecl) where
   word-of (NodeItem n ∷ items) f vs g now = either-word (bytes_eq n.name f) (node types real (N items) n vs (chosen_given (choices n.name) n vs g) now) ((N items).instant f vs g now) (inl refl) (word-of items f vs g now)
 
   -- an instant of a node holds its inputs
-  inputs-met : (items : List Item) (f : List ℕ) (m : Node) → node_among items f ≡ Some m → (vs : List Value) (g : Given) (i : Instant) (p : Place) → (N items).instant f vs g i (Inputs ∷ p) ≡ in_row (map alone vs) p
+  pub inputs-met : (items : List Item) (f : List ℕ) (m : Node) → node_among items f ≡ Some m → (vs : List Value) (g : Given) (i : Instant) (p : Place) → (N items).instant f vs g i (Inputs ∷ p) ≡ in_row (map alone vs) p
   inputs-met [] f m e vs g i p = absurd cc
   inputs-met (TypeItem t ∷ items) f m e vs g i p = inputs-met items f m e vs g i p
   inputs-met (NodeItem n ∷ items) f m e vs g i p = by (bytes_eq n.name f) e (λ k. inputs-met items f m k vs g i p)
