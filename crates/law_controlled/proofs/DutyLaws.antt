@@ -35,7 +35,7 @@ use Rattle.law_choices.proofs.RunsLemmas.Wholes.{typed-through}
 use Rattle.law_controlled.specs.Greatest.{KeepsDuty}
 use Rattle.law_controlled.proofs.KeepingLaws.{keeps_duty, safe_of}
 use Rattle.law_choices.specs.Choosing.Choices.{Choices}
-use Rattle.law_choices.specs.Instances.Reacting.{InstancesLaw}
+use Rattle.law_choices.specs.Instances.InKind.{InKindLaw}
 use Rattle.law_choices.specs.InTurn.Telling.{TellsForLaw}
 
 -- the laws that are joined here
@@ -49,7 +49,7 @@ pub record SteeringLaws : Type 0 where
   pub contracts : ReadyContractsLaw
   pub settled : ReadySettledLaw
   pub stands : StandsLaw
-  pub instances : InstancesLaw
+  pub instances : InKindLaw
   pub tells : TellsForLaw
   pub told : ContractToldLaw
   pub compares : ComparedLaw

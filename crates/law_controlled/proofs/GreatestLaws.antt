@@ -14,6 +14,8 @@ use Rattle.hp_meaning.specs.Contract.Guarantee.{AllSafe, HasContract, Through}
 use Rattle.law_equations.specs.Followed.Programs.{all_answers}
 use Rattle.law_games.specs.ReadyGames.Laws.{IsInOrder}
 use Rattle.law_wellmade.specs.Timely.Kinds.{kinds_of_decls}
+use Rattle.law_judged.specs.Named.Scoped.{EachNode}
+use Rattle.law_choices.specs.Instances.Integers.{WritesShort}
 use Rattle.law_choices.specs.InTurn.AllowedRuns.{IsAllowedRun}
 use Rattle.law_choices.specs.InTurn.Nodes.{contract_name}
 use Rattle.law_choices.specs.Playing.Greatest.{ChoosesGreatest}
@@ -26,22 +28,15 @@ use Rattle.law_controlled.proofs.ToldLaws.{told_kept}
 use Rattle.law_controlled.proofs.RunLaws.{chosen_run}
 use Rattle.law_controlled.proofs.DutyLaws.{SteeringLaws, keeps, rows_of}
 use Rattle.law_controlled.proofs.DepthLaws.{at_depth}
+use Rattle.law_controlled.proofs.SeenLaws.{greatest_of}
 
-module _ (laws : SteeringLaws) (program after : List Item) (ranks : List (List ℕ)) (order : IsInOrder program after ranks) (safe : AllSafe after (reverse after)) (o : Obc) (r : RunsAllowed program after o) where
+module _ (laws : SteeringLaws) (program after : List Item) (ranks : List (List ℕ)) (order : IsInOrder program after ranks) (safe : AllSafe after (reverse after)) (writes : EachNode WritesShort after) (o : Obc) (r : RunsAllowed program after o) where
   -- the inputs of a node, and a reaction of it over them
   abbrev Kinds : Node → List (List Value) → Type 0
   Kinds n inputs = AllByRecursion (AreOfKinds (kinds_of_decls (types_of after) n.inputs)) inputs
 
   abbrev Reacts : List ℕ → List (List Value) → Past → Type 0
   Reacts f inputs past = ChosenReaction ((r.allowed).allowed).choices after f inputs past
-
-  -- the greatest permitted values, in each kind of node
-  greatest_of : (f : List ℕ) (n : Node) (inputs : List (List Value)) (past : Past) → node_among (reverse after) f ≡ Some n → Kinds n inputs → Reacts f inputs past → SeesAll after n → Through (ChoosesGreatest after n) past
-  greatest_of f n inputs past e kinds reacts (inl none) = laws.greatest program after ranks r.observers r.all order r.chooses r.mirrored r.allowed f n inputs past e (inl none) kinds reacts
-  greatest_of f n inputs past e kinds reacts (inr (inl alone)) = laws.greatest program after ranks r.observers r.all order r.chooses r.mirrored r.allowed f n inputs past e (inr alone) kinds reacts
-  greatest_of f n inputs past e kinds reacts (inr (inr compares)) =
-      laws.seen program after ranks r.observers r.all order r.chooses r.mirrored r.allowed f n inputs past e kinds reacts
-      (laws.compares program after ranks r.observers r.all order r.chooses r.allowed f n inputs past e compares kinds reacts)
 
   -- and what is told
   told_of : (f : List ℕ) (n : Node) (inputs : List (List Value)) (past : Past) → node_among (reverse after) f ≡ Some n → Kinds n inputs → Reacts f inputs past → HasContract n → IsSeen after n → calls_of n ≡ []
@@ -67,7 +62,7 @@ module _ (laws : SteeringLaws) (program after : List Item) (ranks : List (List �
         reaction = laws.of_program choices after f inputs before.past before.is_one;
         outputs = it.outputs;
       } in
-      let are_greatest : SeesAll after n → Through (ChoosesGreatest after n) before.past = greatest_of f n inputs before.past e kinds before.is_one in
+      let are_greatest : SeesAll after n → Through (ChoosesGreatest after n) before.past = greatest_of laws program after ranks order o r f n inputs before.past e kinds before.is_one in
       record {
         allowed = run;
         greatest = λ knows.
@@ -82,5 +77,5 @@ module _ (laws : SteeringLaws) (program after : List Item) (ranks : List (List �
               values = values;
               kept = told_kept before.past (all_answers (((r.allowed).one).answers f) inputs) (all_answers (((r.allowed).one).answers (contract_name f)) inputs) values (keeps_contract n none before.past duty);
             };
-        at_depth = at_depth laws program after ranks order safe o r f n inputs before.past e rows before.is_one;
+        at_depth = at_depth laws program after ranks order safe writes o r f n inputs before.past e kinds before.is_one;
       }

@@ -19,5 +19,6 @@ pub mod PartLaws
 pub mod PlantLaws
 pub mod RunLaws
 pub mod SaidLaws
+pub mod SeenLaws
 pub mod ToldLaws
 pub mod WorkedLaws

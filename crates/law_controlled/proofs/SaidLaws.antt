@@ -21,6 +21,10 @@ use Rattle.law_history.proofs.StreamsLemmas.NamesApart.{name_found, own_found, r
 use Rattle.hp_meaning.specs.Contract.Guarantee.{AllSafe, HasContract}
 use Rattle.law_games.specs.ReadyGames.Laws.{IsInOrder, TextOrderLaw}
 use Rattle.law_wellmade.specs.Timely.Kinds.{kinds_of_decls}
+use Rattle.law_wellmade.specs.Spelled.Integers.{NodeShort}
+use Rattle.law_judged.specs.Named.Scoped.{EachNode}
+use Rattle.law_choices.specs.Instances.Integers.{WritesShort}
+use Rattle.law_choices.specs.Observed.Contracts.{IsObservable}
 use Rattle.law_choices.specs.Observed.Texts.{ObservableTextsLaw}
 use Rattle.law_choices.specs.InTurn.AllowedRuns.{IsAllowedRun}
 use Rattle.law_choices.specs.InTurn.Allowed.{AllowedRunLaw}
@@ -67,6 +71,12 @@ from_behind items apart f n e =
     ap reverse s.is ∙ reverse-append s.before (NodeItem n ∷ s.behind) ∙ ap (λ xs. xs ++ reverse s.before) (reverse-append (NodeItem n ∷ []) s.behind) ∙ append_assoc (reverse s.behind) (NodeItem n ∷ []) (reverse s.before) in
     ap (node_among (reverse items)) (sym (name_found items f n e)) ∙ ap (λ xs. node_among xs n.name) turned ∙ own_found (reverse s.behind) (reverse s.before) n (subst AreApart turned apart)
 
+-- what nodes write, and contracts that can be observed, has 32 bits
+all_short : (items : List Item) → EachNode NodeShort items → EachNode IsObservable items → EachNode WritesShort items
+all_short [] h k = tt
+all_short (TypeItem t ∷ items) h k = all_short items h k
+all_short (NodeItem n ∷ items) h k = let can = k.0 in ((h.0, can.short), all_short items h.1 k.1)
+
 -- ---- what is said
 
 module _ (program after : List Item) (o : Obc) (r : RunsAllowed program after o) where
@@ -100,9 +110,9 @@ module _ (program after : List Item) (o : Obc) (r : RunsAllowed program after o)
   says : AllowedRunLaw → (f : List ℕ) (n : Node) → node_among (reverse after) f ≡ Some n → SaysAllowed after o f n
   says law f n e inputs kinds = subst (IsAllowedRun after f inputs) (sym (answers_said f n e inputs kinds)) (law after r.all r.allowed f n inputs e kinds)
 
-  says_greatest : SteeringLaws → (ranks : List (List ℕ)) → IsInOrder program after ranks → AllSafe after (reverse after) → (f : List ℕ) (n : Node) → node_among (reverse after) f ≡ Some n → SaysGreatest after o f n
-  says_greatest laws ranks order safe f n e inputs kinds =
-      let s = steered laws program after ranks order safe o r f n inputs e kinds in
+  says_greatest : SteeringLaws → (ranks : List (List ℕ)) → IsInOrder program after ranks → AllSafe after (reverse after) → EachNode IsObservable after → (f : List ℕ) (n : Node) → node_among (reverse after) f ≡ Some n → SaysGreatest after o f n
+  says_greatest laws ranks order safe observable f n e inputs kinds =
+      let s = steered laws program after ranks order safe (all_short after (r.chooses).short observable) o r f n inputs e kinds in
       let said = all_answers (r.allowed.one.answers f) inputs in
       let told = reverse (run (machine_behaviour o (contract_name f)) (reverse inputs)) in
       let run_said : IsSteeredRun after f n inputs said told = record {
@@ -140,6 +150,7 @@ pub greatest_said_law : SteeringLaws → AllowedLaw → SignLaw → TextOrderLaw
 greatest_said_law laws allowed sign order observable text tokens program after ranks o a p named typed defined formed initialised clocks fall safe machines f n e =
     let q = when_accepted text tokens program after a p named typed defined formed initialised clocks in
     let in_order = order text tokens program after ranks a p named typed defined formed initialised clocks fall in
-    let r = allowed program after ranks o in_order q.removable q.form q.short (sign text tokens program after a p clocks) (observable text tokens program after a p clocks) machines in
+    let can = observable text tokens program after a p clocks in
+    let r = allowed program after ranks o in_order q.removable q.form q.short (sign text tokens program after a p clocks) can machines in
     let found = from_behind after (ready_apart_after program after q.ready) f n e in
-    (says_greatest program after o r laws ranks in_order safe f n found, tells_beside program after o r laws.tells f n found)
+    (says_greatest program after o r laws ranks in_order safe can f n found, tells_beside program after o r laws.tells f n found)

@@ -1,16 +1,22 @@
--- Nothing is free in the heater but its inputs, and a house that calls it has its greatest permitted values. The comparisons of the cooler have names.
-use Rattle.std.proofs.Common.{inr, refl, arith}
-use Rattle.law_controlled.specs.AtDepth.{KnowsAllCalled}
-use Rattle.law_controlled.specs.Worked.{CoolerLaw, HeaterLaw, HouseLaw, cool_promise, heater, housing, its_call, promise}
+-- Nothing is free in the heater but its inputs, and a house that calls it has its greatest permitted values. The comparisons of the cooler have names, and it has its greatest permitted values in a store that calls it.
+use Rattle.std.proofs.Common.{inl, inr, refl, arith}
+use Rattle.law_controlled.specs.AtDepth.{SeesAll}
+use Rattle.law_controlled.specs.Worked.{CoolerLaw, HeaterLaw, HouseLaw, StoreLaw, cool_promise, cooler, cooler_call, heater, housing, its_call, promise, storing}
 
 pub heater_law : HeaterLaw
 heater_law = ((promise, refl), refl, refl)
 
-knows : KnowsAllCalled housing heater
-knows = inr (refl, (refl, (refl, tt)))
+sees : SeesAll housing heater
+sees = inr (inl refl)
 
 pub house_law : HouseLaw
-house_law = (knows, λ past now h t. (h.1 0 its_call (omega arith) t).0 knows)
+house_law = (sees, λ past now h t. (h.1 0 its_call (omega arith) t).0 sees)
 
 pub cooler_law : CoolerLaw
 cooler_law = ((cool_promise, refl), refl, refl)
+
+cooler_sees : SeesAll storing cooler
+cooler_sees = inr (inr refl)
+
+pub store_law : StoreLaw
+store_law = (cooler_sees, λ past now h t. (h.1 0 cooler_call (omega arith) t).0 cooler_sees)

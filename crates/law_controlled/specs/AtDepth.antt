@@ -1,12 +1,10 @@
 -- What is so of each instance of a reaction, at every depth: the controllable variables of callees have the greatest permitted values too.
 -- Source: own; the controller of Delaval, Marchand and Rutten (LCTES 2010), in each instance of a node.
-use Rattle.std.specs.Prelude.{◌≡◌, ◌⊎◌, ⊤, false, ℕ, IsTrue, List, [], ◌∷◌, ◌++◌, All, reverse}
+use Rattle.std.specs.Prelude.{◌≡◌, ◌⊎◌, ⊤, ℕ, IsTrue, List, [], ◌∷◌, ◌++◌, All, reverse}
 use Rattle.std.specs.Bool.{MatchBool}
-use Rattle.std.specs.List.{AllByRecursion}
 use Rattle.std.specs.Str.{bytes_eq}
 use Rattle.hp_tree.specs.declared.program.Item.{Item}
 use Rattle.hp_tree.specs.declared.program.Item.TheVariants.{TypeItem, NodeItem}
-use Rattle.hp_tree.specs.Blocks.{Decl}
 use Rattle.hp_tree.specs.Instant.{Fresh, Instance, Instant, Past}
 use Rattle.hp_tree.specs.Meaning.{controls_of}
 use Rattle.hp_tree.specs.Operators.{is_there}
@@ -17,9 +15,9 @@ use Rattle.hp_meaning.specs.Contract.Duties.{duty, enforces}
 use Rattle.hp_meaning.specs.Contract.Forgetting.{erased, erase}
 use Rattle.hp_meaning.specs.Contract.FreePlaces.{calls_of, instance_at}
 use Rattle.hp_meaning.specs.Contract.Guarantee.{AllAssumed, AllSupposed, HasContract, Through}
-use Rattle.hp_meaning.specs.Contract.Slots.{is_int}
 use Rattle.law_choices.specs.Playing.Greatest.{ChoosesGreatest}
 use Rattle.law_choices.specs.Playing.Inputs.{HasInputsAlone}
+use Rattle.law_choices.specs.Seeing.Comparing.{ComparesByName}
 
 -- A property of a node at an instant, after its own past, is one of the node of this name and of each instance below it that is there, at every depth; the nodes are given the last one first.
 abbrev pub InEach : (Node → Past → Instant → Type 0) → List Item → List ℕ → Past → Instant → Type 0
@@ -30,13 +28,13 @@ InEach P (NodeItem n ∷ earlier) f past now =
     (P n past now × All (λ (k : Placed). IsTrue (is_there (instance_at k now (Fresh ∷ []))) → InEach P earlier k.point.name (own_past (k.place ++ (Instance ∷ [])) past now) (instance_at k now)) (calls_of n))
     (InEach P earlier f past now)
 
--- no input is an integer
-abbrev pub TakesNoInteger : Node → Type 0
-TakesNoInteger n = AllByRecursion (λ (d : Decl). is_int d.ty ≡ false) n.inputs
+-- Nothing is free in a node but its inputs, or but these and comparisons of integers that have names.
+abbrev pub IsSeen : List Item → Node → Type 0
+IsSeen program n = HasInputsAlone program n ⊎ ComparesByName program n
 
--- A node that knows all wherever it is called: it has no controllable variable; or nothing is free in it but its inputs, and none of them is an integer.
-abbrev pub KnowsAllCalled : List Item → Node → Type 0
-KnowsAllCalled program n = (controls_of n.contract ≡ []) ⊎ (HasInputsAlone program n × TakesNoInteger n)
+-- A node has no controllable variable, or it is such a node.
+abbrev pub SeesAll : List Item → Node → Type 0
+SeesAll program n = (controls_of n.contract ≡ []) ⊎ IsSeen program n
 
 -- The controllable variables of a node have the greatest permitted values at an instant after its own past. If the node has a contract, its duty holds there, if its hypothesis holds there and held at all instants before; so, if it calls nothing, its guarantee holds where its assumption does and did.
 pub record IsGreatestAt (program : List Item) (n : Node) (past : Past) (now : Instant) : Type 0 where
@@ -44,10 +42,10 @@ pub record IsGreatestAt (program : List Item) (n : Node) (past : Past) (now : In
   pub owed : HasContract n → AllSupposed n (erase (now ∷ past)) → IsTrue (duty n (erased now))
   pub enforced : HasContract n → calls_of n ≡ [] → AllAssumed (now ∷ past) → IsTrue (enforces now)
 
--- so it is of a node that knows all
-abbrev pub IsGreatestIfKnown : List Item → Node → Past → Instant → Type 0
-IsGreatestIfKnown program n past now = KnowsAllCalled program n → IsGreatestAt program n past now
+-- so it is of a node that sees all, whatever its inputs are, integers too
+abbrev pub IsGreatestIfSeen : List Item → Node → Past → Instant → Type 0
+IsGreatestIfSeen program n past now = SeesAll program n → IsGreatestAt program n past now
 
 -- So it is of the node of a name and of each instance below it that is there, at every depth and at each instant of a past.
 abbrev pub AreGreatestAtDepth : List Item → List ℕ → Past → Type 0
-AreGreatestAtDepth program f past = Through (InEach (IsGreatestIfKnown program) (reverse program) f) past
+AreGreatestAtDepth program f past = Through (InEach (IsGreatestIfSeen program) (reverse program) f) past

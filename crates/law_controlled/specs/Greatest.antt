@@ -1,6 +1,6 @@
 -- Machines that say runs of the greatest permitted values: so does that of each node of which nothing is free but the inputs, and comparisons of integers that have names; and it keeps its contract.
 -- Source: own; the controller of Delaval, Marchand and Rutten (LCTES 2010).
-use Rattle.std.specs.Prelude.{◌≡◌, ◌⊎◌, codes, ℕ, IsTrue, List, [], ◌∷◌, ◌++◌, reverse, Some}
+use Rattle.std.specs.Prelude.{◌≡◌, codes, ℕ, IsTrue, List, [], ◌∷◌, ◌++◌, reverse, Some}
 use Rattle.std.specs.List.{AllByRecursion}
 use Rattle.hp_base.specs.Kinds.{AreOfKinds}
 use Rattle.hp_base.specs.declared.value.Value.{Value}
@@ -8,7 +8,7 @@ use Rattle.hp_obc.specs.Machines.{Obc}
 use Rattle.hp_obc.specs.Steps.{machine_behaviour, run}
 use Rattle.hp_tree.specs.declared.program.Item.{Item}
 use Rattle.hp_tree.specs.Instant.{Past}
-use Rattle.hp_tree.specs.Meaning.{controls_of, node_among, types_of}
+use Rattle.hp_tree.specs.Meaning.{node_among, types_of}
 use Rattle.hp_tree.specs.Programs.{Node}
 use Rattle.hp_meaning.specs.Contract.ChosenRuns.{IsChosenRun}
 use Rattle.hp_meaning.specs.Contract.Duties.{duty, enforces}
@@ -18,9 +18,7 @@ use Rattle.hp_meaning.specs.Contract.Guarantee.{AllAssumed, AllSupposed, HasCont
 use Rattle.law_wellmade.specs.Timely.Kinds.{kinds_of_decls}
 use Rattle.law_choices.specs.InTurn.AllowedRuns.{IsAllowedRun}
 use Rattle.law_choices.specs.Playing.Greatest.{ChoosesGreatest}
-use Rattle.law_choices.specs.Playing.Inputs.{HasInputsAlone}
-use Rattle.law_choices.specs.Seeing.Comparing.{ComparesByName}
-use Rattle.law_controlled.specs.AtDepth.{AreGreatestAtDepth}
+use Rattle.law_controlled.specs.AtDepth.{AreGreatestAtDepth, IsSeen, SeesAll}
 use Rattle.law_controlled.specs.Telling.{TellsBeside, TellsContract}
 
 -- At each instant of a past, the duty of the node holds where its hypothesis holds and held at all instants before: it supposes its assumption, and that each callee keeps its contract; it owes its guarantee, and the assumption of each callee.
@@ -31,21 +29,13 @@ KeepsDuty n past = Through (λ older now. AllSupposed n (erase (now ∷ older)) 
 abbrev pub KeepsContract : Past → Type 0
 KeepsContract past = Through (λ older now. AllAssumed (now ∷ older) → IsTrue (enforces now)) past
 
--- Nothing is free in a node but its inputs, or but these and comparisons of integers that have names.
-abbrev pub IsSeen : List Item → Node → Type 0
-IsSeen program n = HasInputsAlone program n ⊎ ComparesByName program n
-
--- A node has no controllable variable, or it is such a node.
-abbrev pub SeesAll : List Item → Node → Type 0
-SeesAll program n = (controls_of n.contract ≡ []) ⊎ IsSeen program n
-
 -- The controllable variables of a node have the greatest permitted values at each instant of a past. If the node has a contract, it keeps its duty; so, if it calls nothing, it keeps its contract.
 pub record IsGreatest (program : List Item) (n : Node) (past : Past) : Type 0 where
   pub greatest : Through (ChoosesGreatest program n) past
   pub duty : HasContract n → KeepsDuty n past
   pub contract : HasContract n → calls_of n ≡ [] → KeepsContract past
 
--- What is said over inputs, newest first, is a run that the program allows. If nothing is free in the node but its inputs and named comparisons, the values in this run are the greatest permitted ones; so, if it calls nothing, it is the run of chosen values, and what is told beside, newest first, are the assumption and the guarantee of its contract in this run. Whatever the node is, each instance in the run, at every depth, has the greatest permitted values if it knows all.
+-- What is said over inputs, newest first, is a run that the program allows. If nothing is free in the node but its inputs and named comparisons, the values in this run are the greatest permitted ones; so, if it calls nothing, it is the run of chosen values, and what is told beside, newest first, are the assumption and the guarantee of its contract in this run. Whatever the node is, each instance in the run, at every depth, has the greatest permitted values if nothing is free in its node but inputs and named comparisons.
 pub record IsSteeredRun (program : List Item) (f : List ℕ) (n : Node) (inputs said told : List (List Value)) : Type 0 where
   pub allowed : IsAllowedRun program f inputs said
   pub greatest : SeesAll program n → IsGreatest program n allowed.past

@@ -1,13 +1,13 @@
--- Nodes with a controllable variable of which nothing is free but the inputs, and named comparisons of integers. A heater has three modes, one of which is chosen: it is off where it is hot, and never goes from full to off at once, if a warning comes before it gets hot. A house calls it. A cooler is told a temperature, and is off where that is low.
+-- Nodes with a controllable variable of which nothing is free but the inputs, and named comparisons of integers. A heater has three modes, one of which is chosen: it is off where it is hot, and never goes from full to off at once, if a warning comes before it gets hot. A house calls it. A cooler is told a temperature, and is off where that is low. A store calls it, and tells it less than is measured.
 -- Source: own.
-use Rattle.std.specs.Prelude.{◌≡◌, codes, false, ℕ, pos, IsTrue, List, [], ◌∷◌, ◌++◌, None, Some, reverse}
+use Rattle.std.specs.Prelude.{◌≡◌, codes, false, ℕ, pos, IsTrue, List, [], ◌∷◌, ◌++◌, None, Some, map, reverse}
 use Rattle.hp_base.specs.declared.span.Span.{Span}
 use Rattle.hp_base.specs.declared.ty.Const.TheVariants as const
 use Rattle.hp_base.specs.declared.ty.Ty.{Ty}
 use Rattle.hp_base.specs.declared.ty.Ty.TheVariants as ty
 use Rattle.hp_tree.specs.declared.decl.Cons.TheVariants.{True}
 use Rattle.hp_tree.specs.declared.expr.Op1.TheVariants.{Not}
-use Rattle.hp_tree.specs.declared.expr.Op2.TheVariants.{And, Eq, Imp, Lt}
+use Rattle.hp_tree.specs.declared.expr.Op2.TheVariants.{And, Eq, Imp, Lt, Sub}
 use Rattle.hp_tree.specs.declared.program.Item.{Item}
 use Rattle.hp_tree.specs.declared.program.Item.TheVariants.{NodeItem, TypeItem}
 use Rattle.hp_tree.specs.Blocks.{Block, Decl, Eqn, block, define, eqns_of}
@@ -22,7 +22,7 @@ use Rattle.hp_meaning.specs.Contract.FreePlaces.{calls_of, instance_at}
 use Rattle.hp_meaning.specs.Contract.Guarantee.{HasContract}
 use Rattle.law_choices.specs.Playing.Inputs.{HasInputsAlone}
 use Rattle.law_choices.specs.Seeing.Comparing.{ComparesByName}
-use Rattle.law_controlled.specs.AtDepth.{InEach, IsGreatestAt, IsGreatestIfKnown, KnowsAllCalled}
+use Rattle.law_controlled.specs.AtDepth.{InEach, IsGreatestAt, IsGreatestIfSeen, SeesAll}
 
 abbrev somewhere : Span
 somewhere = record { line = 1; col = 1; end = 2 }
@@ -97,11 +97,11 @@ housing = TypeItem mode ∷ NodeItem heater ∷ NodeItem house ∷ []
 abbrev pub its_call : Placed
 its_call = point_at kind.Call (codes "heater") somewhere (Body ∷ Equations ∷ Head ∷ Right ∷ [])
 
--- The heater knows all where it is called. So where each instance that knows all has the greatest permitted values, at every depth of a run of the house, the heater has them and keeps its contract.
+-- The heater sees all. So where each instance that sees all has the greatest permitted values, at every depth of a run of the house, the heater has them and keeps its contract.
 abbrev pub HouseLaw : Type 0
 HouseLaw =
-    KnowsAllCalled housing heater
-    × ((past : Past) (now : Instant) → InEach (IsGreatestIfKnown housing) (reverse housing) house.name past now → IsTrue (is_there (instance_at its_call now (Fresh ∷ [])))
+    SeesAll housing heater
+    × ((past : Past) (now : Instant) → InEach (IsGreatestIfSeen housing) (reverse housing) house.name past now → IsTrue (is_there (instance_at its_call now (Fresh ∷ [])))
     → IsGreatestAt housing heater (own_past (its_call.place ++ (Instance ∷ [])) past now) (instance_at its_call now))
 
 -- ---- a cooler that compares a temperature
@@ -145,3 +145,32 @@ cooling = TypeItem mode ∷ NodeItem cooler ∷ []
 -- It has a contract, nothing is free in it but its input and these comparisons, and it calls nothing.
 abbrev pub CoolerLaw : Type 0
 CoolerLaw = HasContract cooler × ComparesByName cooling cooler × (calls_of cooler ≡ [])
+
+-- ---- a store that calls it
+
+-- the cooler is told one degree less
+abbrev less : Expr
+less = two somewhere Sub (read (codes "temperature")) (constant somewhere (const.I (pos 1)))
+
+abbrev pub store : Node
+store = record {
+  name = codes "store";
+  inputs = cooler.inputs;
+  outputs = cooler.outputs;
+  contract = None;
+  body = block [] (eqns_of (define somewhere (map (λ (d : Decl). (d.name, somewhere)) cooler.outputs) (call somewhere (codes "cooler") false (more_exprs less no_expr)) ∷ []));
+  span = somewhere;
+}
+
+abbrev pub storing : List Item
+storing = TypeItem mode ∷ NodeItem cooler ∷ NodeItem store ∷ []
+
+abbrev pub cooler_call : Placed
+cooler_call = point_at kind.Call (codes "cooler") somewhere (Body ∷ Equations ∷ Head ∷ Right ∷ [])
+
+-- The cooler takes an integer, and sees all. So where each instance that sees all has the greatest permitted values, at every depth of a run of the store, the cooler has them and keeps its contract.
+abbrev pub StoreLaw : Type 0
+StoreLaw =
+    SeesAll storing cooler
+    × ((past : Past) (now : Instant) → InEach (IsGreatestIfSeen storing) (reverse storing) store.name past now → IsTrue (is_there (instance_at cooler_call now (Fresh ∷ [])))
+    → IsGreatestAt storing cooler (own_past (cooler_call.place ++ (Instance ∷ [])) past now) (instance_at cooler_call now))

@@ -12,7 +12,7 @@ ghost use Rattle.law_controlled.specs.One.{OneListLaw, OneTextListLaw};
 ghost use Rattle.law_controlled.specs.Parts.{MadePartLaw};
 ghost use Rattle.law_controlled.specs.Said.{GreatestSaidLaw, SaidLaw};
 ghost use Rattle.law_controlled.specs.Program.{ChoosingNamesLaw, MadeNamesLaw, MadeNodesLaw};
-ghost use Rattle.law_controlled.specs.Worked.{CoolerLaw, HeaterLaw, HouseLaw};
+ghost use Rattle.law_controlled.specs.Worked.{CoolerLaw, HeaterLaw, HouseLaw, StoreLaw};
 
 use hp_abstract::nodes_have_one_abstraction;
 use hp_form::regular::regular_equations_have_form;
@@ -24,7 +24,7 @@ use law_choices::in_turn::{
     nodes_that_choose_answer_as_the_program_allows, nodes_that_choose_stand_in_turn,
     observers_of_contracts_suit, programs_of_texts_may_choose, well_built_observers_suit,
 };
-use law_choices::instances::instances_react_as_callees;
+use law_choices::instances::instances_react_in_kind;
 use law_choices::observed::{
     contracts_of_texts_can_be_observed, observers_can_be_compiled, tests_of_observers_are_typed,
 };
@@ -132,13 +132,13 @@ pub fn machines_of_texts_say_what_is_allowed()
     contracts_of_texts_can_be_observed();
 }
 
-/// And if nothing is free in such a node but its inputs, and comparisons of integers that have names, the controllable variables have the greatest permitted values in that reaction; so it keeps its contract. So it is of each instance in the reaction, at every depth, if nothing is free in it but its inputs, of which none is an integer. The machine of a contract says what the machine of its node says, with two truth values behind; if the node is such a node, and it calls nothing, these are the values of the assumption and of the guarantee in that reaction.
+/// And if nothing is free in such a node but its inputs, and comparisons of integers that have names, the controllable variables have the greatest permitted values in that reaction; so it keeps its contract. So it is of each instance in the reaction, at every depth, if nothing is free in its node but inputs and such comparisons. The machine of a contract says what the machine of its node says, with two truth values behind; if the node is such a node, and it calls nothing, these are the values of the assumption and of the guarantee in that reaction.
 pub fn machines_of_texts_choose_the_greatest()
     ensures { GreatestSaidLaw }
 {
     machines_say_what_is_allowed();
     nodes_that_know_all_choose_the_greatest();
-    instances_react_as_callees();
+    instances_react_in_kind();
     a_node_tells_each_contract();
     contracts_are_told();
     named_comparisons_are_seen();
@@ -194,4 +194,9 @@ pub fn a_worked_house()
 /// In a cooler with three modes, which is told a temperature, nothing is free but the inputs and two comparisons of the temperature, which have names.
 pub fn a_worked_cooler()
     ensures { CoolerLaw }
+{}
+
+/// The cooler has the greatest permitted values in a store that calls it and tells it an integer, and keeps its contract there.
+pub fn a_worked_store()
+    ensures { StoreLaw }
 {}

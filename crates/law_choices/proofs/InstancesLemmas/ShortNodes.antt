@@ -1,7 +1,6 @@
 -- What a node says of an instant holds integers of 32 bits alone where the instant and its past do, and the inputs, the values that are chosen, and what the node writes are such.
 use Rattle.std.proofs.Common.{ℕ, suc, Bool, List, [], ◌∷◌, map}
 use Rattle.std.specs.Prelude.{false, if◌then◌else◌, nat_eq, None, Option, Some}
-use Rattle.std.specs.List.{AllByRecursion}
 use Rattle.std.specs.Str.{bytes_eq}
 use Rattle.hp_base.specs.declared.span.Span.{Span}
 use Rattle.hp_base.specs.declared.ty.Const.{Const}
@@ -12,10 +11,10 @@ use Rattle.hp_tree.specs.Blocks.{Decl, Block, block, Eqns, no_eqn, more_eqns, Eq
 use Rattle.hp_tree.specs.Expressions.{Expr, constant, variable, last_of, one, two, choose, pre, fby, arrow, when_is, merge, call, Exprs, no_expr, more_exprs, Parts, no_part, more_parts}
 use Rattle.hp_tree.specs.Programs.{Contract, Node, TypeDecl}
 use Rattle.hp_tree.specs.Operators.{constant_of, is_cons, is_true, real}
-use Rattle.hp_tree.specs.Instant.{Assume, Body, Controls, Enforce, Named, Observer, Equations, Head, Tail, Right, Test, Arms as ArmsOf, States as StatesOf, Until, Unless, First, Second, Third, Args, Instance, Step, Instant, Past, Given, at, part, parts, top, own, since, newest, at_first, nothing, in_row, in_state, Clock, holds, without}
+use Rattle.hp_tree.specs.Instant.{Assume, Body, Controls, Enforce, Named, Observer, Equations, Head, Tail, Right, Test, Arms as ArmsOf, States as StatesOf, Until, Unless, First, Second, Third, Args, Instance, Instant, Past, Given, at, part, parts, top, own, since, newest, at_first, nothing, in_row, in_state, Clock, holds, without}
 use Rattle.hp_tree.specs.Meaning.{Names, Nodes, Jump, absent, arm, block_defines, clock_of, conditions, controls_of, declares, defined, defines, equation, equations, expr, exprs, from_arm, from_block, from_state, given_to, gives, input_of, inside, last_in, lasts, merged, node, observer, only_output, output_for, previous, read_in, right, scope, selected, some_defines, states, strong, weak, weak_in, within}
 use Rattle.law_equations.specs.Answered.Short.{AreShort, IsShort}
-use Rattle.law_wellmade.specs.Spelled.Integers.{ArmsShort, BlockShort, ConditionShort, ContractShort, EqnShort, EqnsShort, ExprShort, ExprsShort, LastShort, LastsShort, NodeShort, PartsShort, StatesShort, TestsShort}
+use Rattle.law_wellmade.specs.Spelled.Integers.{ArmsShort, BlockShort, ConditionShort, ContractShort, EqnShort, EqnsShort, ExprShort, ExprsShort, LastShort, LastsShort, PartsShort, StatesShort, TestsShort}
 use Rattle.law_choices.specs.Instances.Integers.{HoldsShort, WritesShort}
 use Rattle.law_choices.proofs.InstancesLemmas.ShortValues.{AllHold, alone_holds, arms_hold, at_first_short, block_holds, body_holds, choose_short, constant_short, if_holds, if_short, instance_holds, newest_short, node_holds, observer_holds, of_two_holds, one_holds, one_short, own_holds, parts_hold, right_holds, row_holds, since_holds, state_holds, three_holds, tops_short, two_holds, two_short, with_row_holds, words_hold}
 
@@ -153,7 +152,7 @@ module _ (types : List TypeDecl) (N : Nodes) (keep : KeepShort N) where
         let called = N.instant f (map top is) (since false (at Instance g)) (part Instance now) in
         let i = if holds types c names then called else nothing in
         let y = if_holds (holds types c names) called nothing
-          (keep f (map top is) (since false (at Instance g)) (part Instance now) (tops_short is x) (own_holds (parts Instance g.past) (parts_hold Instance g.past h)) (λ p. a (Instance ∷ p))) (λ p. tt) in
+        (keep f (map top is) (since false (at Instance g)) (part Instance now) (tops_short is x) (own_holds (parts Instance g.past) (parts_hold Instance g.past h)) (λ p. a (Instance ∷ p))) (λ p. tt) in
         instance_holds (only_output (N.outputs f) i) is i (only_short (N.outputs f) i y) x y
 
     exprs_hold : (es : Exprs) → ExprsShort es → (c : Clock) (names last : Names) → NamesShort names → NamesShort last → (g : Given) → AllHold g.past → (now : Instant) → HoldsShort now → AllHold (exprs types real N es c names last g now)

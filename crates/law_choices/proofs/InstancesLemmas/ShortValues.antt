@@ -9,7 +9,7 @@ use Rattle.hp_base.specs.Kinds.{Ints, IsOfKind}
 use Rattle.hp_base.specs.declared.ty.Const.{Const}
 use Rattle.hp_base.specs.declared.ty.Const.TheVariants as const
 use Rattle.hp_base.specs.declared.value.Value.{Value}
-use Rattle.hp_base.specs.declared.value.Value.TheVariants.{Absent, Nil, B, E, I, Star}
+use Rattle.hp_base.specs.declared.value.Value.TheVariants.{Absent, Nil, B, E, I}
 use Rattle.hp_obc.specs.Form.{result_kind}
 use Rattle.hp_obc.specs.Values.{operated}
 use Rattle.hp_obc.specs.declared.command.ObcOp.{ObcOp}
@@ -19,7 +19,7 @@ use Rattle.hp_tree.specs.declared.expr.Op1.{Op1}
 use Rattle.hp_tree.specs.declared.expr.Op1.TheVariants.{Not, Neg}
 use Rattle.hp_tree.specs.declared.expr.Op2.{Op2}
 use Rattle.hp_tree.specs.declared.expr.Op2.TheVariants.{And, Or, Xor, Imp, Eq, Ne, Lt, Le, Gt, Ge, Add, Sub, Mul, Div, Rem}
-use Rattle.hp_tree.specs.Instant.{Step, Body, Controls, Named, Fresh, Inputs, Equations, Head, Tail, Right, Test, Arms, States, Until, Unless, Active, Next, Pending, First, Second, Third, Args, Instance, Observer, Assume, Enforce, Place, Instant, Past, part, parts, top, own, own_with, or_else, newest, after, at_first, nothing, alone, with_one, with_two, with_three, in_row, with_row, with_instance, of_two, in_block, in_right, with_arms, with_body, in_state, with_words, in_observer, in_node}
+use Rattle.hp_tree.specs.Instant.{Step, Body, Controls, Named, Fresh, Inputs, Equations, Head, Tail, Right, Test, Arms, States, Until, Unless, Active, Next, Pending, First, Second, Third, Args, Instance, Observer, Assume, Enforce, Place, Instant, Past, part, parts, top, own, own_with, or_else, newest, after, at_first, alone, with_one, with_two, with_three, in_row, with_row, with_instance, of_two, in_block, in_right, with_arms, with_body, in_state, with_words, in_observer, in_node}
 use Rattle.hp_tree.specs.Operators.{arithmetic_of, constant_of, constructor_from, if_of, logic, numbers, one_of, or_later, place_in, two_of}
 use Rattle.hp_tree.specs.Programs.{TypeDecl}
 use Rattle.law_equations.specs.Answered.Short.{AreShort, IsShort}
