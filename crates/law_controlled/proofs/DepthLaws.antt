@@ -1,40 +1,29 @@
 -- In the runs that the machines of a program say, each instance that sees all has the greatest permitted values, at every depth.
-use Rattle.std.proofs.Common.{◌≡◌, ℕ, inl, inr, List, [], ◌∷◌, ◌++◌, reverse, Some, refl, sym, ap, subst, ◌∙◌, append_assoc}
+use Rattle.std.proofs.Common.{◌≡◌, ℕ, List, [], ◌∷◌, ◌++◌, reverse, Some, refl, sym, ap, subst, ◌∙◌, append_assoc}
 use Rattle.std.specs.Prelude.{Bool, true, false, if◌then◌else◌, IsTrue, All, slice_index_or}
 use Rattle.std.specs.Bool.{MatchBool}
 use Rattle.std.specs.List.{AllByRecursion}
 use Rattle.std.specs.Str.{bytes_eq}
 use Rattle.hp_base.specs.Kinds.{AreOfKinds}
-use Rattle.hp_base.specs.declared.ty.Ty.{Ty}
-use Rattle.hp_base.specs.declared.ty.Ty.TheVariants as ty
 use Rattle.hp_base.specs.declared.value.Value.{Value}
-use Rattle.hp_base.specs.declared.value.Value.TheVariants.{Absent, Nil, B, E, I, Star}
 use Rattle.hp_obc.specs.Machines.{Obc}
 use Rattle.hp_tree.specs.declared.program.Item.{Item}
 use Rattle.hp_tree.specs.declared.program.Item.TheVariants.{TypeItem, NodeItem}
-use Rattle.hp_tree.specs.Blocks.{Decl}
 use Rattle.hp_tree.specs.Instant.{Fresh, Instance, Instant, Past}
 use Rattle.hp_tree.specs.Meaning.{node_among, types_of}
 use Rattle.hp_tree.specs.Operators.{is_there}
 use Rattle.hp_tree.specs.Programs.{Node, TypeDecl}
-use Rattle.hp_tree.specs.Values.{AreOf, IsOf}
 use Rattle.hp_meaning.specs.Causal.Points.{Placed}
 use Rattle.hp_meaning.specs.Contract.ChosenRuns.{NamesApart, own_past}
 use Rattle.hp_meaning.specs.Contract.FreePlaces.{calls_of, instance_at}
-use Rattle.hp_meaning.specs.Contract.Guarantee.{AllSafe, HasContract, Through}
-use Rattle.hp_meaning.specs.Contract.Slots.{is_int}
-use Rattle.law_equations.specs.Answered.Short.{IsShort}
+use Rattle.hp_meaning.specs.Contract.Guarantee.{AllSafe, HasContract}
 use Rattle.law_games.specs.ReadyGames.Laws.{IsInOrder}
 use Rattle.law_games.proofs.GuaranteedLemmas.Apart.{found_among, ready_apart}
 use Rattle.law_wellmade.specs.Timely.Kinds.{kinds_of_decls}
-use Rattle.law_wellmade.specs.Timely.Tested.{ConstructorsDiffer}
-use Rattle.law_wellmade.proofs.TimelyLemmas.KindLaws.{kind_is}
 use Rattle.law_choices.specs.Instances.InKind.{InstanceInKind, ReactsInKind}
 use Rattle.law_choices.specs.Instances.Integers.{WritesShort}
 use Rattle.law_judged.specs.Named.Scoped.{EachNode}
-use Rattle.law_choices.specs.Playing.Greatest.{ChoosesGreatest}
 use Rattle.law_choices.specs.Runs.Chosen.{ChosenReaction}
-use Rattle.law_choices.proofs.PlayingLemmas.Programs.{nothing-through}
 use Rattle.law_controlled.specs.Allowed.{RunsAllowed}
 use Rattle.law_controlled.specs.AtDepth.{AreGreatestAtDepth, InEach, IsGreatestIfSeen}
 use Rattle.law_controlled.specs.Greatest.{KeepsDuty}

@@ -4,7 +4,6 @@ use Rattle.std.specs.List.{AllByRecursion}
 use Rattle.hp_base.specs.Kinds.{AreOfKinds}
 use Rattle.hp_base.specs.declared.value.Value.{Value}
 use Rattle.hp_obc.specs.Machines.{Obc}
-use Rattle.hp_obc.specs.Steps.{run}
 use Rattle.hp_tree.specs.declared.program.Item.{Item}
 use Rattle.hp_tree.specs.Meaning.{types_of, node_among}
 use Rattle.hp_tree.specs.Instant.{Past}
@@ -22,7 +21,8 @@ use Rattle.law_choices.specs.Playing.Greatest.{ChoosesGreatest}
 use Rattle.law_choices.specs.Playing.Telling.{AreToldOf}
 use Rattle.law_choices.specs.Runs.Chosen.{ChosenReaction}
 use Rattle.law_controlled.specs.Allowed.{RunsAllowed}
-use Rattle.law_controlled.specs.Greatest.{IsSeen, IsSteeredRun, SeesAll}
+use Rattle.law_controlled.specs.AtDepth.{IsSeen, SeesAll}
+use Rattle.law_controlled.specs.Greatest.{IsSteeredRun}
 use Rattle.law_controlled.proofs.KeepingLaws.{keeps_contract}
 use Rattle.law_controlled.proofs.ToldLaws.{told_kept}
 use Rattle.law_controlled.proofs.RunLaws.{chosen_run}

@@ -1,5 +1,5 @@
 -- In a reaction of the nodes that choose, over inputs of its kinds, a node that sees all has the greatest permitted values.
-use Rattle.std.proofs.Common.{◌≡◌, ℕ, inl, inr, List, [], reverse, Some}
+use Rattle.std.proofs.Common.{◌≡◌, ℕ, inl, inr, List, reverse, Some}
 use Rattle.std.specs.List.{AllByRecursion}
 use Rattle.hp_base.specs.Kinds.{AreOfKinds}
 use Rattle.hp_base.specs.declared.value.Value.{Value}
