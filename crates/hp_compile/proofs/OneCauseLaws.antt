@@ -307,7 +307,7 @@ module _ (text : List ℕ) where
 
   accepted_end : (program clocked : List Item) (ranks : List (List ℕ)) → IsJudged text program → IsArranged program clocked ranks → AtTokens text None
   accepted_end program clocked ranks judged arranged =
-      clocked_end text None program clocked judged (forms.well_formed text program judged arranged.formed) arranged.clocks (inr (record { initialised = arranged.initialised; next = inr (record { causal = arranged.causal; is = refl }) }))
+      clocked_end text None program clocked judged arranged.well_formed arranged.clocks (inr (record { initialised = arranged.initialised; next = inr (record { causal = arranged.causal; is = refl }) }))
 
 pub one_cause : OneCauseLaw
 one_cause text cause other h k = ends_agree text (Some cause) (Some other) (end_of text cause h) (end_of text other k)

@@ -3,7 +3,6 @@ use Rattle.std.specs.Prelude.{ℕ, List, Option, None, Some, option_map}
 use Rattle.hp_base.specs.declared.limit.Limit.{Limit}
 use Rattle.hp_base.specs.declared.span.Span.{Span}
 use Rattle.hp_tree.specs.declared.program.Item.{Item}
-use Rattle.hp_expand.specs.Refusals.{IsFormed}
 use Rattle.hp_expand.specs.declared.error.ExpandErr.{ExpandErr}
 use Rattle.hp_expand.specs.declared.error.ExpandErr.TheVariants as error
 use Rattle.hp_expand.specs.declared.error.Shape.{Shape}
@@ -44,7 +43,7 @@ pub record IsArrangeable (program : List Item) : Type 0 where
 
 -- What it is then: this is the program with its clocks written, which is causal, and these are ranks of the points of its nodes.
 pub record IsArranged (program clocked : List Item) (ranks : List (List ℕ)) : Type 0 where
-  pub formed : IsFormed program
+  pub well_formed : IsWellFormed program
   pub clocks : HasClocks (replaced program) clocked
   pub initialised : IsInitialised (replaced program)
   pub causal : AllNodesCausal clocked

@@ -3,12 +3,15 @@ use Rattle.hp_tree.specs.declared.program.Item.{Item}
 use Rattle.hp_clocks.specs.Answers.{AreNamed, HaveClocks, NoneLong, Refuses}
 use Rattle.hp_init.specs.Answers.{NamesLate}
 use Rattle.hp_init.specs.Initialised.{IsInitialised}
+use Rattle.hp_meaning.specs.Causal.RanksOfPoints.{AllFall}
+use Rattle.hp_cause.specs.Answers.{lists}
+use Rattle.hp_cause.specs.Ordering.{AllNodesCausal}
 use Rattle.hp_expand.specs.Numbering.{replaced}
 use Rattle.hp_compile.specs.Arranged.{HasClocks}
 use Rattle.hp_compile.specs.Refusals.{IsRefused, of_expanding, of_clocks, of_init, of_cause}
 use Rattle.hp_compile.specs.declared.refusal.Refusal.TheVariants.{OutOfMemory}
 use Rattle.hp_compile.proofs.ReadyLaws.{named, ready}
-use Rattle.hp_compile.proofs.FormLaws.{formed}
+use Rattle.hp_compile.proofs.FormLaws.{formed, well_formed}
 use Rattle.hp_compile.proofs.RefusalLaws.{handed, form_refuses, form_memory, clocks_refuse, init_refuses, cause_refuses}
 use Rattle.hp_compile.proofs.arranging.arrange.Goals as goal
 
@@ -60,3 +63,15 @@ returns-in_err-ordered-clause-refused c = λ text judged.
     (subst (λ p. HasClocks p c.in_ok-clocked.clocked) same c.in_ok-clocked.ensures.written)
     (subst IsInitialised same c.in_ok-initialised.ensures.initialised)
     c.in_err-ordered.ensures.cycle)
+
+pub returns-clause-arranged : goal.returns-clause-arranged
+returns-clause-arranged c =
+    let same : c.in_ok-expanded.expanded ≡ replaced c.args.program.now = c.in_ok-expanded.ensures.replaced in
+    let one : c.in_ok-ordered.ordered.program ≡ c.in_ok-clocked.clocked = c.in_ok-ordered.ensures.program in
+    record {
+      well_formed = well_formed c.requires.0 c.args.program.now c.requires.1 c.in_ok-expanded.ensures.formed;
+      clocks = subst (HasClocks (replaced c.args.program.now)) (sym one) (subst (λ p. HasClocks p c.in_ok-clocked.clocked) same c.in_ok-clocked.ensures.written);
+      initialised = subst IsInitialised same c.in_ok-initialised.ensures.initialised;
+      causal = subst AllNodesCausal (sym one) c.in_ok-ordered.ensures.causal;
+      ordered = subst (λ p. AllFall p (lists c.in_ok-ordered.ordered.ranks.items)) (sym one) c.in_ok-ordered.ensures.ordered;
+    }
