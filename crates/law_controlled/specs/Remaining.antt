@@ -1,0 +1,61 @@
+-- What may be in the way of the machines of a program whose nodes choose, where its contracts are kept. Of no program has any of it been seen.
+-- Source: own.
+use Rattle.std.specs.Prelude.{◌≡◌, ℕ, List, [], ◌∷◌, None, IsTrue, is_some}
+use Rattle.std.specs.List.{AllByRecursion}
+use Rattle.hp_lexer.specs.Lexing.{AreTokensOf}
+use Rattle.hp_lexer.specs.declared.token.Token.{Token}
+use Rattle.hp_parser.specs.Lexemes.{lexemes}
+use Rattle.hp_parser.specs.Programs.{IsProgram}
+use Rattle.hp_obc.specs.Form.{HasObcForm}
+use Rattle.hp_obc.specs.Machines.{Machine, ObcType}
+use Rattle.hp_tree.specs.Programs.{Node}
+use Rattle.hp_tree.specs.declared.program.Item.{Item}
+use Rattle.hp_meaning.specs.Causal.RanksOfPoints.{AllFall}
+use Rattle.hp_names.specs.Rules.{WellNamed}
+use Rattle.hp_typing.specs.Rules.{WellTyped}
+use Rattle.hp_typing.specs.DefinitionRules.{WellDefined}
+use Rattle.hp_init.specs.Initialised.{IsInitialised}
+use Rattle.hp_clocks.specs.Writing.{AreWritten}
+use Rattle.hp_clocks.specs.Answers.{IsClocked}
+use Rattle.hp_expand.specs.Refusals.{IsFormed}
+use Rattle.hp_expand.specs.Numbering.{replaced}
+use Rattle.hp_flat.specs.Nodes.{FlatNode}
+use Rattle.hp_form.specs.Regular.Regular.{EqnsRegular}
+use Rattle.law_equations.specs.Made.Types.{obc_types_of}
+use Rattle.hp_abstract.specs.declared.abstracted.Abstraction.{Abstraction}
+use Rattle.hp_abstract.specs.Abstractions.{IsAbstractionOf}
+use Rattle.hp_watch.specs.Observing as observing
+use Rattle.hp_watch.specs.Watching.{Observing}
+use Rattle.hp_verdicts.specs.Decided.{AreKept}
+use Rattle.law_games.specs.ReadyGames.Laws.{Stands}
+use Rattle.hp_controlled.specs.Choosing.{AreOfContract, Suits, telling}
+use Rattle.hp_controlled.specs.Compiled.{AreCompiled, AreEquationsOf, AreObserved}
+use Rattle.hp_controlled.specs.Lacking.{HasCircularEqns, HasCircularEquations, HasNoChosenMachines, LacksNodes}
+
+-- Of a node with a contract, of which these are the clocked equations: they do not suit its machine; or equations of the node that chooses read each other in a circle; or equations of its controller, or of what is made of the node that chooses, are not regular. A node without a contract is looked at by no controller, but of it too the compiler's clause lets the cause be said.
+pub data Hinders (program : List Item) (types : List ObcType) (observers : Observing) (node : Node) (n : FlatNode) : Type 0 where
+  unsuited : (a : Abstraction) → IsTrue (is_some node.contract) → IsAbstractionOf program node a → (Suits types observers node n a → ⊥) → Hinders program types observers node n
+  circular : (a : Abstraction) → IsTrue (is_some node.contract) → IsAbstractionOf program node a → (s : Suits types observers node n a) → HasCircularEqns (telling node.name s.watched a s.controls).node → Hinders program types observers node n
+  irregular : (controller own told : FlatNode) → IsTrue (is_some node.contract) → AreOfContract program types observers node n controller own told → (AllByRecursion (EqnsRegular types) (controller ∷ own ∷ told ∷ []) → ⊥) → Hinders program types observers node n
+  uncontracted : node.contract ≡ None → LacksNodes program types observers node n → Hinders program types observers node n
+
+-- A node of the program, of which these are the clocked equations, where something is in the way.
+pub record IsHindered (program : List Item) (types : List ObcType) (observers : Observing) : Type 0 where
+  pub node : Node
+  pub plant : FlatNode
+  pub earlier : List Item
+  pub stands : Stands program earlier node
+  pub hinders : Hinders program types observers node plant
+
+-- Equations of observers read each other in a circle, or something is in the way of one node, or machines have no form.
+pub data Remaining (program : List Item) : Type 0 where
+  circular_contracts : HasCircularEquations (observing.observers program) → Remaining program
+  one_hindered : (plants : List FlatNode) (observers : Observing) → AreEquationsOf program plants → AreObserved program observers → IsHindered program (obc_types_of program) observers → Remaining program
+  formless : (machines : List Machine) → AreCompiled program (obc_types_of program) machines → (HasObcForm (obc_types_of program) machines → ⊥) → Remaining program
+
+-- Nothing else is in the way of the machines of the program of a text that the judgements accept, whose points have ranks and whose contracts are kept.
+abbrev pub RemainingLaw : Type 0
+RemainingLaw =
+    (text : List ℕ) (tokens : List Token) (program after : List Item) (ranks : List (List ℕ)) → AreTokensOf text tokens → IsProgram (lexemes text tokens) program
+    → WellNamed program → WellTyped program → WellDefined program → IsFormed program → IsInitialised (replaced program) → AreWritten IsClocked (replaced program) after → AllFall after ranks
+    → AreKept after after → HasNoChosenMachines after → Remaining after
