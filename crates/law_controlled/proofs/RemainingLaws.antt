@@ -44,12 +44,6 @@ use Rattle.hp_controlled.specs.Choosing.{AreNodesOf}
 use Rattle.hp_controlled.specs.Choosing.AreNodesOf.{without_contract, with_contract}
 use Rattle.hp_controlled.specs.Compiled.{AreEquationsOf, contracts_of}
 use Rattle.hp_controlled.specs.Lacking.{ChoosesNot, FitContracts, HasCircularEquations, HasNoChosenMachines, LacksCompiled, LacksMachines, LacksNodes, LacksObservers, OneLacksMachines}
-use Rattle.hp_controlled.specs.Lacking.ChoosesNot as chooses
-use Rattle.hp_controlled.specs.Lacking.HasNoChosenMachines as chosen
-use Rattle.hp_controlled.specs.Lacking.LacksCompiled as compiled
-use Rattle.hp_controlled.specs.Lacking.LacksMachines as machines
-use Rattle.hp_controlled.specs.Lacking.LacksNodes as nodes
-use Rattle.hp_controlled.specs.Lacking.LacksObservers as observed
 use Rattle.hp_controlled.specs.Lacking.OneLacksMachines.{none_left, here, behind_a_node, behind_a_type}
 use Rattle.law_controlled.specs.Remaining.{Hinders, IsHindered, Remaining, RemainingLaw}
 use Rattle.law_controlled.specs.Remaining.Hinders.{unsuited, circular, irregular, uncontracted}
@@ -120,21 +114,21 @@ module _ (after : List Item) (k : Known) (enums : Enumerations) (types : List Ob
     Left = Hinders after types observers l.node l.plant
 
     chooses_not : (a : Abstraction) → IsTrue (is_some l.node.contract) → IsAbstractionOf after l.node a → ChoosesNot types observers l.node l.plant a → Left
-    chooses_not a some is (chooses.long_name long) = let short = l.short in absurd (omega (arith, long, short))
-    chooses_not a some is (chooses.unsuited none) = unsuited a some is none
-    chooses_not a some is (chooses.circular s circle) = circular a some is s circle
+    chooses_not a some is (ChoosesNot.long_name long) = let short = l.short in absurd (omega (arith, long, short))
+    chooses_not a some is (ChoosesNot.unsuited none) = unsuited a some is none
+    chooses_not a some is (ChoosesNot.circular s circle) = circular a some is s circle
 
     no_nodes : IsTrue (is_some l.node.contract) → IsKept after l.node → LacksNodes after types observers l.node l.plant → Left
-    no_nodes some kept (nodes.refused e why k) = absurd (not_refused after l.node kept.machine kept.is_machine e k why)
-    no_nodes some kept (nodes.forced a is lose) =
+    no_nodes some kept (LacksNodes.refused e why k) = absurd (not_refused after l.node kept.machine kept.is_machine e k why)
+    no_nodes some kept (LacksNodes.forced a is lose) =
         let lost = lose.1 in
         absurd (safe_on_each safe program after ranks order l.earlier l.node l.stands kept.machine a.machine kept.is_machine is.machine kept.safe (length lose.0) lost.init)
-    no_nodes some kept (nodes.long_machine a is long) =
+    no_nodes some kept (LacksNodes.long_machine a is long) =
         let machine = is.machine in
         let same = ap (λ (x : List ℕ). length x) machine.named in
         let short = l.short in
         absurd (omega (arith, long, same, short))
-    no_nodes some kept (nodes.chooses_not a is none) = chooses_not a some is none
+    no_nodes some kept (LacksNodes.chooses_not a is none) = chooses_not a some is none
 
     no_nodes_if : (o : Option Contract) → l.node.contract ≡ o → LacksNodes after types observers l.node l.plant → Left
     no_nodes_if None e lacks = uncontracted e lacks
@@ -143,14 +137,14 @@ module _ (after : List Item) (k : Known) (enums : Enumerations) (types : List Ob
         no_nodes some (l.kept some) lacks
 
     no_machines : LacksMachines after types observers l.node l.plant → Left
-    no_machines (machines.lacks_nodes lacks) = no_nodes_if l.node.contract refl lacks
-    no_machines (machines.irregular these are none) = by these are none
+    no_machines (LacksMachines.lacks_nodes lacks) = no_nodes_if l.node.contract refl lacks
+    no_machines (LacksMachines.irregular these are none) = by these are none
       where
         by : (these : List FlatNode) → AreNodesOf after types observers l.node l.plant these → (AllByRecursion (EqnsRegular types) these → ⊥) → Left
         by these (without_contract e) none = absurd (none (l.regular, tt))
         by these (with_contract controller own told some are) none = irregular controller own told some are none
 
-    pub hindered : IsHindered after types observers
+    hindered : IsHindered after types observers
     hindered = record { node = l.node; plant = l.plant; earlier = l.earlier; stands = l.stands; hinders = no_machines l.lacks }
 
 -- ---- programs
@@ -202,14 +196,14 @@ module _ (laws : RemainingLaws) (program after : List Item) (ranks : List (List 
       contracts_fit laws.count (λ f. map (λ (d : Decl). d.name) (outputs_of ((known_of seen).nodes f))) (known_of seen) (enumerations [] (observers after)) (λ f. refl) after ns equations.made
 
   left : HasNoChosenMachines after → Remaining after
-  left (chosen.not_compiled (compiled.circular_nodes circle)) = absurd (not_circular circle)
-  left (chosen.not_compiled (compiled.no_observers (observed.circular_contracts circle))) = circular_contracts circle
-  left (chosen.not_compiled (compiled.no_observers (observed.unfitting ns equations none))) = absurd (none (fit ns equations))
-  left (chosen.not_compiled (compiled.one_lacks plants seen equations are lacks)) =
+  left (HasNoChosenMachines.not_compiled (LacksCompiled.circular_nodes circle)) = absurd (not_circular circle)
+  left (HasNoChosenMachines.not_compiled (LacksCompiled.no_observers (LacksObservers.circular_contracts circle))) = circular_contracts circle
+  left (HasNoChosenMachines.not_compiled (LacksCompiled.no_observers (LacksObservers.unfitting ns equations none))) = absurd (none (fit ns equations))
+  left (HasNoChosenMachines.not_compiled (LacksCompiled.one_lacks plants seen equations are lacks)) =
       let types = obc_types_of after in
       let l = found after (known_of low) (enumerations [] after) types seen [] after plants (split_first after) equations.made (all_regular plants equations.made) b.short b.kept lacks in
       one_hindered plants seen equations are (hindered after (known_of low) (enumerations [] after) types seen laws.safe program ranks b.order l)
-  left (chosen.formless ms are none) = formless ms are none
+  left (HasNoChosenMachines.formless ms are none) = formless ms are none
 
 pub remaining_law : RemainingLaws → RemainingLaw
 remaining_law laws text tokens program after ranks a p named typed defined formed initialised clocks fall kept none =
