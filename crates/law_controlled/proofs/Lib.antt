@@ -23,5 +23,6 @@ pub mod PlantLaws
 pub mod RemainingLaws
 pub mod RunLaws
 pub mod SaidLaws
+pub mod SightLaws
 pub mod ToldLaws
 pub mod WorkedLaws
