@@ -44,7 +44,7 @@ use law_choices::seeing::{
     nodes_that_see_values_choose_the_greatest,
 };
 use law_choices::undisturbed::controls_are_apart;
-use law_drawing::mirrors::drawn_games_are_kept;
+use law_drawing::mirrors::{drawn_games_are_kept, drawn_nodes_are_mirrored};
 use law_equations::fewer::nodes_are_compiled;
 use law_equations::fitting::{larger_names_are_free, names_fit};
 use law_equations::followed::names_are_own;
@@ -189,7 +189,7 @@ pub fn programs_that_choose_have_one_list_of_machines()
     contracts_of_texts_can_be_observed();
 }
 
-/// Where the contracts of the program of an accepted text are kept, few causes are left for which the compiler would have no machines of it: clocked equations of its nodes read each other in no circle and are regular, each contract has as many comparisons as its clocked equations, names are short, and no machine is refused or forced to violate its contract.
+/// Where the contracts of the program of an accepted text are kept, few causes are left for which the compiler would have no machines of it: clocked equations of its nodes read each other in no circle and are regular, each contract has as many comparisons as its clocked equations, names are short, no machine is refused or forced to violate its contract, and each controllable variable has the bits of its type.
 pub fn few_causes_are_left()
     ensures { RemainingLaw }
 {
@@ -200,6 +200,7 @@ pub fn few_causes_are_left()
     equations_are_regular();
     walks_find_places();
     programs_of_texts_are_in_order();
+    drawn_nodes_are_mirrored();
     drawn_games_are_kept();
 }
 

@@ -11,4 +11,5 @@ returns c = remaining_law (record {
   count = c.walks_find_places.ensures.count;
   order = c.programs_of_texts_are_in_order.ensures.order;
   safe = c.drawn_games_are_kept.ensures.safe;
+  mirrors = c.drawn_nodes_are_mirrored.ensures.mirrors;
 })
