@@ -1,5 +1,5 @@
 -- Each contract has as many comparisons as the clocked equations of its observer.
-use Rattle.std.proofs.Common.{◌≡◌, ℕ, ◌+◌, List, [], ◌∷◌, ◌++◌, map, length, Option, None, Some, refl, sym, ap, ap₂, ◌∙◌, arith}
+use Rattle.std.proofs.Common.{◌≡◌, ℕ, ◌+◌, List, [], ◌∷◌, ◌++◌, map, Option, None, Some, refl, sym, ◌∙◌, arith}
 use Rattle.hp_base.specs.declared.span.Span.{Span}
 use Rattle.hp_tree.specs.Blocks.{Decl, Block, block, Eqn, Eqns, no_eqn, more_eqns, eqns_of, list_of_eqns}
 use Rattle.hp_tree.specs.Expressions.{Expr}
@@ -11,7 +11,7 @@ use Rattle.hp_flat.specs.Nodes.{FlatNode}
 use Rattle.law_equations.specs.Made.Making.{Known}
 use Rattle.hp_complete.specs.Made.{AreMadeOf}
 use Rattle.hp_watch.specs.Observing.{all_handed_on, condition_of, lines_of, observer_of, observer_if, observers, with_lines}
-use Rattle.hp_watch.specs.Walk.{events_from, in_block, in_condition, in_contract, in_eqns, in_expr}
+use Rattle.hp_watch.specs.Walk.{in_block, in_condition, in_contract, in_eqns, in_expr}
 use Rattle.law_choices.specs.Places.Laws.{CountLaw, KnowsOutputs}
 use Rattle.hp_controlled.specs.Compiled.{contract_if, contracts_of}
 use Rattle.hp_controlled.specs.Lacking.{FitContracts}

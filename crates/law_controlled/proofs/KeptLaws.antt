@@ -1,8 +1,7 @@
 -- A node that has a Boolean machine is refused none; and where its contract is kept, nothing is forced on any machine of it.
-use Rattle.std.proofs.Common.{◌≡◌, ◌↔◌, ℕ, ◌+◌, ◌<◌, ◌≤◌, Bool, true, false, List, [], ◌∷◌, length, inl, inr, refl, sym, ap, ap₂, subst, ◌∙◌, arith}
+use Rattle.std.proofs.Common.{◌≡◌, ℕ, ◌+◌, ◌<◌, Bool, true, false, List, [], ◌∷◌, length, inl, inr, refl, sym, ap, ap₂, subst, ◌∙◌, arith}
 use Rattle.std.specs.Prelude.{All, IsTrue, slice_index_or}
 use Rattle.hp_base.specs.Limits.{most}
-use Rattle.hp_base.specs.declared.limit.Limit.{Limit}
 use Rattle.hp_boolx.specs.Game.{Safe as SafeOn}
 use Rattle.hp_boolx.specs.Machine.{Machine, game}
 use Rattle.hp_graph.specs.Graphs.{IsCycle}
@@ -26,7 +25,7 @@ use Rattle.hp_drawing.specs.Seen.{IsOf}
 use Rattle.hp_drawing.specs.Sketch.{Sketch}
 use Rattle.hp_drawing.specs.DrawnNodes.{drawn_node}
 use Rattle.hp_drawing.specs.Told.{told_of}
-use Rattle.hp_abstract.specs.Machines.{IsDrawn, IsMachineOf, IsRefused, LacksMachine}
+use Rattle.hp_abstract.specs.Machines.{IsMachineOf, IsRefused, LacksMachine}
 use Rattle.hp_abstract.specs.declared.error.AbsErr.{AbsErr}
 use Rattle.hp_abstract.specs.declared.error.AbsErr.TheVariants as error
 use Rattle.law_games.specs.ReadyGames.Laws.{IsInOrder, Stands}
