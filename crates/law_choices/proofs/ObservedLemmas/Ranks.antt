@@ -1,5 +1,5 @@
 -- The places of an observer have ranks, where those of the node have.
-use Rattle.std.proofs.Common.{◌≡◌, ◌⊎◌, inl, inr, ℕ, suc, ◌<◌, Bool, true, false, ◌&&◌, ◌||◌, if◌then◌else◌, List, [], ◌∷◌, ◌++◌, Option, None, Some, refl, sym, ap, ap₂, subst, ◌∙◌, arith}
+use Rattle.std.proofs.Common.{◌≡◌, ◌⊎◌, inl, inr, ℕ, suc, ◌+◌, ◌<◌, Bool, true, false, ◌&&◌, ◌||◌, if◌then◌else◌, List, [], ◌∷◌, ◌++◌, Option, None, Some, refl, sym, ap, ap₂, subst, ◌∙◌, arith}
 use Rattle.std.proofs.Math.Path.{fun_ext}
 use Rattle.std.specs.Prelude.{IsTrue}
 use Rattle.std.specs.Str.{bytes_eq}
@@ -12,15 +12,15 @@ use Rattle.hp_tree.specs.declared.program.Item.{Item}
 use Rattle.hp_tree.specs.declared.program.Item.TheVariants.{TypeItem, NodeItem}
 use Rattle.hp_tree.specs.Instant.{Body, Observer, Assume, Enforce, Named, Equations, Head, Tail, Right, First, Place, Clock}
 use Rattle.hp_tree.specs.Meaning.{declares, defines, some_defines, clock_of, clock_in}
-use Rattle.hp_meaning.specs.Causal.Causality.{IsRanked, Ranked}
-use Rattle.hp_meaning.specs.Causal.Clocked.{AllRight, BlockRight, ClocksRight, ContractRight, Standing, TellsOnBase, base_alone, on_base, standing_in, standing_of}
+use Rattle.hp_meaning.specs.Causal.Causality.{IsRanked, Ranked, sources}
+use Rattle.hp_meaning.specs.Causal.Clocked.{AllRight, BlockRight, ClocksRight, ContractRight, IsOn, Standing, TellsOnBase, base_alone, on_base, standing_in, standing_of}
 use Rattle.hp_meaning.proofs.CausalLemmas.NodesAgree.{within_more}
 use Rattle.hp_meaning.specs.Causal.Sources.{Sources, none, only, both, also, Within, NameSources, PlaceSources, below, at_row, at_right}
 use Rattle.hp_meaning.specs.Causal.WhatIsRead.{at_expr, at_told, has_equation, in_block, in_contract, in_equation, in_equations, names_in, names_in_block, of_clock, of_definition, of_definitions, of_expr, output_in}
 use Rattle.law_judged.specs.Named.Scoped.{BlockScoped, ContractScoped, EachNode, NodeScoped, also as also_names, equations_of, interface, no_names}
 use Rattle.law_judged.specs.Replaced.Fitting.{BlockNames, ContractNames}
-use Rattle.law_judged.proofs.NamedLemmas.Sets.{or_left}
-use Rattle.law_automata.proofs.LoweredLemmas.Apart.{same_bytes}
+use Rattle.law_judged.proofs.NamedLemmas.Sets.{or_left, or_right}
+use Rattle.law_automata.proofs.LoweredLemmas.Apart.{bytes_same, same_bytes}
 use Rattle.hp_meaning.specs.Clocking.Clocking.{AreDefined}
 use Rattle.hp_watch.specs.Observing.{all_handed_on, assumed, condition_of, enforced, equation, input_name, inputs_for, lines_of, observer_of, observer_if, observers, outputs_at, with_lines}
 use Rattle.law_choices.specs.Observed.Contracts.{IsObservable, IsOther}
@@ -60,7 +60,7 @@ module _ (locals : List Decl) (more : List Eqn) where
   abbrev IsNowhere : Eqns → Place → Type 0
   IsNowhere es p = (names : NameSources) (k : PlaceSources) → in_equations locals (eqns_of (list_of_eqns es ++ more)) names k p ≡ none
 
-  split : (es : Eqns) (p : Place) → (inside es p ≡ true) ⊎ (((q : Place) × (p ≡ tails es q)) ⊎ IsNowhere es p)
+  pub split : (es : Eqns) (p : Place) → (inside es p ≡ true) ⊎ (((q : Place) × (p ≡ tails es q)) ⊎ IsNowhere es p)
   split no_eqn p = inr (inl (p, refl))
   split (more_eqns e es) (Head ∷ p) = inl refl
   split (more_eqns e es) (Tail ∷ p) = by (split es p)
@@ -135,6 +135,22 @@ rank_back (more_eqns e es) f h q = rank_back es (λ r. f (Tail ∷ r)) h q
 has_named : (b : Block) (x : List ℕ) → has_equation b x ≡ some_defines (equations_of b) x
 has_named (block ds es) x = refl
 
+place_bounded : (es : Eqns) (f h : Place → ℕ) (m : ℕ) → ((q : Place) → f q < m) → ((q : Place) → h q < m) → (p : Place) → place_rank es f h p < m
+place_bounded no_eqn f h m a b p = b p
+place_bounded (more_eqns e es) f h m a b (Tail ∷ p) = place_bounded es (λ q. f (Tail ∷ q)) h m (λ q. a (Tail ∷ q)) b p
+place_bounded (more_eqns e es) f h m a b p = a p
+
+-- what a contract reads has less rank; at a place that is in none it reads nothing
+contract_falls : (n : Node) (ranked : Ranked n) (p : Place) → Within (λ z. ranked.rank z < ranked.rank p) (in_contract n.contract (output_in n (below Body only)) only p)
+contract_falls n ranked (Observer ∷ p) = ranked.falls (Observer ∷ p)
+contract_falls n ranked (Assume ∷ p) = ranked.falls (Assume ∷ p)
+contract_falls n ranked (Enforce ∷ p) = ranked.falls (Enforce ∷ p)
+contract_falls n ranked p = by n.contract
+  where
+    by : (o : Option Contract) → Within (λ z. ranked.rank z < ranked.rank p) (in_contract o (output_in n (below Body only)) only p)
+    by None = tt
+    by (Some c) = tt
+
 -- ---- the observer
 
 module _ (n : Node) (c : Contract) (base : AllBase n.outputs) (known : (x : List ℕ) → IsTrue (interface n x) → IsOther x) (filled : AreDefined n.outputs (equations_of n.body)) (ranked : Ranked n)
@@ -182,7 +198,7 @@ module _ (n : Node) (c : Contract) (base : AllBase n.outputs) (known : (x : List
   abbrev moved_names : NameSources
   moved_names = names_in es (mn goes out) (mk goes places)
 
-  names_moved : mn goes own_names ≡ moved_names
+  pub names_moved : mn goes own_names ≡ moved_names
   names_moved = fun_ext (λ x. by (some_defines es x) x)
     where
       by : (d : Bool) (x : List ℕ) → moved goes (if d then places (Named x ∷ []) else out x) ≡ (if d then mk goes places (Named x ∷ []) else mn goes out x)
@@ -230,14 +246,14 @@ module _ (n : Node) (c : Contract) (base : AllBase n.outputs) (known : (x : List
 
   module _ (right : AllRight standing ds es) where
     -- so what the places of the contract read is what those of the observer read
-    eqns_moved : (p : Place) → moved goes (in_block (block ds es) out places (Equations ∷ p)) ≡ in_equations locals es new_names (below Equations new_places) p
+    pub eqns_moved : (p : Place) → moved goes (in_block (block ds es) out places (Equations ∷ p)) ≡ in_equations locals es new_names (below Equations new_places) p
     eqns_moved p =
         (λ i. move_in_block goes (block ds es) out places i (Equations ∷ p))
         ∙ (λ i. equations_same ds es standing moved_names new_names (below Equations (mk goes places)) agree right i p)
         ∙ (λ i. places_same ds new_names es (below Equations (mk goes places)) (below Equations new_places) goes_inside i p)
         ∙ (λ i. all_local ds locals same_clocks new_names es (below Equations new_places) i p)
 
-    names_defined : (x : List ℕ) → moved goes (in_block (block ds es) out places (Named x ∷ [])) ≡ of_definitions locals es new_names (below Equations new_places) x
+    pub names_defined : (x : List ℕ) → moved goes (in_block (block ds es) out places (Named x ∷ [])) ≡ of_definitions locals es new_names (below Equations new_places) x
     names_defined x =
         (λ i. move_in_block goes (block ds es) out places i (Named x ∷ []))
         ∙ definitions_same standing moved_names new_names agree ds es (below Equations (mk goes places)) x right
@@ -264,6 +280,14 @@ module _ (n : Node) (c : Contract) (base : AllBase n.outputs) (known : (x : List
   name_low true d m r e l = omega arith
   name_low false true m r e l = omega (arith, l)
   name_low false false m r e l = absurd cc
+
+  name_below : (output defined : Bool) (m : ℕ) → m < ranked.bound → name_rank output defined m < suc (suc (suc ranked.bound))
+  name_below true d m l = omega arith
+  name_below false true m l = omega (arith, l)
+  name_below false false m l = omega arith
+
+  name_bounded : (output defined : Bool) (m : ℕ) → m < ranked.bound → name_rank output defined m < suc (suc (suc (suc ranked.bound)))
+  name_bounded o d m l = let less = name_below o d m l in omega (arith, less)
 
   goes_lower : (r : ℕ) (q : Place) → ranked.rank q < r → Within (λ z. rank z < suc r) (goes q)
   goes_lower r (Observer ∷ Named x ∷ []) l = by (some_defines es x) refl
@@ -292,8 +316,219 @@ module _ (n : Node) (c : Contract) (base : AllBase n.outputs) (known : (x : List
   moved_lower r (also s) h = moved_lower r s h
 
   -- all of them are bounded
-  moved_bounded : (s : Sources) → Within (λ z. rank z < suc (suc ranked.bound)) (moved goes s)
+  pub moved_bounded : (s : Sources) → Within (λ z. rank z < suc (suc ranked.bound)) (moved goes s)
   moved_bounded none = tt
   moved_bounded (only q) = within_more (λ z. rank z < suc ranked.bound) (λ z. rank z < suc (suc ranked.bound)) (λ z l. omega (arith, l)) (goes q) (goes_lower ranked.bound q (ranked.bounded q))
   moved_bounded (both s t) = (moved_bounded s, moved_bounded t)
   moved_bounded (also s) = moved_bounded s
+
+  -- ---- lines that read nothing
+
+  none_there : (i : ℕ) → new_names (input_name i) ≡ none
+  none_there i = ap (λ (b : Bool). if b then only (Body ∷ Named (input_name i) ∷ []) else none) (not_defined n c base known ds es own inner i)
+
+  based : (y : List ℕ) → clock_in ds y ≡ [] → clock_in locals y ≡ []
+  based y e = same_clocks y ∙ e
+
+  abbrev AreOutputs : List Decl → Type 0
+  AreOutputs os = (x : List ℕ) → IsTrue (declares os x) → IsTrue (declares n.outputs x)
+
+  first_output : (d : Decl) (os : List Decl) → AreOutputs (d ∷ os) → IsTrue (declares n.outputs d.name)
+  first_output d os f = f d.name (or_left (bytes_eq d.name d.name) (declares os d.name) (bytes_same d.name))
+
+  other_outputs : (d : Decl) (os : List Decl) → AreOutputs (d ∷ os) → AreOutputs os
+  other_outputs d os f x h = f x (or_right (bytes_eq d.name x) (declares os x) h)
+
+  -- what hands an output on
+  handed_reads : (P : Place → Type 0) (i : ℕ) (d : Decl) → IsTrue (declares n.outputs d.name) → Within P (both (also (of_clock (clock_in locals d.name) new_names)) (new_names (input_name i)))
+  handed_reads P i d o =
+      let clock = based d.name (output_clock n c base known ds es own inner d.name o) in
+      subst (λ (s : Sources). Within P (both (also (of_clock (clock_in locals d.name) new_names)) s)) (sym (none_there i)) (subst (λ (k : Clock). Within P (both (also (of_clock k new_names)) none)) (sym clock) (tt, tt))
+
+  handed_places : (P : Place → Type 0) (i : ℕ) (os : List Decl) (k : PlaceSources) (r : Place) → AreOutputs os → Within P (in_equations locals (eqns_of (all_handed_on i os)) new_names k r)
+  handed_places P i [] k r f = tt
+  handed_places P i (d ∷ os) k (Head ∷ Right ∷ []) f = handed_reads P i d (first_output d os f)
+  handed_places P i (d ∷ os) k (Head ∷ Right ∷ First ∷ s) f = tt
+  handed_places P i (d ∷ os) k (Tail ∷ r) f = handed_places P (i + 1) os (below Tail k) r (other_outputs d os f)
+  handed_places P i (d ∷ os) k r f = tt
+
+  handed_definitions : (P : Place → Type 0) (i : ℕ) (os : List Decl) (k : PlaceSources) (x : List ℕ) → AreOutputs os → Within P (of_definitions locals (eqns_of (all_handed_on i os)) new_names k x)
+  handed_definitions P i [] k x f = tt
+  handed_definitions P i (d ∷ os) k x f = by (defines (define d.span ((d.name, d.span) ∷ []) (variable d.span (input_name i))) x) (handed_definitions P (i + 1) os (below Tail k) x (other_outputs d os f))
+    where
+      by : (b : Bool) → Within P (of_definitions locals (eqns_of (all_handed_on (i + 1) os)) new_names (below Tail k) x)
+          → Within P (if b then both (also (of_clock (clock_in locals d.name) new_names)) (new_names (input_name i)) else of_definitions locals (eqns_of (all_handed_on (i + 1) os)) new_names (below Tail k) x)
+      by true rest = handed_reads P i d (first_output d os f)
+      by false rest = rest
+
+  constant_reads : (P : Place → Type 0) (s : Span) (k : PlaceSources) (r : Place) → Within P (at_expr (condition_of None s) [] new_names k r)
+  constant_reads P s k [] = tt
+  constant_reads P s k (First ∷ r) = tt
+  constant_reads P s k r = tt
+
+  -- ---- conditions
+
+  -- a condition of the contract reads in the observer what stands for what it reads in the node
+  condition_moved : (e : Expr) (k : PlaceSources) → IsOn standing e [] → mk goes (at_expr e [] own_names k) ≡ at_expr e [] new_names (mk goes k)
+  condition_moved e k h =
+      move_expr goes e [] own_names k ∙ ap (λ (names : NameSources). at_expr e [] names (mk goes k)) names_moved ∙ at_same standing moved_names new_names agree e [] (mk goes k) tt h
+
+  condition_read : (e : Expr) (k : PlaceSources) → IsOn standing e [] → moved goes (of_expr e own_names k) ≡ of_expr e new_names (mk goes k)
+  condition_read e k h = move_of goes e own_names k ∙ ap (λ (names : NameSources). of_expr e names (mk goes k)) names_moved ∙ of_same standing moved_names new_names agree e [] (mk goes k) h
+
+  told_bounded : (o : Option Expr) (s : Span) (k : PlaceSources) → TellsOnBase standing o → Within (λ z. rank z < suc (suc ranked.bound)) (of_expr (condition_of o s) new_names (mk goes k))
+  told_bounded None s k h = tt
+  told_bounded (Some e) s k h = subst (Within (λ z. rank z < suc (suc ranked.bound))) (condition_read e k h) (moved_bounded (of_expr e own_names k))
+
+  told_lower : (o : Option Expr) (s : Span) (k : PlaceSources) (r : ℕ) (q : Place) → TellsOnBase standing o → Within (λ z. ranked.rank z < r) (at_told o own_names k q) → Within (λ z. rank z < suc r) (at_expr (condition_of o s) [] new_names (mk goes k) q)
+  told_lower None s k r q h l = constant_reads (λ z. rank z < suc r) s (mk goes k) q
+  told_lower (Some e) s k r q h l = subst (Within (λ z. rank z < suc r)) (λ i. condition_moved e k h i q) (moved_lower r (at_expr e [] own_names k q) l)
+
+  -- ---- the ranks fall
+
+  module _ (right : AllRight standing ds es) (assumes : TellsOnBase standing c.assume) (enforces : TellsOnBase standing c.enforce)
+      (in_contract_falls : (p : Place) → Within (λ z. ranked.rank z < ranked.rank (Observer ∷ p)) (in_block (block ds es) out places p))
+      (assume_falls : (q : Place) → Within (λ z. ranked.rank z < ranked.rank (Assume ∷ q)) (at_told c.assume own_names (below Assume only) q))
+      (enforce_falls : (q : Place) → Within (λ z. ranked.rank z < ranked.rank (Enforce ∷ q)) (at_told c.enforce own_names (below Enforce only) q)) where
+    abbrev Below : ℕ → Sources → Type 0
+    Below r s = Within (λ z. rank z < r) s
+
+    abbrev behind_all : PlaceSources
+    behind_all r = below Equations new_places (tails es r)
+
+    assumed_clock : clock_in locals assumed ≡ []
+    assumed_clock = based assumed (new_clock n c base known ds es own inner assumed assumed_not_other)
+
+    enforced_clock : clock_in locals enforced ≡ []
+    enforced_clock = based enforced (new_clock n c base known ds es own inner enforced enforced_not_other)
+
+    lines_fall : (q : Place) → Below (line_rank q) (in_equations locals (eqns_of lines) new_names behind_all q)
+    lines_fall (Head ∷ Right ∷ q) =
+        subst (λ (k : Clock). Below (suc (ranked.rank (Assume ∷ q))) (at_expr (condition_of c.assume c.span) k new_names (mk goes (below Assume only)) q)) (sym assumed_clock)
+        (told_lower c.assume c.span (below Assume only) (ranked.rank (Assume ∷ q)) q assumes (assume_falls q))
+    lines_fall (Tail ∷ Head ∷ Right ∷ q) =
+        subst (λ (k : Clock). Below (suc (ranked.rank (Enforce ∷ q))) (at_expr (condition_of c.enforce c.span) k new_names (mk goes (below Enforce only)) q)) (sym enforced_clock)
+        (told_lower c.enforce c.span (below Enforce only) (ranked.rank (Enforce ∷ q)) q enforces (enforce_falls q))
+    lines_fall (Tail ∷ Tail ∷ q) = handed_places (λ z. rank z < 0) 0 n.outputs (λ r. behind_all (Tail ∷ Tail ∷ r)) q (λ x h. h)
+    lines_fall q = tt
+
+    abbrev PlaceFalls : Place → Type 0
+    PlaceFalls p = Below (rank (Body ∷ Equations ∷ p)) (in_equations locals all new_names (below Equations new_places) p)
+
+    place_falls : (p : Place) → PlaceFalls p
+    place_falls p = by (split locals lines es p)
+      where
+        back_falls : (q : Place) → p ≡ tails es q → PlaceFalls p
+        back_falls q e =
+            subst PlaceFalls (sym e)
+            (subst (λ (m : ℕ). Below m (in_equations locals all new_names (below Equations new_places) (tails es q))) (sym (rank_back es (λ r. suc (ranked.rank (Observer ∷ Equations ∷ r))) line_rank q))
+            (subst (Below (line_rank q)) (sym (back locals lines es new_names (below Equations new_places) q)) (lines_fall q)))
+
+        by : (inside es p ≡ true) ⊎ (((q : Place) × (p ≡ tails es q)) ⊎ IsNowhere locals lines es p) → PlaceFalls p
+        by (inl i) =
+            let r = ranked.rank (Observer ∷ Equations ∷ p) in
+            subst (λ (m : ℕ). Below m (in_equations locals all new_names (below Equations new_places) p)) (sym (rank_front es (λ q. suc (ranked.rank (Observer ∷ Equations ∷ q))) line_rank p i))
+            (subst (Below (suc r)) (eqns_moved right p ∙ sym (front locals lines es new_names (below Equations new_places) p i)) (moved_lower r (in_block (block ds es) out places (Equations ∷ p)) (in_contract_falls (Equations ∷ p))))
+        by (inr (inl q)) = back_falls q.0 q.1
+        by (inr (inr f)) = subst (Below (rank (Body ∷ Equations ∷ p))) (sym (f new_names (below Equations new_places))) tt
+
+    -- ---- names
+
+    abbrev NameFalls : List ℕ → Bool → Bool → Type 0
+    NameFalls x output defined =
+        Below (name_rank output defined (ranked.rank (Observer ∷ Named x ∷ []))) (if defined then of_definitions locals es new_names (below Equations new_places) x else of_definitions locals (eqns_of lines) new_names behind_all x)
+
+    own_falls : (x : List ℕ) → some_defines es x ≡ true → NameFalls x false true
+    own_falls x e =
+        let r = ranked.rank (Observer ∷ Named x ∷ []) in
+        subst (Below (suc r)) (names_defined right x) (moved_lower r (in_block (block ds es) out places (Named x ∷ [])) (in_contract_falls (Named x ∷ [])))
+
+    -- what a condition reads that a line defines
+    condition_falls : (y : List ℕ) (o : Option Expr) (k : PlaceSources) → clock_in locals y ≡ [] → TellsOnBase standing o
+        → Below (suc (suc ranked.bound)) (both (also (of_clock (clock_in locals y) new_names)) (of_expr (condition_of o c.span) new_names (mk goes k)))
+    condition_falls y o k e h =
+        (subst (λ (clock : Clock). Below (suc (suc ranked.bound)) (of_clock clock new_names)) (sym e) tt, told_bounded o c.span k h)
+
+    line_name : (x : List ℕ) (output : Bool) → declares n.outputs x ≡ output → NameFalls x output false
+    line_name x output o = by (bytes_eq assumed x) refl (bytes_eq enforced x) refl
+      where
+        not_output : (y : List ℕ) → (IsOther y → ⊥) → bytes_eq y x ≡ true → output ≡ false
+        not_output y other e = sym o ∙ subst (λ z. declares n.outputs z ≡ false) (same_bytes y x e) (none_declared n.outputs y (outputs_other n c known) other)
+
+        by : (a : Bool) → bytes_eq assumed x ≡ a → (g : Bool) → bytes_eq enforced x ≡ g
+            → Below (name_rank output false (ranked.rank (Observer ∷ Named x ∷ [])))
+            (if a || false then both (also (of_clock (clock_in locals assumed) new_names)) (of_expr (condition_of c.assume c.span) new_names (mk goes (below Assume only)))
+            else (if g || false then both (also (of_clock (clock_in locals enforced) new_names)) (of_expr (condition_of c.enforce c.span) new_names (mk goes (below Enforce only)))
+            else of_definitions locals (eqns_of (all_handed_on 0 n.outputs)) new_names (λ r. behind_all (Tail ∷ Tail ∷ r)) x))
+        by true e g f =
+            subst (λ (d : Bool). Below (name_rank d false (ranked.rank (Observer ∷ Named x ∷ []))) (both (also (of_clock (clock_in locals assumed) new_names)) (of_expr (condition_of c.assume c.span) new_names (mk goes (below Assume only)))))
+            (sym (not_output assumed assumed_not_other e)) (condition_falls assumed c.assume (below Assume only) assumed_clock assumes)
+        by false e true f =
+            subst (λ (d : Bool). Below (name_rank d false (ranked.rank (Observer ∷ Named x ∷ []))) (both (also (of_clock (clock_in locals enforced) new_names)) (of_expr (condition_of c.enforce c.span) new_names (mk goes (below Enforce only)))))
+            (sym (not_output enforced enforced_not_other f)) (condition_falls enforced c.enforce (below Enforce only) enforced_clock enforces)
+        by false e false f = handed_definitions (λ z. rank z < name_rank output false (ranked.rank (Observer ∷ Named x ∷ []))) 0 n.outputs (λ r. behind_all (Tail ∷ Tail ∷ r)) x (λ y h. h)
+
+    name_falls : (x : List ℕ) → Below (rank (Body ∷ Named x ∷ [])) (of_definitions locals all new_names (below Equations new_places) x)
+    name_falls x =
+        subst (Below (rank (Body ∷ Named x ∷ []))) (sym (split_definitions locals lines es new_names (below Equations new_places) x)) (by (some_defines es x) refl)
+      where
+        by : (b : Bool) → some_defines es x ≡ b → NameFalls x (declares n.outputs x) (some_defines es x)
+        by true e =
+            let no : declares n.outputs x ≡ false = local_no_output n c known ds es own inner x (eqn_local n c known ds es own inner x e) in
+            subst (λ (d : Bool). NameFalls x (declares n.outputs x) d) (sym e) (subst (λ (d : Bool). NameFalls x d true) (sym no) (own_falls x e))
+        by false e = subst (λ (d : Bool). NameFalls x (declares n.outputs x) d) (sym e) (line_name x (declares n.outputs x) refl)
+
+    line_bounded : (q : Place) → line_rank q < suc (suc (suc (suc ranked.bound)))
+    line_bounded (Head ∷ Right ∷ q) = let l = ranked.bounded (Assume ∷ q) in omega (arith, l)
+    line_bounded (Tail ∷ Head ∷ Right ∷ q) = let l = ranked.bounded (Enforce ∷ q) in omega (arith, l)
+    line_bounded q = omega arith
+
+    rank_bounded : (p : Place) → rank p < suc (suc (suc (suc ranked.bound)))
+    rank_bounded (Named x ∷ []) = omega arith
+    rank_bounded (Body ∷ Named x ∷ []) = name_bounded (declares n.outputs x) (some_defines es x) (ranked.rank (Observer ∷ Named x ∷ [])) (ranked.bounded (Observer ∷ Named x ∷ []))
+    rank_bounded (Body ∷ Equations ∷ p) =
+        place_bounded es (λ q. suc (ranked.rank (Observer ∷ Equations ∷ q))) line_rank (suc (suc (suc (suc ranked.bound)))) (λ q. let l = ranked.bounded (Observer ∷ Equations ∷ q) in omega (arith, l)) line_bounded p
+    rank_bounded p = omega arith
+
+    abbrev observer : Node
+    observer = record { name = n.name; span = n.span; inputs = n.inputs ++ inputs_for 0 n.outputs; outputs = outputs_at c.span; contract = None; body = block locals all }
+
+    falls : (p : Place) → Within (λ q. rank q < rank p) (sources observer p)
+    falls (Named x ∷ []) = by (declares (outputs_at c.span) x && some_defines all x)
+      where
+        by : (b : Bool) → Within (λ q. rank q < suc (suc (suc ranked.bound))) (if b then only (Body ∷ Named x ∷ []) else none)
+        by true = name_below (declares n.outputs x) (some_defines es x) (ranked.rank (Observer ∷ Named x ∷ [])) (ranked.bounded (Observer ∷ Named x ∷ []))
+        by false = tt
+    falls (Body ∷ Named x ∷ []) = name_falls x
+    falls (Body ∷ Equations ∷ p) = place_falls p
+    falls p = tt
+
+    pub observer_ranked : Ranked observer
+    observer_ranked = record { rank = rank; bound = suc (suc (suc (suc ranked.bound))); bounded = rank_bounded; falls = falls }
+
+-- ---- observers of nodes
+
+module _ (n : Node) (c : Contract) (base : AllBase n.outputs) (known : (x : List ℕ) → IsTrue (interface n x) → IsOther x) (filled : AreDefined n.outputs (equations_of n.body)) (ranked : Ranked n) where
+  body_ranked : (b : Block) → BlockScoped (interface n) no_names b → BlockNames IsOther b
+      → ContractRight (λ x. on_base (declares n.inputs x || declares n.outputs x)) (Some (record c { body = b }))
+      → ((p : Place) → Within (λ z. ranked.rank z < ranked.rank p) (in_contract (Some (record c { body = b })) (output_in n (below Body only)) only p))
+      → Ranked (record { name = n.name; span = n.span; inputs = n.inputs ++ inputs_for 0 n.outputs; outputs = outputs_at c.span; contract = None; body = with_lines b n.outputs (lines_of n c) })
+  body_ranked (block ds es) own inner right falls =
+      observer_ranked n c base known filled ranked ds es own inner right.0.1 right.1 right.2 (λ p. falls (Observer ∷ p)) (λ q. falls (Assume ∷ q)) (λ q. falls (Enforce ∷ q))
+
+pub observer_has_ranks : (n : Node) (c : Contract) → n.contract ≡ Some c → NodeScoped n → AllBase n.outputs → IsObservable n → ClocksRight n → Ranked n → Ranked (observer_of n c)
+observer_has_ranks n c e scoped base o clocked ranked =
+    let out = output_in n (below Body only) in
+    let of_contract : (p : Place) → Within (λ z. ranked.rank z < ranked.rank p) (in_contract n.contract out only p) = λ p. contract_falls n ranked p in
+    body_ranked n c base o.interface scoped.outputs ranked c.body (subst (ContractScoped (interface n)) e scoped.contract) (subst (ContractNames IsOther) e o.contract)
+    (subst (ContractRight (λ x. on_base (declares n.inputs x || declares n.outputs x))) e clocked.contract)
+    (λ p. subst (λ (k : Option Contract). Within (λ z. ranked.rank z < ranked.rank p) (in_contract k out only p)) e (of_contract p))
+
+pub observers_have_ranks : (items : List Item) → EachNode (λ (n : Node). (c : Contract) → n.contract ≡ Some c → Ranked n → Ranked (observer_of n c)) items → IsRanked items → IsRanked (observers items)
+observers_have_ranks [] h ranked = tt
+observers_have_ranks (TypeItem t ∷ items) h ranked = observers_have_ranks items h ranked
+observers_have_ranks (NodeItem n ∷ items) h ranked = by n.contract refl (observers_have_ranks items h.1 ranked.1)
+  where
+    by : (o : Option Contract) → n.contract ≡ o → IsRanked (observers items) → IsRanked (observer_if n o ++ observers items)
+    by None e rest = rest
+    by (Some c) e rest = (h.0 c e ranked.0, rest)
