@@ -15,6 +15,7 @@ use Rattle.hp_tree.specs.declared.program.Item.TheVariants.{TypeItem, NodeItem}
 use Rattle.hp_tables.specs.Declarations.Tables.{numbered}
 use Rattle.hp_meaning.specs.Causal.RanksOfPoints.{AllRanksLaw}
 use Rattle.hp_meaning.specs.Causal.Sources.{below}
+use Rattle.hp_meaning.specs.Contract.Forgetting.{ContractsCallNothing}
 use Rattle.law_judged.specs.Named.Scoped.{EachNode}
 use Rattle.hp_clocks.specs.Answers.{IsClocked}
 use Rattle.hp_clocks.specs.Writing.{AreWritten}
@@ -43,12 +44,15 @@ use Rattle.hp_watch.specs.Observing.{observers}
 use Rattle.hp_watch.specs.Watching.{Observed, Observing}
 use Rattle.hp_controller.specs.declared.decoding.Control.{Control}
 use Rattle.hp_verdicts.specs.Decided.{AreKept, IsKept, KeptItem}
-use Rattle.law_games.specs.ReadyGames.Laws.{IsInOrder, Stands, TextOrderLaw}
+use Rattle.law_games.specs.ReadyGames.Laws.{IsInOrder, ReadyContractsLaw, Stands, TextOrderLaw}
 use Rattle.law_games.specs.Mirror.Mirrored.{controls_among, widths_at}
 use Rattle.law_drawing.specs.Mirrors.Drawn.{DrawnMirrorsLaw, DrawnSafeLaw}
 use Rattle.law_drawing.proofs.MirrorsLemmas.Reading.{node_reads}
 use Rattle.law_history.proofs.StreamsLemmas.Asked.{Splits, split_first, split_next}
+use Rattle.law_choices.specs.Observed.Contracts.{IsObservable}
+use Rattle.law_choices.specs.Observed.Texts.{ObservableTextsLaw}
 use Rattle.law_choices.specs.Places.Laws.{CountLaw}
+use Rattle.law_choices.proofs.ObservedLemmas.Programs.{observers_in_order}
 use Rattle.law_choices.proofs.OnClocksLemmas.Programs.{compilable_law, number_of, some_of}
 use Rattle.law_choices.proofs.OnClocksLemmas.Texts.{IsArranged, when_accepted}
 use Rattle.law_choices.proofs.PlayingLemmas.ControlBits.{control_row, controls-are, here as self}
@@ -59,7 +63,7 @@ use Rattle.hp_controlled.specs.Lacking.{ChoosesNot, FitContracts, HasCircularEqu
 use Rattle.hp_controlled.specs.Lacking.OneLacksMachines.{none_left, here, behind_a_node, behind_a_type}
 use Rattle.law_controlled.specs.Remaining.{Hinders, IsHindered, Remaining, RemainingLaw, SeesAll}
 use Rattle.law_controlled.specs.Remaining.Hinders.{unseen, circular, irregular, uncontracted}
-use Rattle.law_controlled.specs.Remaining.Remaining.{circular_contracts, one_hindered, formless}
+use Rattle.law_controlled.specs.Remaining.Remaining.{one_hindered, formless}
 use Rattle.law_controlled.proofs.CircleLaws.{no_circle}
 use Rattle.law_controlled.proofs.FitLaws.{contracts_fit}
 use Rattle.law_controlled.proofs.KeptLaws.{not_refused, safe_on_each}
@@ -76,6 +80,8 @@ pub record RemainingLaws : Type 0 where
   pub order : TextOrderLaw
   pub safe : DrawnSafeLaw
   pub mirrors : DrawnMirrorsLaw
+  pub contracts : ReadyContractsLaw
+  pub observable : ObservableTextsLaw
 
 -- ---- names of nodes
 
@@ -267,6 +273,8 @@ record IsBuildable (program after : List Item) (ranks : List (List ℕ)) : Type 
   order : IsInOrder program after ranks
   known : EachNode (IsKnown (types_of after)) after
   kept : AreKept after after
+  calls : ContractsCallNothing after
+  observable : EachNode IsObservable after
 
 module _ (laws : RemainingLaws) (program after : List Item) (ranks : List (List ℕ)) (b : IsBuildable program after ranks) where
   abbrev low : List Item
@@ -291,6 +299,13 @@ module _ (laws : RemainingLaws) (program after : List Item) (ranks : List (List 
       let c = compilable_law program after q.ready q.removable q.form in
       no_circle laws.no_circle program low c.0 c.1 (laws.ranks after q.removable (laws.all_ranks after ranks order.ordered)) circle
 
+  not_circular_contracts : HasCircularEquations (observers after) → ⊥
+  not_circular_contracts circle =
+      let q = b.arranged in
+      let order = b.order in
+      let c = observers_in_order laws.ranks program after ranks order q.removable q.form q.short b.calls b.observable (laws.all_ranks after ranks order.ordered) in
+      no_circle laws.no_circle program (lowered_program (observers after)) c.0.0 c.0.1 c.1 circle
+
   fit : (ns : List FlatNode) → AreEquationsOf (observers after) ns → FitContracts (contracts_of after) ns
   fit ns equations =
       let seen = lowered_program (observers after) in
@@ -298,7 +313,7 @@ module _ (laws : RemainingLaws) (program after : List Item) (ranks : List (List 
 
   left : HasNoChosenMachines after → Remaining after
   left (HasNoChosenMachines.not_compiled (LacksCompiled.circular_nodes circle)) = absurd (not_circular circle)
-  left (HasNoChosenMachines.not_compiled (LacksCompiled.no_observers (LacksObservers.circular_contracts circle))) = circular_contracts circle
+  left (HasNoChosenMachines.not_compiled (LacksCompiled.no_observers (LacksObservers.circular_contracts circle))) = absurd (not_circular_contracts circle)
   left (HasNoChosenMachines.not_compiled (LacksCompiled.no_observers (LacksObservers.unfitting ns equations none))) = absurd (none (fit ns equations))
   left (HasNoChosenMachines.not_compiled (LacksCompiled.one_lacks plants seen equations are lacks)) =
       let q = b.arranged in
@@ -320,10 +335,13 @@ remaining_law laws text tokens program after ranks a p named typed defined forme
     let form = q.form in
     let short = short_written (replaced program) after clocks (short_replaced no_node program (source_short program (laws.names text tokens program a p))) in
     let firsts = ready_firsts program after q.ready (some_of (types_of program) form.counts) in
+    let order = laws.order text tokens program after ranks a p named typed defined formed initialised clocks fall in
     let b : IsBuildable program after ranks = record {
       arranged = q;
-      order = laws.order text tokens program after ranks a p named typed defined formed initialised clocks fall;
+      order = order;
       known = all_known (types_of after) after short firsts;
       kept = kept;
+      calls = laws.contracts program after q.ready order.conditions;
+      observable = laws.observable text tokens program after a p clocks;
     } in
     left laws program after ranks b none

@@ -25,13 +25,12 @@ use Rattle.law_equations.specs.Made.Types.{obc_types_of}
 use Rattle.hp_circuit.specs.declared.given.Given.{Given}
 use Rattle.hp_abstract.specs.declared.abstracted.Abstraction.{Abstraction}
 use Rattle.hp_abstract.specs.Abstractions.{IsAbstractionOf}
-use Rattle.hp_watch.specs.Observing as observing
 use Rattle.hp_watch.specs.Watching.{Observed, Observing, surveyed, walked, watched_by}
 use Rattle.hp_verdicts.specs.Decided.{AreKept}
 use Rattle.law_games.specs.ReadyGames.Laws.{Stands}
 use Rattle.hp_controlled.specs.Choosing.{AreOfContract, Suits, telling}
 use Rattle.hp_controlled.specs.Compiled.{AreCompiled, AreEquationsOf, AreObserved}
-use Rattle.hp_controlled.specs.Lacking.{HasCircularEqns, HasCircularEquations, HasNoChosenMachines, LacksNodes}
+use Rattle.hp_controlled.specs.Lacking.{HasCircularEqns, HasNoChosenMachines, LacksNodes}
 
 -- As many places and bits are seen of a node that has this observer as its machine is told of.
 pub record SeesAll (types : List ObcType) (observers : Observing) (node : Node) (n : FlatNode) (a : Abstraction) (own : Observed) : Type 0 where
@@ -54,9 +53,8 @@ pub record IsHindered (program : List Item) (types : List ObcType) (observers : 
   pub stands : Stands program earlier node
   pub hinders : Hinders program types observers node plant
 
--- Equations of observers read each other in a circle, or something is in the way of one node, or machines have no form.
+-- Something is in the way of one node, or machines have no form.
 pub data Remaining (program : List Item) : Type 0 where
-  circular_contracts : HasCircularEquations (observing.observers program) → Remaining program
   one_hindered : (plants : List FlatNode) (observers : Observing) → AreEquationsOf program plants → AreObserved program observers → IsHindered program (obc_types_of program) observers → Remaining program
   formless : (machines : List Machine) → AreCompiled program (obc_types_of program) machines → (HasObcForm (obc_types_of program) machines → ⊥) → Remaining program
 
