@@ -5,8 +5,8 @@ pub mod Same
 pub mod Tests
 pub mod Plain
 pub mod Shaped
-pub mod Inlines
+pub mod Marks
+pub mod Breaches
 pub mod Quiet
-pub mod Integers
 pub mod Contracts
 mod Worked

@@ -15,13 +15,15 @@ use Rattle.law_judged.proofs.TypedLemmas.ProgramLaws.{typed}
 use Rattle.law_judged.proofs.PlainLemmas.Spelled.{found_of, merges_full}
 use Rattle.hp_compile.specs.Judged.{IsJudged}
 use Rattle.hp_compile.specs.Counts.{counts, first_passed}
-use Rattle.hp_compile.specs.Shapes.{HasShapes}
-use Rattle.hp_compile.specs.Arranged.{IsWellFormed, first_breach}
+use Rattle.std.specs.Prelude.{option_map}
+use Rattle.hp_compile.specs.Shapes.{HasShapes, first_shape}
+use Rattle.hp_compile.specs.Arranged.{IsWellFormed, first_breach, said_of}
 use Rattle.hp_compile.proofs.CountLemmas.Types.{Breach}
 use Rattle.hp_compile.proofs.CountLemmas.Same.{AllInlineNone, AllFit, calls_fit, same_counts}
 use Rattle.hp_compile.proofs.CountLemmas.Tests.{ItemsTests, items_read, replaced_tests}
 use Rattle.hp_compile.proofs.CountLemmas.Plain.{plain_counts, keep_limits}
 use Rattle.hp_compile.proofs.CountLemmas.Shaped.{none_inlined, shaped_inlined, none_passed}
+use Rattle.hp_compile.proofs.CountLemmas.Breaches.{told_at, shapes_told}
 use Rattle.hp_compile.proofs.CountLemmas.Quiet.{none_tied}
 use Rattle.hp_compile.proofs.CountLemmas.Contracts.{inline_same, all_shaped}
 
@@ -48,9 +50,12 @@ module _ (text : List ℕ) (program : List Item) (judged : IsJudged text program
   one_limit inlined = same_counts program (fits inlined) ∙ sym (plain_counts (replaced program) (left_law program) tests)
 
   pub one_breach : refusal_of program ≡ first_breach program
-  one_breach = by (breach_in program) refl
+  one_breach = by (breach_in program) refl ∙ ap (λ b. said_of b (first_passed (counts (replaced program)))) (sym told)
     where
-      by : (b : Option (List ℕ × Breach)) → breach_in program ≡ b → first_of b (limit_of program) ≡ first_of b (first_passed (counts (replaced program)))
+      told : first_shape program ≡ option_map told_at (breach_in program)
+      told = shapes_told program
+
+      by : (b : Option (List ℕ × Breach)) → breach_in program ≡ b → first_of b (limit_of program) ≡ said_of (option_map told_at b) (first_passed (counts (replaced program)))
       by None e = ap (first_of None) (one_limit (none_inlined shapes.nothing_known program e))
       by (Some b) e = refl
 

@@ -1,9 +1,11 @@
 -- What a judged program has to meet further, and what it is then.
-use Rattle.std.specs.Prelude.{ℕ, List, Option}
+use Rattle.std.specs.Prelude.{ℕ, List, Option, None, Some, option_map}
+use Rattle.hp_base.specs.declared.limit.Limit.{Limit}
+use Rattle.hp_base.specs.declared.span.Span.{Span}
 use Rattle.hp_tree.specs.declared.program.Item.{Item}
-use Rattle.hp_expand.specs.Refusals.{first_of}
-use Rattle.hp_expand.specs.Shapes.{breach_in}
 use Rattle.hp_expand.specs.declared.error.ExpandErr.{ExpandErr}
+use Rattle.hp_expand.specs.declared.error.ExpandErr.TheVariants as error
+use Rattle.hp_expand.specs.declared.error.Shape.{Shape}
 use Rattle.hp_expand.specs.Numbering.{replaced}
 use Rattle.hp_clocks.specs.Answers.{HaveClocks, IsClocked, NoneLong}
 use Rattle.hp_clocks.specs.Writing.{AreWritten}
@@ -11,7 +13,7 @@ use Rattle.hp_init.specs.Initialised.{IsInitialised}
 use Rattle.hp_meaning.specs.Causal.RanksOfPoints.{AllFall}
 use Rattle.hp_cause.specs.Ordering.{AllNodesCausal}
 use Rattle.hp_compile.specs.Counts.{counts, KeepLimits, first_passed}
-use Rattle.hp_compile.specs.Shapes.{HasShapes}
+use Rattle.hp_compile.specs.Shapes.{HasShapes, first_shape}
 
 -- Its contracts have their shapes, and with its inlined calls replaced its counts are within the limits.
 pub record IsWellFormed (program : List Item) : Type 0 where
@@ -19,8 +21,12 @@ pub record IsWellFormed (program : List Item) : Type 0 where
   pub limits : KeepLimits (counts (replaced program))
 
 -- Else this is said: the first breach of a shape, or where there is none the first count that passes its limit.
+abbrev pub said_of : Option (List ℕ × Span × Shape) → Option (List ℕ × Limit) → Option ExpandErr
+said_of None limit = option_map (λ (l : List ℕ × Limit). error.Limit l.0 l.1) limit
+said_of (Some b) limit = Some (error.Shape b.0 b.1 b.2)
+
 abbrev pub first_breach : List Item → Option ExpandErr
-first_breach program = first_of (breach_in program) (first_passed (counts (replaced program)))
+first_breach program = said_of (first_shape program) (first_passed (counts (replaced program)))
 
 -- the program with the shortest clocks of each node written, none of which is too long
 abbrev pub HasClocks : List Item → List Item → Type 0

@@ -6,6 +6,7 @@ use Rattle.hp_base.specs.Limits.{most}
 use Rattle.hp_base.specs.declared.limit.Limit.{Limit}
 use Rattle.hp_base.specs.declared.limit.What.{What}
 use Rattle.hp_base.specs.declared.limit.What.TheVariants.{Nest, Places, Total, Instances, Cells, Calls}
+use Rattle.hp_base.specs.declared.span.Span.{Span}
 use Rattle.hp_tree.specs.declared.block.Trans.{Trans}
 use Rattle.hp_tree.specs.declared.program.Item.{Item}
 use Rattle.hp_tree.specs.declared.program.Item.TheVariants.{TypeItem, NodeItem}
@@ -13,28 +14,33 @@ use Rattle.hp_tree.specs.Expressions.{Expr, constant, variable, last_of, one, tw
 use Rattle.hp_tree.specs.Blocks.{Block, block, Eqns, no_eqn, more_eqns, Eqn, define, switch, reset, automaton, Arms, no_arm, more_arms, States, no_state, more_states}
 use Rattle.hp_tree.specs.Programs.{Contract, Node}
 
--- ---- what there is in a part: its places, how many blocks stand in each other, the nodes that it calls, and those whose calls are to be inlined
+-- ---- what there is in a part
 
+-- a call of a node at its place, to be inlined or not
+pub record Call : Type 0 where
+  pub node : List ℕ
+  pub at : Span
+  pub inlined : Bool
+
+-- its places, how many blocks stand in each other, and its calls in the order of the text
 pub record Inside : Type 0 where
   pub places : ℕ
   pub levels : ℕ
-  pub calls : List (List ℕ)
-  pub inlined : List (List ℕ)
+  pub calls : List Call
 
 abbrev pub nothing : Inside
-nothing = record { places = 0; levels = 0; calls = []; inlined = [] }
+nothing = record { places = 0; levels = 0; calls = [] }
 
 -- so many places
 unfoldable pub places : ℕ → Inside
-places n = record { places = n; levels = 0; calls = []; inlined = [] }
+places n = record { places = n; levels = 0; calls = [] }
 
--- a call of this node
-unfoldable pub calling : List ℕ → Bool → Inside
-calling f inlined = record { places = 0; levels = 0; calls = if inlined then [] else f ∷ []; inlined = if inlined then f ∷ [] else [] }
+unfoldable pub calling : Span → List ℕ → Bool → Inside
+calling at f inlined = record { places = 0; levels = 0; calls = record { node = f; at = at; inlined = inlined } ∷ [] }
 
 -- two parts
 unfoldable pub both : Inside → Inside → Inside
-both a b = record { places = a.places + b.places; levels = max a.levels b.levels; calls = a.calls ++ b.calls; inlined = a.inlined ++ b.inlined }
+both a b = record { places = a.places + b.places; levels = max a.levels b.levels; calls = a.calls ++ b.calls }
 
 -- a block with this in it
 unfoldable pub deeper : Inside → Inside
@@ -53,7 +59,7 @@ abbrev mutual
   in_expr (arrow at a b) = both (places 1) (both (in_expr a) (in_expr b))
   in_expr (when_is at a c x) = both (places 1) (in_expr a)
   in_expr (merge at x ps) = both (places 1) (in_parts ps)
-  in_expr (call at f inlined es) = both (places 1) (both (calling f inlined) (in_exprs es))
+  in_expr (call at f inlined es) = both (places 1) (both (calling at f inlined) (in_exprs es))
 
   pub in_exprs : Exprs → Inside
   in_exprs no_expr = nothing
@@ -110,13 +116,13 @@ pub record Instance : Type 0 where
   pub chain : ℕ
 
 -- of all calls together, and of the greatest of them
-abbrev pub total : (List ℕ → ℕ) → List (List ℕ) → ℕ
+abbrev pub total : (List ℕ → ℕ) → List Call → ℕ
 total of [] = 0
-total of (f ∷ fs) = of f + total of fs
+total of (c ∷ cs) = of c.node + total of cs
 
-abbrev pub greatest : (List ℕ → ℕ) → List (List ℕ) → ℕ
+abbrev pub greatest : (List ℕ → ℕ) → List Call → ℕ
 greatest of [] = 0
-greatest of (f ∷ fs) = max (of f) (greatest of fs)
+greatest of (c ∷ cs) = max (of c.node) (greatest of cs)
 
 -- where it is known what an instance of each node is that is called
 unfoldable pub instance_of : (List ℕ → Instance) → Inside → Instance

@@ -12,6 +12,7 @@ pub mod Resuming
 pub mod Inlining
 pub mod Copies
 pub mod Needs
+pub mod Specialising
 pub mod Serving
 pub mod Compiling
 pub mod Layouts

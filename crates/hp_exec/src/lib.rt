@@ -22,6 +22,7 @@ mod routine;
 mod run;
 mod scope;
 mod signature;
+mod specialise;
 mod store;
 mod types;
 mod without_calls;

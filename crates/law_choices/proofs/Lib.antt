@@ -19,6 +19,6 @@ mod AddingLemmas
 mod CodedLemmas
 mod InTurnLemmas
 mod InstancesLemmas
-mod ObservedLemmas
+pub mod ObservedLemmas
 pub mod PlayingLemmas
 mod SeeingLemmas

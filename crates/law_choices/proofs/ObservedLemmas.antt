@@ -14,3 +14,5 @@ pub mod Sound
 pub mod Standing
 pub mod Swapped
 pub mod Worked
+pub mod Ranks
+pub mod Read

@@ -2,11 +2,14 @@ pub mod AddedLaws
 pub mod AlikeLaws
 pub mod AllowedLaws
 pub mod BareLaws
+pub mod CircleLaws
 pub mod ControlLaws
 pub mod DepthLaws
 pub mod DutyLaws
+pub mod FitLaws
 pub mod GreatestLaws
 pub mod KeepingLaws
+pub mod KeptLaws
 pub mod MachineLaws
 pub mod MadeLaws
 pub mod MadeNamesLaws
@@ -17,8 +20,10 @@ pub mod ObserverLaws
 pub mod OneListLaws
 pub mod PartLaws
 pub mod PlantLaws
+pub mod RemainingLaws
 pub mod RunLaws
 pub mod SaidLaws
 pub mod SeenLaws
+pub mod SightLaws
 pub mod ToldLaws
 pub mod WorkedLaws

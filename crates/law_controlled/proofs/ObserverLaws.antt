@@ -53,7 +53,7 @@ contracts_are (NodeItem n ∷ items) = by n.contract (contracts_are items)
 
 -- ---- the observer of a name
 
-at_length : (before : List Observed) (o : Observed) (rest : List Observed) → slice_get (before ++ o ∷ rest) (length before) ≡ Some o
+pub at_length : (before : List Observed) (o : Observed) (rest : List Observed) → slice_get (before ++ o ∷ rest) (length before) ≡ Some o
 at_length [] o rest = refl
 at_length (b ∷ before) o rest = at_length before o rest
 

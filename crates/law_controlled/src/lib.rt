@@ -10,15 +10,18 @@ ghost use Rattle.law_controlled.specs.Names.{NamesLaw, PlantNamesLaw};
 ghost use Rattle.law_controlled.specs.Observers.{ObserversSuitLaw};
 ghost use Rattle.law_controlled.specs.One.{OneListLaw, OneTextListLaw};
 ghost use Rattle.law_controlled.specs.Parts.{MadePartLaw};
+ghost use Rattle.law_controlled.specs.Remaining.{RemainingLaw};
 ghost use Rattle.law_controlled.specs.Said.{GreatestSaidLaw, SaidLaw};
 ghost use Rattle.law_controlled.specs.Program.{ChoosingNamesLaw, MadeNamesLaw, MadeNodesLaw};
 ghost use Rattle.law_controlled.specs.Worked.{CoolerLaw, HeaterLaw, HouseLaw, StoreLaw};
 
 use hp_abstract::nodes_have_one_abstraction;
 use hp_form::regular::regular_equations_have_form;
+use hp_meaning::causal::ranks_of_points;
 use hp_meaning::contract::{
     choice_is_permitted, choices_are_values, duty_is_kept, reactions_are_instants_of_the_game,
 };
+use law_automata::lowered::ranks_are_kept;
 use law_choices::in_turn::{
     a_node_stands_for_each, a_node_tells_each_contract,
     nodes_that_choose_answer_as_the_program_allows, nodes_that_choose_stand_in_turn,
@@ -30,6 +33,7 @@ use law_choices::observed::{
 };
 use law_choices::on_clocks::programs_have_one_meaning;
 use law_choices::part::{parts_keep_form, parts_keep_reactions};
+use law_choices::places::walks_find_places;
 use law_choices::playing::{
     contracts_are_told, copied_gates_tell_what_is_owed, drawn_machines_mirror,
     nodes_that_know_all_choose_the_greatest,
@@ -40,13 +44,17 @@ use law_choices::seeing::{
     nodes_that_see_values_choose_the_greatest,
 };
 use law_choices::undisturbed::controls_are_apart;
+use law_drawing::mirrors::{drawn_games_are_kept, drawn_nodes_are_mirrored};
 use law_equations::fewer::nodes_are_compiled;
 use law_equations::fitting::{larger_names_are_free, names_fit};
 use law_equations::followed::names_are_own;
 use law_games::ready_games::{
     contracts_call_nothing, programs_of_texts_are_in_order, ready_nodes_are_settled,
 };
+use law_wellmade::acyclic::equations_read_in_no_circle;
 use law_wellmade::apart::names_are_apart;
+use law_wellmade::lettered::names_are_spelled;
+use law_wellmade::regular::equations_are_regular;
 
 /// The part that the compiler makes of a node is a part of it, so it answers as the node does.
 pub fn made_parts_are_parts()
@@ -179,6 +187,23 @@ pub fn programs_that_choose_have_one_list_of_machines()
     programs_of_texts_may_choose();
     programs_of_texts_are_in_order();
     contracts_of_texts_can_be_observed();
+}
+
+/// Where the contracts of the program of an accepted text are kept, few causes are left for which the compiler would have no machines of it: clocked equations of its nodes, and of the observers of contracts, read each other in no circle; those of nodes are regular, each contract has as many comparisons as its clocked equations, names are short, no machine is refused or forced to violate its contract, and each controllable variable has the bits of its type.
+pub fn few_causes_are_left()
+    ensures { RemainingLaw }
+{
+    ranks_of_points();
+    ranks_are_kept();
+    equations_read_in_no_circle();
+    names_are_spelled();
+    equations_are_regular();
+    walks_find_places();
+    contracts_call_nothing();
+    contracts_of_texts_can_be_observed();
+    programs_of_texts_are_in_order();
+    drawn_nodes_are_mirrored();
+    drawn_games_are_kept();
 }
 
 /// Of a heater with three modes, one of which is chosen, nothing is free but the inputs.

@@ -16,21 +16,17 @@ use Rattle.hp_expand.specs.Plain.{NodeIsPlain, ItemsArePlain}
 use Rattle.hp_expand.specs.Numbering.{replaced_node, with_node, replaced_items}
 use Rattle.hp_expand.proofs.ReplacedSizes.{counted_law}
 use Rattle.hp_compile.specs.Counts as plain
-use Rattle.hp_compile.specs.Counts.{Inside, total}
-use Rattle.hp_compile.specs.Shapes.{InlineNone, CallsNothing, ControlsNoInteger}
+use Rattle.hp_compile.specs.Counts.{Inside, Call, total}
+use Rattle.hp_compile.specs.Shapes.{AllInlineFree, CallsNothing, ControlsNoInteger}
 use Rattle.hp_compile.proofs.CountLemmas.Types.{Size, Form}
 use Rattle.hp_compile.proofs.CountLemmas.Fits.{InlinesNone}
 use Rattle.hp_compile.proofs.CountLemmas.Same.{AllInlineNone, AllFit}
 use Rattle.hp_compile.proofs.CountLemmas.Tests.{NodeTests, ItemsTests}
 use Rattle.hp_compile.proofs.CountLemmas.Plain.{size_of, contract_same}
-use Rattle.hp_compile.proofs.CountLemmas.Inlines as inlines
+use Rattle.hp_compile.proofs.CountLemmas.Marks.{has, inlines_same, integers_same}
 use Rattle.hp_compile.proofs.CountLemmas.Quiet.{Tied, contract_quiet, tied_more}
-use Rattle.hp_compile.proofs.CountLemmas.Integers.{integers_same}
 
 -- ---- no node with a contract is inlined
-
-abbrev has : (List ℕ → Form) → List ℕ → Bool
-has forms f = (forms f).has_contract
 
 table_more : (forms : List ℕ → Form) (n : Node) → (λ (f : List ℕ). if bytes_eq n.name f then is_some n.contract else (forms f).has_contract) ≡ has (shapes.with_form forms n.name (shapes.form_of forms n))
 table_more forms n = λ i f. by f (bytes_eq n.name f) i
@@ -39,13 +35,13 @@ table_more forms n = λ i f. by f (bytes_eq n.name f) i
     by f true = refl
     by f false = refl
 
-pub inline_same : (forms : List ℕ → Form) (items : List Item) → InlineNone (has forms) items ↔ AllInlineNone forms items
+pub inline_same : (forms : List ℕ → Form) (items : List Item) → AllInlineFree (has forms) items ↔ AllInlineNone forms items
 inline_same forms [] = (λ h. tt, λ h. tt)
 inline_same forms (TypeItem t ∷ items) = inline_same forms items
 inline_same forms (NodeItem n ∷ items) =
     let more = shapes.with_form forms n.name (shapes.form_of forms n) in
-    let p = inlines.node_same forms n in
-    let q = subst (λ z. InlineNone z items ↔ AllInlineNone more items) (sym (table_more forms n)) (inline_same more items) in
+    let p = inlines_same forms n in
+    let q = subst (λ z. AllInlineFree z items ↔ AllInlineNone more items) (sym (table_more forms n)) (inline_same more items) in
     (λ h. (p.1 h.0, q.0 h.1), λ h. (p.0 h.0, q.1 h.1))
 
 -- ---- a contract that calls nothing
@@ -54,7 +50,7 @@ none_called : (known : List ℕ → Size) (a : Inside) → ((size_of known a).in
 unfolding size_of
 none_called known a = by a.calls
   where
-    by : (fs : List (List ℕ)) → (total (λ f. suc (known f).instances) fs ≡ 0) ↔ (fs ≡ [])
+    by : (fs : List Call) → (total (λ f. suc (known f).instances) fs ≡ 0) ↔ (fs ≡ [])
     by [] = (λ h. refl, λ h. refl)
     by (f ∷ fs) = (λ h. absurd (omega (arith, h)), λ h. absurd cc)
 

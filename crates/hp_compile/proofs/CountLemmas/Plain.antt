@@ -6,6 +6,7 @@ use Rattle.hp_base.specs.Limits.{most}
 use Rattle.hp_base.specs.declared.limit.Limit.{Limit}
 use Rattle.hp_base.specs.declared.limit.What.{What}
 use Rattle.hp_base.specs.declared.limit.What.TheVariants.{Nest, Places, Total, Instances, Cells, Calls}
+use Rattle.hp_base.specs.declared.span.Span.{Span}
 use Rattle.hp_tree.specs.declared.block.Trans.{Trans}
 use Rattle.hp_tree.specs.declared.program.Item.{Item}
 use Rattle.hp_tree.specs.declared.program.Item.TheVariants.{TypeItem, NodeItem}
@@ -18,18 +19,18 @@ use Rattle.hp_expand.specs.Counts as walk
 use Rattle.hp_expand.specs.Counts.{passed, or_passed, passed_by, at_node}
 use Rattle.hp_expand.specs.Plain.{IsPlain, AllArePlain, PartsArePlain, BlockIsPlain, EqnsArePlain, EqnIsPlain, ArmsArePlain, StatesArePlain, ConditionIsPlain, ContractIsPlain, NodeIsPlain, ItemsArePlain}
 use Rattle.hp_compile.specs.Counts as plain
-use Rattle.hp_compile.specs.Counts.{Inside, both, calling, Instance, total, greatest, instance_of, with_instance, none_known, Count, counts_of_node, counts_in, counts, KeepLimits, if_passed, first_passed}
+use Rattle.hp_compile.specs.Counts.{Inside, Call, both, calling, Instance, total, greatest, instance_of, with_instance, none_known, Count, counts_of_node, counts_in, counts, KeepLimits, if_passed, first_passed}
 use Rattle.hp_compile.proofs.CountLemmas.Tests.{TestsAreSimple, BlockTests, EqnsTests, EqnTests, ArmsTests, StatesTests, ContractTests, NodeTests, ItemsTests, simple_plain}
 use Rattle.hp_compile.proofs.CountLemmas.Types.{Size}
 
 abbrev size : ℕ → ℕ → ℕ → ℕ → ℕ → Size
 size p n i c k = record { places = p; nest = n; instances = i; cells = c; calls = k }
 
-total_both : (of : List ℕ → ℕ) (xs ys : List (List ℕ)) → total of xs + total of ys ≡ total of (xs ++ ys)
+total_both : (of : List ℕ → ℕ) (xs ys : List Call) → total of xs + total of ys ≡ total of (xs ++ ys)
 total_both of [] ys = omega arith
 total_both of (x ∷ xs) ys = omega (arith, total_both of xs ys)
 
-greatest_both : (of : List ℕ → ℕ) (xs ys : List (List ℕ)) → max (greatest of xs) (greatest of ys) ≡ greatest of (xs ++ ys)
+greatest_both : (of : List ℕ → ℕ) (xs ys : List Call) → max (greatest of xs) (greatest of ys) ≡ greatest of (xs ++ ys)
 greatest_both of [] ys = omega arith
 greatest_both of (x ∷ xs) ys = omega (arith, greatest_both of xs ys)
 
@@ -75,9 +76,9 @@ module _ (known : List ℕ → Size) where
   unfolding sizes.deeper plain.deeper size_of
   deeper_size a s p = ap sizes.deeper p
 
-  called_size : (f : List ℕ) → called (known f) ≡ size_of (calling f false)
+  called_size : (at : Span) (f : List ℕ) (inlined : Bool) → called (known f) ≡ size_of (calling at f inlined)
   unfolding called calling size_of
-  called_size f = λ i. size 0 0 (plus_none (instances_of f) i) (plus_none (cells_of f) i) (max_none (chain_of f) i)
+  called_size at f inlined = λ i. size 0 0 (plus_none (instances_of f) i) (plus_none (cells_of f) i) (max_none (chain_of f) i)
 
   above : (a : Inside) (s : Size) → s ≡ size_of a → join (sizes.places 1) s ≡ size_of (both (plain.places 1) a)
   above a s p = pair (plain.places 1) a (sizes.places 1) s (places_size 1) p
@@ -89,10 +90,10 @@ module _ (known : List ℕ → Size) where
   unfolding of_call
   opened n f s = refl
 
-  call_size : (n : ℕ) (inlined : Bool) (f : List ℕ) (a : Inside) (s : Size) → inlined ≡ false → s ≡ size_of a → of_call n inlined (known f) s ≡ size_of (both (plain.places 1) (both (calling f inlined) a))
-  call_size n inlined f a s e p =
-      ap (λ b. of_call n b (known f) s) e ∙ opened n f s ∙ above (both (calling f false) a) (join (called (known f)) s) (pair (calling f false) a (called (known f)) s (called_size f) p)
-      ∙ ap (λ b. size_of (both (plain.places 1) (both (calling f b) a))) (sym e)
+  call_size : (n : ℕ) (at : Span) (inlined : Bool) (f : List ℕ) (a : Inside) (s : Size) → inlined ≡ false → s ≡ size_of a → of_call n inlined (known f) s ≡ size_of (both (plain.places 1) (both (calling at f inlined) a))
+  call_size n at inlined f a s e p =
+      let call = calling at f inlined in
+      ap (λ b. of_call n b (known f) s) e ∙ opened n f s ∙ above (both call a) (join (called (known f)) s) (pair call a (called (known f)) s (called_size at f inlined) p)
 
   mutual
     expr_same : (e : Expr) → IsPlain e → sizes.in_expr known e ≡ size_of (plain.in_expr e)
@@ -110,7 +111,7 @@ module _ (known : List ℕ → Size) where
     expr_same (arrow at a b) h = above_two (plain.in_expr a) (plain.in_expr b) (sizes.in_expr known a) (sizes.in_expr known b) (expr_same a h.0) (expr_same b h.1)
     expr_same (when_is at a c x) h = above (plain.in_expr a) (sizes.in_expr known a) (expr_same a h)
     expr_same (merge at x ps) h = above (plain.in_parts ps) (sizes.in_parts known ps) (parts_same ps h)
-    expr_same (call at f inlined es) h = call_size 1 inlined f (plain.in_exprs es) (sizes.in_exprs known es) h.0 (exprs_same es h.1)
+    expr_same (call at f inlined es) h = call_size 1 at inlined f (plain.in_exprs es) (sizes.in_exprs known es) h.0 (exprs_same es h.1)
 
     exprs_same : (es : Exprs) → AllArePlain es → sizes.in_exprs known es ≡ size_of (plain.in_exprs es)
     exprs_same no_expr h = none_size
@@ -132,7 +133,7 @@ module _ (known : List ℕ → Size) where
   right_same n (arrow at a b) h = expr_same (arrow at a b) h
   right_same n (when_is at a c x) h = expr_same (when_is at a c x) h
   right_same n (merge at x ps) h = expr_same (merge at x ps) h
-  right_same n (call at f inlined es) h = call_size n inlined f (plain.in_exprs es) (sizes.in_exprs known es) h.0 (exprs_same es h.1)
+  right_same n (call at f inlined es) h = call_size n at inlined f (plain.in_exprs es) (sizes.in_exprs known es) h.0 (exprs_same es h.1)
 
   transitions_same : (ts : List Trans) → TestsAreSimple ts → sizes.in_transitions known ts ≡ size_of (plain.in_transitions ts)
   transitions_same [] h = none_size

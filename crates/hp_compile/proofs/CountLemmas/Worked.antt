@@ -1,5 +1,5 @@
 -- A worked program with inlined calls: its counts, and what a contract calls, by computing.
-use Rattle.std.proofs.Common.{◌≡◌, ℕ, true, false, List, [], ◌∷◌, None, Some, refl}
+use Rattle.std.proofs.Common.{◌≡◌, ℕ, true, false, List, [], ◌∷◌, map, None, Some, refl}
 use Rattle.hp_base.specs.declared.limit.What.TheVariants.{Nest, Places, Total, Instances, Cells, Calls}
 use Rattle.hp_base.specs.declared.span.Span.{Span}
 use Rattle.hp_base.specs.declared.ty.Ty.TheVariants as ty
@@ -10,7 +10,7 @@ use Rattle.hp_tree.specs.Expressions.{variable, one, call, no_expr, more_exprs}
 use Rattle.hp_tree.specs.Blocks.{Decl, block, no_eqn, more_eqns, define, reset}
 use Rattle.hp_tree.specs.Programs.{Node}
 use Rattle.hp_expand.specs.Numbering.{replaced}
-use Rattle.hp_compile.specs.Counts.{places, calling, both, deeper, in_contract, in_node, instance_of, counts, if_passed, first_passed}
+use Rattle.hp_compile.specs.Counts.{Call, places, calling, both, deeper, in_contract, in_node, instance_of, counts, if_passed, first_passed}
 
 abbrev at : Span
 at = record { line = 1; col = 1; end = 1 }
@@ -99,10 +99,10 @@ asking = record inliner {
 abbrev called_by_contracts : List Item → List (List (List ℕ))
 called_by_contracts [] = []
 called_by_contracts (TypeItem t ∷ items) = called_by_contracts items
-called_by_contracts (NodeItem n ∷ items) = (in_contract n.contract).calls ∷ called_by_contracts items
+called_by_contracts (NodeItem n ∷ items) = map (λ (c : Call). c.node) (in_contract n.contract).calls ∷ called_by_contracts items
 
 -- its contract inlines `f`, and so calls `g`
-asked : (in_node asking).inlined ≡ f ∷ []
+asked : (in_node asking).calls ≡ record { node = f; at = at; inlined = true } ∷ []
 unfolding places calling both
 asked = refl
 

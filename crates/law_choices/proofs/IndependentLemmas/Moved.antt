@@ -139,7 +139,7 @@ module _ (g : Place → Sources) where
   move_clock (on ∷ clock) names = ap (both (moved (names on.1))) (move_clock clock names)
 
   mutual
-    move_of : (e : Expr) (names : NameSources) (k : PlaceSources) → moved (of_expr e names k) ≡ of_expr e (mn names) (mk k)
+    pub move_of : (e : Expr) (names : NameSources) (k : PlaceSources) → moved (of_expr e names k) ≡ of_expr e (mn names) (mk k)
     move_of (constant s c) names k = refl
     move_of (variable s x) names k = refl
     move_of (last_of s x) names k = refl
@@ -191,7 +191,7 @@ module _ (g : Place → Sources) where
   move_weak (more_states f b until unless s ss) k = ap₂ both (move_of_conditions until (below Until (below Head k))) (move_weak ss (below Tail k))
 
   mutual
-    move_expr : (e : Expr) (clock : Clock) (names : NameSources) (k : PlaceSources) → mk (at_expr e clock names k) ≡ at_expr e clock (mn names) (mk k)
+    pub move_expr : (e : Expr) (clock : Clock) (names : NameSources) (k : PlaceSources) → mk (at_expr e clock names k) ≡ at_expr e clock (mn names) (mk k)
     move_expr (constant s c) clock names k = move_one _ nowhere ∙ ap (λ s. at_one (also s) nowhere) (move_clock clock names)
     move_expr (variable s x) clock names k = move_one _ nowhere ∙ ap (λ s. at_one (both (also s) (moved (names x))) nowhere) (move_clock clock names)
     move_expr (last_of s x) clock names k = refl

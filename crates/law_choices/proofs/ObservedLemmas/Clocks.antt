@@ -100,7 +100,7 @@ module _ (ds more : List Decl) (same : (x : List ℕ) → clock_in more x ≡ cl
     all_same no_expr = refl
     all_same (more_exprs e es) = ap₂ or_clock (told_same e) (all_same es)
 
-  of_same : (ys : List (List ℕ × Span)) (e : Expr) → clock_of more ys e ≡ clock_of ds ys e
+  pub of_same : (ys : List (List ℕ × Span)) (e : Expr) → clock_of more ys e ≡ clock_of ds ys e
   of_same [] e = ap or_base (told_same e)
   of_same (y ∷ ys) e = same y.0
 
@@ -159,7 +159,7 @@ base_clock (d ∷ ds) x h = by (bytes_eq d.name x) (base_clock ds x h.1)
     by true f = ap written h.0
     by false f = f
 
-clock_behind : (ds more : List Decl) → AllBase more → (x : List ℕ) → clock_in (ds ++ more) x ≡ clock_in ds x
+pub clock_behind : (ds more : List Decl) → AllBase more → (x : List ℕ) → clock_in (ds ++ more) x ≡ clock_in ds x
 clock_behind [] more h x = base_clock more x h
 clock_behind (d ∷ ds) more h x = ap (λ k. if bytes_eq d.name x then written d.clock else k) (clock_behind ds more h x)
 
@@ -259,7 +259,7 @@ module _ (n : Node) (c : Contract) (base : AllBase n.outputs) (names : (x : List
     new_input : (i : ℕ) → IsTrue (declares (inputs_for 0 n.outputs) (input_name i)) → some_defines all (input_name i) ≡ false → after (input_name i) ≡ Some []
     new_input i h q = not_here (input_name i) q ∙ ap (λ a. base_alone (on_base (a || (declares (outputs_at c.span) (input_name i) || false)))) (new_outer 0 n.outputs (input_name i) h)
 
-    not_defined : (i : ℕ) → some_defines all (input_name i) ≡ false
+    pub not_defined : (i : ℕ) → some_defines all (input_name i) ≡ false
     not_defined i =
         defines_behind es lines (input_name i)
         ∙ ap₂ (λ a b. a || b) (false_unless (some_defines es (input_name i)) (λ h. input_not_other i (inner.0 (input_name i) (eqn_local n c names ds es own inner (input_name i) h))))
@@ -270,10 +270,10 @@ module _ (n : Node) (c : Contract) (base : AllBase n.outputs) (names : (x : List
         let same : clock_in locals y ≡ [] = clock_behind ds n.outputs base y ∙ q in
         subst (λ k. ClockRight after k × LeftsOn locals ((y, s) ∷ []) k × IsOn after e k) (sym same) (tt, (same, tt), h)
 
-    new_clock : (y : List ℕ) → (IsOther y → ⊥) → clock_in ds y ≡ []
+    pub new_clock : (y : List ℕ) → (IsOther y → ⊥) → clock_in ds y ≡ []
     new_clock y f = undeclared ds y (none_declared ds y inner.0 f)
 
-    output_clock : (x : List ℕ) → IsTrue (declares n.outputs x) → clock_in ds x ≡ []
+    pub output_clock : (x : List ℕ) → IsTrue (declares n.outputs x) → clock_in ds x ≡ []
     output_clock x h = undeclared ds x (false_unless (declares ds x) (λ k. own.1 x k (or_left (declares n.outputs x) (also no_names n.inputs x) h)))
 
     handed_right : (i : ℕ) (os : List Decl) → ((x : List ℕ) → IsTrue (declares os x) → IsTrue (declares n.outputs x)) → ((x : List ℕ) → IsTrue (declares (inputs_for i os) x) → IsTrue (declares (inputs_for 0 n.outputs) x)) → AllRight after locals (eqns_of (all_handed_on i os))

@@ -1,12 +1,14 @@
 -- The observers of a ready program can be compiled.
 use Rattle.std.proofs.Common.{◌≡◌, ℕ, ◌||◌, List, [], ◌∷◌, ◌++◌, map, reverse, refl, sym, subst, ◌∙◌}
 use Rattle.std.proofs.lemmas.List.{append_assoc}
-use Rattle.std.specs.Prelude.{IsFalse}
+use Rattle.std.specs.Prelude.{IsFalse, Some}
 use Rattle.std.specs.Str.{bytes_eq}
 use Rattle.hp_tree.specs.declared.program.Item.{Item}
 use Rattle.hp_tree.specs.declared.program.Item.TheVariants.{TypeItem, NodeItem}
 use Rattle.hp_tree.specs.Meaning.{types_of}
-use Rattle.hp_tree.specs.Programs.{TypeDecl, Node}
+use Rattle.hp_obc.specs.Form.{TypesForm}
+use Rattle.hp_tree.specs.Programs.{Contract, TypeDecl, Node}
+use Rattle.hp_meaning.specs.Causal.Causality.{IsRanked, Ranked}
 use Rattle.hp_meaning.specs.Causal.Clocked.{ClocksRight}
 use Rattle.hp_meaning.specs.Contract.Forgetting.{ContractsCallNothing}
 use Rattle.law_judged.specs.Named.Scoped.{EachNode, NodeScoped}
@@ -29,6 +31,7 @@ use Rattle.law_automata.proofs.ReadiedLemmas.HasConstants.{ready_constants_law}
 use Rattle.law_values.specs.Filled.Firsts.{NodeHasFirsts}
 use Rattle.law_values.proofs.FilledLemmas.Ready.{ready_firsts}
 use Rattle.hp_automata.specs.Lowering.{Enumerations, enumerations, lowered_node, lowered_item, lowered_program}
+use Rattle.law_automata.specs.Lowered.Laws.{RanksLaw}
 use Rattle.law_automata.specs.Lowered.Removable.{NodeOk, IsRemovable}
 use Rattle.law_automata.specs.Readied.Laws.{IsWhole}
 use Rattle.law_automata.specs.Readied.Single.{NodeSingle}
@@ -52,7 +55,9 @@ use Rattle.law_drawing.proofs.DrawableLemmas.Programs.{drawable}
 use Rattle.law_history.proofs.StreamsLemmas.Shapes.{Fresh, all_fresh}
 use Rattle.law_drawing.proofs.SteeredLemmas.NothingCalled.{contracts-none}
 use Rattle.law_drawing.proofs.SteeredLemmas.Uncalled.{ContractCallsNothing}
-use Rattle.hp_watch.specs.Observing.{observers}
+use Rattle.law_equations.specs.Made.Types.{obc_types_of}
+use Rattle.hp_watch.specs.Observing.{observer_of, observers}
+use Rattle.law_choices.specs.Closed.Compilable.{HasTypesOf, IsCompilable}
 use Rattle.law_wellmade.proofs.BegunLemmas.Items.{some_constructors}
 use Rattle.law_choices.proofs.OnClocksLemmas.Programs.{some_of, to_all, from_all, ready_clocks}
 use Rattle.law_choices.specs.InTurn.Observed.{CallsNone}
@@ -65,6 +70,7 @@ use Rattle.law_choices.proofs.ObservedLemmas.Calls.{observer_none}
 use Rattle.law_choices.proofs.ObservedLemmas.Clocks.{outputs_based, observer_right}
 use Rattle.law_choices.proofs.ObservedLemmas.Firsts.{observer_firsts, observer_short}
 use Rattle.law_choices.proofs.ObservedLemmas.Known.{IsKnown}
+use Rattle.law_choices.proofs.ObservedLemmas.Ranks.{observer_has_ranks, observers_have_ranks}
 use Rattle.law_choices.proofs.ObservedLemmas.Removable.{AllBase, observer_ok}
 use Rattle.law_choices.proofs.ObservedLemmas.Scoped.{observer_scoped, observer_single, observer_whole}
 use Rattle.law_choices.proofs.ObservedLemmas.Standing.{ConstantsAre, constants_are, DrawableBehind, all_sound, all_tested, observers_onto, accepted_sound, enums_same}
@@ -224,3 +230,20 @@ tested_observers_law program after ranks o ok form short nothing observable =
     let apart = lowered_apart program after r.named (clocked_of (replaced program) after r.clocks) in
     let known = ready_known program after r ok o.constructors short nothing observable apart in
     subst (λ ts. AreTested ts (reverse (lowered_program (observers after)))) (sym (types_watched after)) (tested_observers program after ranks o known (observers_apart after apart))
+
+-- ---- observers have ranks
+
+-- The observers of a ready program in order can be compiled, and their places have ranks, where those of the program have.
+pub observers_in_order : RanksLaw → (program after : List Item) (ranks : List (List ℕ)) → IsInOrder program after ranks → IsRemovable after → TypesForm (obc_types_of program) → EachNode NodeShort after → ContractsCallNothing after → EachNode IsObservable after → IsRanked after
+    → (HasTypesOf program (lowered_program (observers after)) × IsCompilable (lowered_program (observers after))) × IsRanked (lowered_program (observers after))
+observers_in_order law program after ranks o ok form short nothing observable ranked =
+    let r = o.ready in
+    let types = types_of after in
+    let seen = observers after in
+    let apart = lowered_apart program after r.named (clocked_of (replaced program) after r.clocks) in
+    let known = ready_known program after r ok o.constructors short nothing observable apart in
+    let can = can_be_observed_law program after r ok form short nothing observable (tested_observers_law program after ranks o ok form short nothing observable) in
+    let ok_all = removable seen (each_observer (IsKnown types) NodeOk (λ n c e k. observer_ok n c e k.ok k.scoped k.base k.observable) after known) in
+    let each =
+    each_node (IsKnown types) (λ n. (c : Contract) → n.contract ≡ Some c → Ranked n → Ranked (observer_of n c)) (λ n k c e. observer_has_ranks n c e k.scoped k.base k.observable k.clocks) after known in
+    ((record { same = types_watched after ∙ types_same program after r; named = r.named; form = form }, can.compilable), law seen ok_all (observers_have_ranks after each ranked))

@@ -1,0 +1,347 @@
+-- Most causes are in the way of no accepted program whose contracts are kept.
+use Rattle.std.proofs.Common.{◌≡◌, inl, inr, ℕ, ◌+◌, ◌≤◌, List, [], ◌∷◌, ◌++◌, length, map, drop, reverse, Option, None, Some, refl, sym, ap, ap₂, subst, ◌∙◌, arith}
+use Rattle.std.specs.Prelude.{All, IsTrue, is_some, option_map}
+use Rattle.std.specs.List.{AllByRecursion}
+use Rattle.std.proofs.lemmas.List.{length-map}
+use Rattle.std.proofs.lemmas.List.Elements.{All-head, All-tail}
+use Rattle.hp_obc.specs.Form.{HasConstructors, TypesForm}
+use Rattle.hp_obc.specs.Machines.{ObcType}
+use Rattle.hp_tree.specs.Blocks.{Decl}
+use Rattle.hp_tree.specs.Instant.{Controls}
+use Rattle.hp_tree.specs.Meaning.{types_of, controls_of}
+use Rattle.hp_tree.specs.Programs.{Contract, Node, TypeDecl}
+use Rattle.hp_tree.specs.declared.program.Item.{Item}
+use Rattle.hp_tree.specs.declared.program.Item.TheVariants.{TypeItem, NodeItem}
+use Rattle.hp_tables.specs.Declarations.Tables.{numbered}
+use Rattle.hp_meaning.specs.Causal.RanksOfPoints.{AllRanksLaw}
+use Rattle.hp_meaning.specs.Causal.Sources.{below}
+use Rattle.hp_meaning.specs.Contract.Forgetting.{ContractsCallNothing}
+use Rattle.law_judged.specs.Named.Scoped.{EachNode}
+use Rattle.hp_clocks.specs.Answers.{IsClocked}
+use Rattle.hp_clocks.specs.Writing.{AreWritten}
+use Rattle.hp_expand.specs.Numbering.{no_node, with_node, replaced_node, replaced_items, replaced}
+use Rattle.law_values.specs.Filled.Firsts.{NodeHasFirsts}
+use Rattle.law_values.proofs.FilledLemmas.Ready.{ready_firsts}
+use Rattle.hp_automata.specs.Lowering as lowering
+use Rattle.hp_automata.specs.Lowering.{Enumerations, Types, enumerations, lowered_contract, lowered_item, lowered_node, lowered_program}
+use Rattle.law_automata.specs.Lowered.Laws.{RanksLaw}
+use Rattle.hp_flat.specs.Nodes.{FlatNode}
+use Rattle.law_equations.specs.Made.Making.{Known, outputs_of}
+use Rattle.law_equations.specs.Made.Types.{obc_type_of, obc_types, obc_types_of}
+use Rattle.hp_complete.specs.Declaring.{known_of}
+use Rattle.hp_complete.specs.Made.{AreMadeOf, IsMadeOf}
+use Rattle.hp_complete.specs.Signatures.{AreFlat, IsFlat, IsSigned, places_of, variables_of}
+use Rattle.hp_form.specs.Regular.Regular.{EqnsRegular}
+use Rattle.law_wellmade.specs.Acyclic.Laws.{NoCircleLaw}
+use Rattle.law_wellmade.specs.Lettered.Laws.{TextNamesLaw}
+use Rattle.law_wellmade.specs.Lettered.Names.{NodeSpelled, IsSourceName}
+use Rattle.law_wellmade.specs.Regular.Laws.{RegularLaw}
+use Rattle.law_wellmade.specs.Timely.Tested.{AreTested}
+use Rattle.law_wellmade.proofs.BegunLemmas.Items.{names_of_types, types_low}
+use Rattle.hp_abstract.specs.declared.abstracted.Abstraction.{Abstraction}
+use Rattle.hp_abstract.specs.Abstractions.{IsAbstractionOf}
+use Rattle.hp_watch.specs.Observing.{observers}
+use Rattle.hp_watch.specs.Watching.{Observed, Observing}
+use Rattle.hp_controller.specs.declared.decoding.Control.{Control}
+use Rattle.hp_verdicts.specs.Decided.{AreKept, IsKept, KeptItem}
+use Rattle.law_games.specs.ReadyGames.Laws.{IsInOrder, ReadyContractsLaw, Stands, TextOrderLaw}
+use Rattle.law_games.specs.Mirror.Mirrored.{controls_among, widths_at}
+use Rattle.law_drawing.specs.Mirrors.Drawn.{DrawnMirrorsLaw, DrawnSafeLaw}
+use Rattle.law_drawing.proofs.MirrorsLemmas.Reading.{node_reads}
+use Rattle.law_history.proofs.StreamsLemmas.Asked.{Splits, split_first, split_next}
+use Rattle.law_choices.specs.Observed.Contracts.{IsObservable}
+use Rattle.law_choices.specs.Observed.Texts.{ObservableTextsLaw}
+use Rattle.law_choices.specs.Places.Laws.{CountLaw}
+use Rattle.law_choices.proofs.ObservedLemmas.Programs.{observers_in_order}
+use Rattle.law_choices.proofs.OnClocksLemmas.Programs.{compilable_law, number_of, some_of}
+use Rattle.law_choices.proofs.OnClocksLemmas.Texts.{IsArranged, when_accepted}
+use Rattle.law_choices.proofs.PlayingLemmas.ControlBits.{control_row, controls-are, here as self}
+use Rattle.hp_controlled.specs.Choosing.{AreControls, AreNodesOf, Suits}
+use Rattle.hp_controlled.specs.Choosing.AreNodesOf.{without_contract, with_contract}
+use Rattle.hp_controlled.specs.Compiled.{AreEquationsOf, AreObserved, contracts_of}
+use Rattle.hp_controlled.specs.Lacking.{ChoosesNot, FitContracts, HasCircularEquations, HasNoChosenMachines, LacksCompiled, LacksMachines, LacksNodes, LacksObservers, OneLacksMachines}
+use Rattle.hp_controlled.specs.Lacking.OneLacksMachines.{none_left, here, behind_a_node, behind_a_type}
+use Rattle.law_controlled.specs.Remaining.{Hinders, IsHindered, Remaining, RemainingLaw, SeesAll}
+use Rattle.law_controlled.specs.Remaining.Hinders.{unseen, circular, irregular, uncontracted}
+use Rattle.law_controlled.specs.Remaining.Remaining.{one_hindered, formless}
+use Rattle.law_controlled.proofs.CircleLaws.{no_circle}
+use Rattle.law_controlled.proofs.FitLaws.{contracts_fit}
+use Rattle.law_controlled.proofs.KeptLaws.{not_refused, safe_on_each}
+use Rattle.law_controlled.proofs.SightLaws.{NamedIn, has_observer, node_controls, suits}
+
+-- the laws that are joined here
+pub record RemainingLaws : Type 0 where
+  pub all_ranks : AllRanksLaw
+  pub ranks : RanksLaw
+  pub no_circle : NoCircleLaw
+  pub names : TextNamesLaw
+  pub regular : RegularLaw
+  pub count : CountLaw
+  pub order : TextOrderLaw
+  pub safe : DrawnSafeLaw
+  pub mirrors : DrawnMirrorsLaw
+  pub contracts : ReadyContractsLaw
+  pub observable : ObservableTextsLaw
+
+-- ---- names of nodes
+
+abbrev Short : Node → Type 0
+Short n = length n.name ≤ 255
+
+source_short : (items : List Item) → EachNode (NodeSpelled IsSourceName) items → EachNode Short items
+source_short [] h = tt
+source_short (TypeItem t ∷ items) h = source_short items h
+source_short (NodeItem n ∷ items) h = (h.0.0.1.1, source_short items h.1)
+
+short_replaced : (nodes : List ℕ → Node) (items : List Item) → EachNode Short items → EachNode Short (replaced_items nodes items)
+short_replaced nodes [] h = tt
+short_replaced nodes (TypeItem t ∷ items) h = short_replaced nodes items h
+short_replaced nodes (NodeItem n ∷ items) h = (h.0, short_replaced (with_node nodes (replaced_node nodes n)) items h.1)
+
+short_written : (xs ys : List Item) → AreWritten IsClocked xs ys → EachNode Short xs → EachNode Short ys
+short_written [] [] w h = tt
+short_written [] (y ∷ ys) w h = absurd w
+short_written (TypeItem t ∷ xs) [] w h = absurd w
+short_written (NodeItem n ∷ xs) [] w h = absurd w
+short_written (TypeItem t ∷ xs) (y ∷ ys) w h = subst (λ z. EachNode Short (z ∷ ys)) (sym w.0) (short_written xs ys w.1 h)
+short_written (NodeItem n ∷ xs) (y ∷ ys) w h = let it = w.0 in subst (λ z. EachNode Short (z ∷ ys)) (sym it.2) (h.0, short_written xs ys w.1 h.1)
+
+-- ---- one node that lacks its machines
+
+-- A node has a short name, and each of its declarations has a first value.
+record IsKnown (types : List TypeDecl) (n : Node) : Type 0 where
+  is_short : Short n
+  firsts : NodeHasFirsts types n
+
+all_known : (types : List TypeDecl) (items : List Item) → EachNode Short items → EachNode (NodeHasFirsts types) items → EachNode (IsKnown types) items
+all_known types [] h g = tt
+all_known types (TypeItem t ∷ items) h g = all_known types items h g
+all_known types (NodeItem n ∷ items) h g = (record { is_short = h.0; firsts = g.0 }, all_known types items h.1 g.1)
+
+controls_low : (enums : Enumerations) (types : Types) (o : Option Contract) → controls_of (option_map (lowered_contract enums types) o) ≡ controls_of o
+controls_low enums types None = refl
+controls_low enums types (Some c) = refl
+
+module _ (after : List Item) (k : Known) (enums : Enumerations) (places : List ℕ → Option ℕ) (decls : List TypeDecl) (seen : Observing) where
+  abbrev types : List ObcType
+  types = obc_types decls
+
+  -- it stands in the program, and is one that is kept
+  record Lacking : Type 0 where
+    node : Node
+    plant : FlatNode
+    earlier : List Item
+    stands : Stands after earlier node
+    named : IsTrue (is_some node.contract) → NamedIn after node.name
+    made : IsMadeOf k (lowered_node enums node) plant
+    flat : IsFlat places (lowered_node enums node) plant
+    regular : EqnsRegular types plant
+    known : IsKnown decls node
+    kept : IsTrue (is_some node.contract) → IsKept after node
+    lacks : LacksMachines after types seen node plant
+
+  -- what is known of some nodes and of their clocked equations
+  record AreKnown (items : List Item) (ns : List FlatNode) : Type 0 where
+    are_made : AreMadeOf k (map (lowered_item enums) items) ns
+    are_flat : AreFlat places (map (lowered_item enums) items) ns
+    are_regular : AllByRecursion (EqnsRegular types) ns
+    are_known : EachNode (IsKnown decls) items
+    are_kept : All (KeptItem after) items
+    are_named : (f : List ℕ) → NamedIn items f → NamedIn after f
+
+  found : (before items : List Item) (ns : List FlatNode) → Splits (reverse after) before items → AreKnown items ns → OneLacksMachines after types seen items ns → Lacking
+  found before items ns e h (none_left {items = rest} node) = absurd h.are_made
+  found before items ns e h (here {items = rest} {ns = others} node n lacks) = record {
+    node = node;
+    plant = n;
+    earlier = before;
+    stands = (reverse rest, split_next (reverse after) before rest (NodeItem node) e);
+    named = λ some. h.are_named node.name (inl (refl, some));
+    made = h.are_made.0;
+    flat = h.are_flat.0;
+    regular = h.are_regular.0;
+    known = h.are_known.0;
+    kept = All-head (KeptItem after) (NodeItem node) rest h.are_kept;
+    lacks = lacks;
+  }
+  found before items ns e h (behind_a_node {items = rest} {ns = others} node n lacks) =
+      found (NodeItem node ∷ before) rest others (split_next (reverse after) before rest (NodeItem node) e)
+      (record {
+        are_made = h.are_made.1;
+        are_flat = h.are_flat.1;
+        are_regular = h.are_regular.1;
+        are_known = h.are_known.1;
+        are_kept = All-tail (KeptItem after) (NodeItem node) rest h.are_kept;
+        are_named = λ f there. h.are_named f (inr there);
+      }) lacks
+  found before items ns e h (behind_a_type {items = rest} {ns = others} t lacks) =
+      found (TypeItem t ∷ before) rest ns (split_next (reverse after) before rest (TypeItem t) e)
+      (record {
+        are_made = h.are_made;
+        are_flat = h.are_flat;
+        are_regular = h.are_regular;
+        are_known = h.are_known;
+        are_kept = All-tail (KeptItem after) (TypeItem t) rest h.are_kept;
+        are_named = h.are_named;
+      }) lacks
+
+  module _ (laws : RemainingLaws) (program : List Item) (ranks : List (List ℕ)) (order : IsInOrder program after ranks) (counts : All HasConstructors types) (many : length decls ≤ 1000) (are : (x : List ℕ) → places x ≡ numbered 0 (map (λ (d : TypeDecl). d.name) decls) x)
+      (same : types_of after ≡ decls) (seen_are : AreObserved after seen) (l : Lacking) where
+    abbrev Left : Type 0
+    Left = Hinders after types seen l.node l.plant
+
+    short : length l.node.name ≤ 255
+    short = let known = l.known in known.is_short
+
+    -- its contract has an observer
+    observer : IsTrue (is_some l.node.contract) → (own : Observed) × (seen l.plant.name ≡ Some own)
+    observer some =
+        let equations = seen_are.equations in
+        let made = l.made in
+        let own = has_observer (known_of (lowered_program (observers after))) (enumerations [] (observers after)) l.node.name after seen_are.nodes equations.made (l.named some) [] in
+        (own.0, ap seen made.name ∙ ap (λ (os : Observing). os l.node.name) seen_are.are ∙ own.1)
+
+    lower : controls_of (option_map (lowered_contract enums (lowering.types_of l.node)) l.node.contract) ≡ controls_of l.node.contract
+    lower = controls_low enums (lowering.types_of l.node) l.node.contract
+
+    signed : IsSigned places l.node l.plant
+    signed =
+        let flat = l.flat in
+        let own = flat.signed in
+        record {
+          name = own.name;
+          inputs = own.inputs ∙ ap (λ cs. length (l.node.inputs ++ cs)) lower;
+          first = own.first ∙ ap (λ cs. variables_of places (l.node.inputs ++ cs)) lower;
+          outputs = own.outputs;
+        }
+
+    -- the machine has the bits of controllable variables
+    widths : (a : Abstraction) → IsAbstractionOf after l.node a → a.machine.widths ≡ widths_at decls (controls_among (control_row l.node))
+    widths a is =
+        let mirror = laws.mirrors program after ranks order l.earlier l.node l.stands is.drawn a.machine is.is_drawn is.is_machine in
+        mirror.widths ∙ ap₂ (λ ds ps. widths_at ds ps) same (controls-are after l.node)
+
+    all_suits : (a : Abstraction) → IsAbstractionOf after l.node a → (own : Observed) → seen l.plant.name ≡ Some own → SeesAll types seen l.node l.plant a own → Suits types seen l.node l.plant a
+    all_suits a is own has all =
+        let made = l.made in
+        let known = l.known in
+        let firsts = known.firsts in
+        let reads = node_reads program after ranks order l.earlier l.node l.stands in
+        let controls = node_controls decls counts many places are l.node l.plant signed reads.controls firsts.controls (below Controls self) in
+        suits types seen l.node l.plant a own (made.inputs ∙ ap (λ cs. length l.node.inputs + length cs) lower)
+        (subst (λ ws. (cs : List Control) × AreControls types (drop (length l.node.inputs) l.plant.variables) ws cs × (length ws ≡ length (controls_of l.node.contract))) (sym (widths a is)) controls)
+        (sym (laws.count (λ f. map (λ (d : Decl). d.name) (outputs_of (k.nodes f))) k enums l.node l.plant.eqns (λ f. refl) made.eqns)) has all
+
+    chooses_not : (a : Abstraction) → IsTrue (is_some l.node.contract) → IsAbstractionOf after l.node a → ChoosesNot types seen l.node l.plant a → Left
+    chooses_not a some is (ChoosesNot.long_name long) = absurd (omega (arith, long, short))
+    chooses_not a some is (ChoosesNot.unsuited none) = let own = observer some in unseen a own.0 some is own.1 (λ all. none (all_suits a is own.0 own.1 all))
+    chooses_not a some is (ChoosesNot.circular s circle) = circular a some is s circle
+
+    no_nodes : IsTrue (is_some l.node.contract) → IsKept after l.node → LacksNodes after types seen l.node l.plant → Left
+    no_nodes some kept (LacksNodes.refused e why k) = absurd (not_refused after l.node kept.machine kept.is_machine e k why)
+    no_nodes some kept (LacksNodes.forced a is lose) =
+        let lost = lose.1 in
+        absurd (safe_on_each laws.safe program after ranks order l.earlier l.node l.stands kept.machine a.machine kept.is_machine is.machine kept.safe (length lose.0) lost.init)
+    no_nodes some kept (LacksNodes.long_machine a is long) =
+        let machine = is.machine in
+        let same_name = ap (λ (x : List ℕ). length x) machine.named in
+        absurd (omega (arith, long, same_name, short))
+    no_nodes some kept (LacksNodes.chooses_not a is none) = chooses_not a some is none
+
+    no_nodes_if : (o : Option Contract) → l.node.contract ≡ o → LacksNodes after types seen l.node l.plant → Left
+    no_nodes_if None e lacks = uncontracted e lacks
+    no_nodes_if (Some c) e lacks =
+        let some : IsTrue (is_some l.node.contract) = subst (λ o. IsTrue (is_some o)) (sym e) refl in
+        no_nodes some (l.kept some) lacks
+
+    no_machines : LacksMachines after types seen l.node l.plant → Left
+    no_machines (LacksMachines.lacks_nodes lacks) = no_nodes_if l.node.contract refl lacks
+    no_machines (LacksMachines.irregular these nodes_are none) = by these nodes_are none
+      where
+        by : (these : List FlatNode) → AreNodesOf after types seen l.node l.plant these → (AllByRecursion (EqnsRegular types) these → ⊥) → Left
+        by these (without_contract e) none = absurd (none (l.regular, tt))
+        by these (with_contract controller own told some are) none = irregular controller own told some are none
+
+    hindered : IsHindered after types seen
+    hindered = record { node = l.node; plant = l.plant; earlier = l.earlier; stands = l.stands; hinders = no_machines l.lacks }
+
+-- ---- programs
+
+-- What is known of the program of a text.
+record IsBuildable (program after : List Item) (ranks : List (List ℕ)) : Type 0 where
+  arranged : IsArranged program after
+  order : IsInOrder program after ranks
+  known : EachNode (IsKnown (types_of after)) after
+  kept : AreKept after after
+  calls : ContractsCallNothing after
+  observable : EachNode IsObservable after
+
+module _ (laws : RemainingLaws) (program after : List Item) (ranks : List (List ℕ)) (b : IsBuildable program after ranks) where
+  abbrev low : List Item
+  low = lowered_program after
+
+  tested : AreTested (types_of after) (reverse low)
+  tested =
+      let q = b.arranged in
+      let c = (compilable_law program after q.ready q.removable q.form).1 in
+      subst (λ ts. AreTested ts (reverse low)) (types_low (enumerations [] after) after) c.tested
+
+  all_regular : (fs : List FlatNode) → AreMadeOf (known_of low) low fs → AllByRecursion (EqnsRegular (obc_types_of after)) fs
+  all_regular fs made =
+      let q = b.arranged in
+      let form = q.form in
+      laws.regular program after q.ready q.removable (some_of (types_of program) form.counts) (number_of (types_of program) form.number) tested q.short fs made
+
+  not_circular : HasCircularEquations after → ⊥
+  not_circular circle =
+      let q = b.arranged in
+      let order = b.order in
+      let c = compilable_law program after q.ready q.removable q.form in
+      no_circle laws.no_circle program low c.0 c.1 (laws.ranks after q.removable (laws.all_ranks after ranks order.ordered)) circle
+
+  not_circular_contracts : HasCircularEquations (observers after) → ⊥
+  not_circular_contracts circle =
+      let q = b.arranged in
+      let order = b.order in
+      let c = observers_in_order laws.ranks program after ranks order q.removable q.form q.short b.calls b.observable (laws.all_ranks after ranks order.ordered) in
+      no_circle laws.no_circle program (lowered_program (observers after)) c.0.0 c.0.1 c.1 circle
+
+  fit : (ns : List FlatNode) → AreEquationsOf (observers after) ns → FitContracts (contracts_of after) ns
+  fit ns equations =
+      let seen = lowered_program (observers after) in
+      contracts_fit laws.count (λ f. map (λ (d : Decl). d.name) (outputs_of ((known_of seen).nodes f))) (known_of seen) (enumerations [] (observers after)) (λ f. refl) after ns equations.made
+
+  left : HasNoChosenMachines after → Remaining after
+  left (HasNoChosenMachines.not_compiled (LacksCompiled.circular_nodes circle)) = absurd (not_circular circle)
+  left (HasNoChosenMachines.not_compiled (LacksCompiled.no_observers (LacksObservers.circular_contracts circle))) = absurd (not_circular_contracts circle)
+  left (HasNoChosenMachines.not_compiled (LacksCompiled.no_observers (LacksObservers.unfitting ns equations none))) = absurd (none (fit ns equations))
+  left (HasNoChosenMachines.not_compiled (LacksCompiled.one_lacks plants seen equations are lacks)) =
+      let q = b.arranged in
+      let c = compilable_law program after q.ready q.removable q.form in
+      let form : TypesForm (obc_types (types_of after)) = subst (λ ts. TypesForm (obc_types ts)) (sym (sym (types_low (enumerations [] after) after) ∙ c.0.same)) q.form in
+      let number = form.number in
+      let long = length-map (types_of after) obc_type_of in
+      let l =
+      found after (known_of low) (enumerations [] after) (places_of low) (types_of after) seen [] after plants (split_first after)
+      (record { are_made = equations.made; are_flat = equations.flat; are_regular = all_regular plants equations.made; are_known = b.known; are_kept = b.kept; are_named = λ f h. h }) lacks in
+      one_hindered plants seen equations are
+      (hindered after (known_of low) (enumerations [] after) (places_of low) (types_of after) seen laws program ranks b.order form.counts (omega (arith, number, long))
+      (λ x. ap (λ names. numbered 0 names x) (names_of_types low ∙ ap (λ ds. map (λ (d : TypeDecl). d.name) ds) (types_low (enumerations [] after) after))) refl are l)
+  left (HasNoChosenMachines.formless ms are none) = formless ms are none
+
+pub remaining_law : RemainingLaws → RemainingLaw
+remaining_law laws text tokens program after ranks a p named typed defined formed initialised clocks fall kept none =
+    let q = when_accepted text tokens program after a p named typed defined formed initialised clocks in
+    let form = q.form in
+    let short = short_written (replaced program) after clocks (short_replaced no_node program (source_short program (laws.names text tokens program a p))) in
+    let firsts = ready_firsts program after q.ready (some_of (types_of program) form.counts) in
+    let order = laws.order text tokens program after ranks a p named typed defined formed initialised clocks fall in
+    let b : IsBuildable program after ranks = record {
+      arranged = q;
+      order = order;
+      known = all_known (types_of after) after short firsts;
+      kept = kept;
+      calls = laws.contracts program after q.ready order.conditions;
+      observable = laws.observable text tokens program after a p clocks;
+    } in
+    left laws program after ranks b none

@@ -1,0 +1,66 @@
+-- What may be in the way of the machines of a program whose nodes choose, where its contracts are kept. Of no program has any of it been seen.
+-- Source: own.
+use Rattle.std.specs.Prelude.{◌≡◌, ℕ, List, [], ◌∷◌, length, map, None, Some, IsTrue, is_some}
+use Rattle.std.specs.List.{AllByRecursion}
+use Rattle.hp_lexer.specs.Lexing.{AreTokensOf}
+use Rattle.hp_lexer.specs.declared.token.Token.{Token}
+use Rattle.hp_parser.specs.Lexemes.{lexemes}
+use Rattle.hp_parser.specs.Programs.{IsProgram}
+use Rattle.hp_obc.specs.Form.{HasObcForm}
+use Rattle.hp_obc.specs.Machines.{Machine, ObcType}
+use Rattle.hp_tree.specs.Programs.{Node}
+use Rattle.hp_tree.specs.declared.program.Item.{Item}
+use Rattle.hp_meaning.specs.Causal.RanksOfPoints.{AllFall}
+use Rattle.hp_names.specs.Rules.{WellNamed}
+use Rattle.hp_typing.specs.Rules.{WellTyped}
+use Rattle.hp_typing.specs.DefinitionRules.{WellDefined}
+use Rattle.hp_init.specs.Initialised.{IsInitialised}
+use Rattle.hp_clocks.specs.Writing.{AreWritten}
+use Rattle.hp_clocks.specs.Answers.{IsClocked}
+use Rattle.hp_expand.specs.Refusals.{IsFormed}
+use Rattle.hp_expand.specs.Numbering.{replaced}
+use Rattle.hp_flat.specs.Nodes.{FlatNode}
+use Rattle.hp_form.specs.Regular.Regular.{EqnsRegular}
+use Rattle.law_equations.specs.Made.Types.{obc_types_of}
+use Rattle.hp_circuit.specs.declared.given.Given.{Given}
+use Rattle.hp_abstract.specs.declared.abstracted.Abstraction.{Abstraction}
+use Rattle.hp_abstract.specs.Abstractions.{IsAbstractionOf}
+use Rattle.hp_watch.specs.Watching.{Observed, Observing, surveyed, walked, watched_by}
+use Rattle.hp_verdicts.specs.Decided.{AreKept}
+use Rattle.law_games.specs.ReadyGames.Laws.{Stands}
+use Rattle.hp_controlled.specs.Choosing.{AreOfContract, Suits, telling}
+use Rattle.hp_controlled.specs.Compiled.{AreCompiled, AreEquationsOf, AreObserved}
+use Rattle.hp_controlled.specs.Lacking.{HasCircularEqns, HasNoChosenMachines, LacksNodes}
+
+-- As many places and bits are seen of a node that has this observer as its machine is told of.
+pub record SeesAll (types : List ObcType) (observers : Observing) (node : Node) (n : FlatNode) (a : Abstraction) (own : Observed) : Type 0 where
+  pub places : length (surveyed observers own (length node.inputs) (walked node n) n).free ≡ length a.given.items
+  pub early : length (watched_by types (map (λ (g : Given). g.is_early) a.given.items) (surveyed observers own (length node.inputs) (walked node n) n)).early ≡ a.machine.early
+  pub late : length (watched_by types (map (λ (g : Given). g.is_early) a.given.items) (surveyed observers own (length node.inputs) (walked node n) n)).late ≡ a.machine.late
+
+-- Of a node with a contract, of which these are the clocked equations: not as many places or bits are seen of it as its machine is told of; or equations of the node that chooses read each other in a circle; or equations of its controller, or of what is made of the node that chooses, are not regular. A node without a contract is looked at by no controller, but of it too the compiler's clause lets the cause be said.
+pub data Hinders (program : List Item) (types : List ObcType) (observers : Observing) (node : Node) (n : FlatNode) : Type 0 where
+  unseen : (a : Abstraction) (own : Observed) → IsTrue (is_some node.contract) → IsAbstractionOf program node a → observers n.name ≡ Some own → (SeesAll types observers node n a own → ⊥) → Hinders program types observers node n
+  circular : (a : Abstraction) → IsTrue (is_some node.contract) → IsAbstractionOf program node a → (s : Suits types observers node n a) → HasCircularEqns (telling node.name s.watched a s.controls).node → Hinders program types observers node n
+  irregular : (controller own told : FlatNode) → IsTrue (is_some node.contract) → AreOfContract program types observers node n controller own told → (AllByRecursion (EqnsRegular types) (controller ∷ own ∷ told ∷ []) → ⊥) → Hinders program types observers node n
+  uncontracted : node.contract ≡ None → LacksNodes program types observers node n → Hinders program types observers node n
+
+-- A node of the program, of which these are the clocked equations, where something is in the way.
+pub record IsHindered (program : List Item) (types : List ObcType) (observers : Observing) : Type 0 where
+  pub node : Node
+  pub plant : FlatNode
+  pub earlier : List Item
+  pub stands : Stands program earlier node
+  pub hinders : Hinders program types observers node plant
+
+-- Something is in the way of one node, or machines have no form.
+pub data Remaining (program : List Item) : Type 0 where
+  one_hindered : (plants : List FlatNode) (observers : Observing) → AreEquationsOf program plants → AreObserved program observers → IsHindered program (obc_types_of program) observers → Remaining program
+  formless : (machines : List Machine) → AreCompiled program (obc_types_of program) machines → (HasObcForm (obc_types_of program) machines → ⊥) → Remaining program
+
+-- Nothing else is in the way of the machines of the program of a text that the judgements accept, whose points have ranks and whose contracts are kept.
+abbrev pub RemainingLaw : Type 0
+RemainingLaw =
+    (text : List ℕ) (tokens : List Token) (program after : List Item) (ranks : List (List ℕ)) → AreTokensOf text tokens → IsProgram (lexemes text tokens) program
+    → WellNamed program → WellTyped program → WellDefined program → IsFormed program → IsInitialised (replaced program) → AreWritten IsClocked (replaced program) after → AllFall after ranks
+    → AreKept after after → HasNoChosenMachines after → Remaining after
