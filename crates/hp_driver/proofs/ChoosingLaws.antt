@@ -19,9 +19,8 @@ use Rattle.law_decided.specs.Outcomes.{AreKeptInGames}
 use Rattle.hp_driver.specs.Command.{IsSummary, not_built_line, no_node_line}
 use Rattle.hp_driver.specs.Diagnostics.{executor_line}
 use Rattle.hp_driver.specs.Executing.{executing}
-use Rattle.hp_driver.specs.Follows.{Accepts, ChoosingCompile, ChoosingRun, ChoosingTell, ChosenOutcome, NodeRun, NodeTold, RefusedChosen, SweepOutcome}
+use Rattle.hp_driver.specs.Follows.{Accepts, ChoosingRun, ChoosingTell, ChosenOutcome, NodeRun, NodeTold, RefusedChosen, SweepOutcome}
 use Rattle.hp_driver.specs.Leaves.{Leaves}
-use Rattle.hp_driver.specs.Leaving.{ChoosingLeaves, WritesMachines}
 use Rattle.hp_driver.specs.Outcome.{Outcome, IsHeld, AreChosen, AsksToChoose, AsksToRun, IsAskedFor}
 use Rattle.hp_driver.specs.Ran.{Ran}
 use Rattle.hp_driver.specs.Systems.{System, of_machine, that_tells}
@@ -140,30 +139,6 @@ module _ (node : List ℕ) (ordered : List Item) where
 
       pub choosing_told : NodeTold o n node log line status → ChoosingTell node ordered log line status
       choosing_told f words files file program held e kept w = f words files file (chosen_of files file program held e kept) (ap (λ z. node_among z node) e ∙ named) w
-
--- ---- machines are written
-
-module _ (out : List ℕ) (ordered : List Item) where
-  pub compile_failed : (line : List ℕ) (b : ℕ) (rest : List ℕ) (status : ℕ) → ChoosingCompile out ordered (line ++ b ∷ rest) status → ChoosingCompile out ordered line 5
-  compile_failed line b rest status f words files file program held e some kept w = Outcome.line_failed line b rest (f words files file program held e some kept w)
-
-  pub compile_memory : ChoosingCompile out ordered [] 6
-  compile_memory words files file program held e some kept w = Outcome.no_memory
-
-  pub compile_not_built : ChoosingCompile out ordered not_built_line 1
-  compile_not_built words files file program held e some kept w = Outcome.not_built (AsksToChoose.to_compile w some) held kept
-
-  module _ (law : GreatestSaidLaw) (o : Obc) (machines : AreControlledMachines ordered o) where
-    pub compiled : (status : ℕ) → (status ≡ 0) ⊎ (status ≡ 5) ⊎ (status ≡ 6) → ChoosingCompile out ordered [] status
-    compiled status (inl h) words files file program held e some kept w = subst (Outcome words files [] []) (sym h) (Outcome.chosen_compiled w (chosen_of out ordered law o machines files file program held e kept) some)
-    compiled status (inr (inl h)) words files file program held e some kept w = subst (Outcome words files [] []) (sym h) (Outcome.chosen_not_written w (chosen_of out ordered law o machines files file program held e kept) some)
-    compiled status (inr (inr h)) words files file program held e some kept w = subst (Outcome words files [] []) (sym h) Outcome.no_memory
-
-    pub compiled_leaves : (before after : Option Files) (status : ℕ) → WritesMachines o out before after status → ChoosingLeaves out ordered before after status
-    compiled_leaves before after status (WritesMachines.nothing same) words file program held e some kept w = Leaves.as_they_were same (λ y v h. omega (arith, h))
-    compiled_leaves before after status (WritesMachines.whole printed all) words file program held e some kept w = Leaves.chosen_written w (chosen_of out ordered law o machines before file program held e kept) some printed all
-    compiled_leaves before after status (WritesMachines.part why printed others this) words file program held e some kept w =
-        Leaves.chosen_in_part why w (chosen_of out ordered law o machines before file program held e kept) some printed others this
 
 -- ---- a sweep
 

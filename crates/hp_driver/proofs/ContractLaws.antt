@@ -18,17 +18,16 @@ use Rattle.law_decided.specs.Outcomes.{OutcomesLaw, AreKeptInGames}
 use Rattle.hp_verdicts.specs.Decided.{own_contract, has_contract, AreKept, Refuses}
 use Rattle.hp_verdicts.specs.declared.error.ContractErr.{ContractErr}
 use Rattle.hp_verdicts.specs.declared.error.ContractErr.TheVariants as contract
-use Rattle.hp_driver.specs.Controls.{some_variable, has_controls}
+use Rattle.hp_library.specs.Controls.{some_variable, has_controls}
 use Rattle.hp_driver.specs.Command.{accepted_text}
 use Rattle.hp_driver.specs.Diagnostics.{contract_line}
-use Rattle.hp_driver.specs.Follows.{DecidedOutcome, OrderedRun, OrderedCompile, ChoosingRun, ChoosingTell, ChoosingCompile, Accepts}
-use Rattle.hp_driver.specs.Leaving.{DecidedLeaves, OrderedLeaves, ChoosingLeaves}
+use Rattle.hp_driver.specs.Follows.{DecidedOutcome, OrderedRun, ChoosingRun, ChoosingTell, Accepts}
 use Rattle.hp_driver.specs.Outcome.{Outcome, IsHeld}
 use Rattle.hp_driver.specs.Ran.{ReportsOrNot}
 use Rattle.hp_driver.specs.declared.words.Task.{Task}
 use Rattle.hp_driver.specs.declared.words.Task.TheVariants.{Run, Tell, Check, Compile}
 use Rattle.hp_driver.proofs.GameLaws.{are_said}
-use Rattle.hp_driver.proofs.HistoryLaws.{none_or}
+use Rattle.hp_library.proofs.AcceptedLaws.{none_or}
 use Rattle.hp_driver.proofs.OutcomeLaws.{over_source, told_or_not}
 
 -- ---- programs without contracts
@@ -64,7 +63,7 @@ uncontrolled_plain (NodeItem n ∷ items) none =
     none_both (some_variable (controls_of n.contract)) (has_controls items) (ap (λ (c : Option Contract). some_variable (controls_of c)) (is_none n.contract parts.0)) (uncontrolled_plain items parts.1)
 
 -- a program has a contract, where one is refused once it is arranged
-has_one : (files : Option Files) (file : List ℕ) (program : List Item) (held : IsHeld files file program) → (has_contract held.clocked ≡ false → ⊥) → has_contract program ≡ true
+pub has_one : (files : Option Files) (file : List ℕ) (program : List Item) (held : IsHeld files file program) → (has_contract held.clocked ≡ false → ⊥) → has_contract program ≡ true
 has_one files file program held some = by (has_contract program) refl
   where
     by : (b : Bool) → has_contract program ≡ b → has_contract program ≡ true
@@ -126,24 +125,12 @@ module _ (law : OutcomesLaw) (program ordered : List Item) (kept : AreKept order
   pub choosing_tell : (node : Bor (List ℕ)) (log : List Event) (line : List ℕ) (status : ℕ) → ChoosingTell node.now ordered log line status → DecidedOutcome (Tell node) program ordered log line status
   choosing_tell node log line status f words files file held same w = f words files file program held same (in_games files file held same) w
 
-  -- it has controllable variables, and is to be run, or its machines are to be written
+  -- it has controllable variables, and is to be run
   module _ (some : has_controls program ≡ true) where
     pub choosing_run : (node : Bor (List ℕ)) (log : List Event) (line : List ℕ) (status : ℕ) → ChoosingRun node.now ordered log line status → DecidedOutcome (Run node) program ordered log line status
     choosing_run node log line status f words files file held same w = f words files file program held same some (in_games files file held same) w
-
-    pub choosing_compile : (out : Bor (List ℕ)) (line : List ℕ) (status : ℕ) → ChoosingCompile out.now ordered line status → DecidedOutcome (Compile out) program ordered [] line status
-    choosing_compile out line status f words files file held same w = f words files file program held same some (in_games files file held same) w
-
-    pub choosing_leaves : (out : List ℕ) (before after : Option Files) (status : ℕ) → ChoosingLeaves out ordered before after status → DecidedLeaves out program ordered before after status
-    choosing_leaves out before after status f words file held same w = f words file program held same some (in_games before file held same) w
 
   -- it has none
   module _ (none : has_controls program ≡ false) where
     pub ordered_run : (node : Bor (List ℕ)) (log : List Event) (line : List ℕ) (status : ℕ) → OrderedRun node.now ordered log line status → DecidedOutcome (Run node) program ordered log line status
     ordered_run node log line status f words files file held same w = f words files file program held same none (in_games files file held same) w
-
-    pub ordered_compile : (out : Bor (List ℕ)) (line : List ℕ) (status : ℕ) → OrderedCompile out.now ordered line status → DecidedOutcome (Compile out) program ordered [] line status
-    ordered_compile out line status f words files file held same w = f words files file program held same none (in_games files file held same) w
-
-    pub ordered_leaves : (out : List ℕ) (before after : Option Files) (status : ℕ) → OrderedLeaves out ordered before after status → DecidedLeaves out program ordered before after status
-    ordered_leaves out before after status f words file held same w = f words file program held same none (in_games before file held same) w

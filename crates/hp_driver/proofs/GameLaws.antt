@@ -8,7 +8,7 @@ use Rattle.hp_obc.specs.Machines.{Obc}
 use Rattle.hp_controlled.specs.Chosen.{AreControlledMachines}
 use Rattle.law_controlled.specs.Greatest.{AllSayGreatest}
 use Rattle.law_controlled.specs.Said.{GreatestSaidLaw}
-use Rattle.law_decided.specs.Laws.{IsAcceptedText}
+use Rattle.hp_library.proofs.AcceptedLaws.{accepted_by}
 use Rattle.law_decided.specs.Mirrored.{MachinesLaw}
 use Rattle.law_decided.specs.Outcomes.{AreSaid, OutcomesLaw}
 use Rattle.hp_compile.proofs.FormLaws.{formed}
@@ -21,20 +21,6 @@ use Rattle.hp_verdicts.specs.declared.error.ContractErr.TheVariants as contract
 use Rattle.hp_driver.specs.Follows.{IsArrangedText, IsNodeOfText}
 use Rattle.hp_driver.specs.Mirrored.{MirrorLaw}
 use Rattle.hp_driver.specs.Outcome.{IsHeld}
-
-accepted_by : (text : List ℕ) (program clocked : List Item) (ranks : List (List ℕ)) (judged : IsJudged text program) → IsArranged program clocked ranks → IsAcceptedText text judged.program_of.tokens program clocked ranks
-accepted_by text program clocked ranks judged arranged =
-    record {
-      spelled = judged.program_of.spelled;
-      read = judged.program_of.read;
-      named = judged.named;
-      typed = judged.typed;
-      defined = judged.defined;
-      formed = formed text program judged arranged.well_formed;
-      initialised = arranged.initialised;
-      clocks = arranged.clocks;
-      fall = arranged.ordered;
-    }
 
 pub are_said : OutcomesLaw → (files : Option Files) (file : List ℕ) (program : List Item) (held : IsHeld files file program) → AreSaid held.clocked
 are_said law files file program held = law held.text held.judged.program_of.tokens program held.clocked held.ranks (accepted_by held.text program held.clocked held.ranks held.judged held.arranged)

@@ -15,20 +15,17 @@ use Rattle.hp_obc.specs.Kinded.{kinds_in}
 use Rattle.hp_obc.specs.Machines.{Machine, Obc}
 use Rattle.hp_obc.specs.Steps.{machine_behaviour, run}
 use Rattle.hp_tree.specs.Reaction.{IsRun}
-use Rattle.hp_compile.proofs.FormLaws.{formed}
 use Rattle.hp_compile.specs.Arranged.{IsArranged}
 use Rattle.hp_compile.specs.Judged.{IsJudged}
-use Rattle.hp_meaning.specs.Causal.Runs.{NoControls}
 use Rattle.law_wellmade.specs.Timely.Kinds.{kinds_of_decls}
 use Rattle.law_history.specs.Streams.Texts.{IsAccepted, RunsNode, TextLaw, BuiltLaw, WithinLaw}
 use Rattle.hp_machines.specs.Machined.{AreMachinesOf}
-use Rattle.hp_machines.specs.NotBuilt.{HasNoMachines}
 use Rattle.law_decided.specs.Outcomes.{AreKeptInGames}
 use Rattle.law_decided.specs.Promised.{KeepsContracts, RunLaw}
 use Rattle.hp_exec.specs.Bounds.{longest_chain, instance_count}
 use Rattle.hp_driver.specs.Answers.{IsAnswer}
-use Rattle.hp_driver.specs.Controls.{some_variable, has_controls}
-use Rattle.hp_driver.specs.Follows.{IsPlainText}
+use Rattle.hp_library.proofs.AcceptedLaws.{accepted_plain}
+use Rattle.hp_library.specs.Controls.{has_controls}
 use Rattle.hp_driver.specs.Outcome.{IsHeld, AreCompiled}
 use Rattle.hp_driver.specs.Systems.{of_node, of_machine, inputs_of, outputs_of, Gives}
 use Rattle.hp_driver.specs.Trace.{Machine as Reacting, said_to}
@@ -38,45 +35,11 @@ use Rattle.hp_driver.proofs.SpellingLaws.{AllOfKinds, all_of_kinds}
 
 -- ---- no controllable variables
 
-pub none_or : (b c : Bool) → (b || c) ≡ false → (b ≡ false) × (c ≡ false)
-none_or false c e = (refl, e)
-none_or true c e = absurd cc
-
-is_empty : (ds : List Decl) → some_variable ds ≡ false → ds ≡ []
-is_empty [] e = refl
-is_empty (d ∷ ds) e = absurd cc
-
-no_controls : (items : List Item) → has_controls items ≡ false → NoControls items
-no_controls [] e = tt
-no_controls (TypeItem t ∷ items) e = no_controls items e
-no_controls (NodeItem n ∷ items) e =
-    let none = none_or (some_variable (controls_of n.contract)) (has_controls items) e in (is_empty (controls_of n.contract) none.0, no_controls items none.1)
-
--- the program of a text is accepted
-accepted_plain : (text : List ℕ) (program clocked : List Item) (ranks : List (List ℕ)) (judged : IsJudged text program) → IsArranged program clocked ranks → has_controls program ≡ false → IsAccepted text judged.program_of.tokens program clocked ranks
-accepted_plain text program clocked ranks judged arranged none =
-    record {
-      spelled = judged.program_of.spelled;
-      read = judged.program_of.read;
-      named = judged.named;
-      typed = judged.typed;
-      defined = judged.defined;
-      formed = formed text program judged arranged.well_formed;
-      initialised = arranged.initialised;
-      clocks = arranged.clocks;
-      fall = arranged.ordered;
-      uncontrolled = no_controls program none;
-    }
-
--- so is the one that a file holds
+-- the program that a file holds is accepted
 pub accepted_program : (files : Option Files) (file : List ℕ) (program : List Item) (held : IsHeld files file program) → has_controls program ≡ false → IsAccepted held.text held.judged.program_of.tokens program held.clocked held.ranks
 accepted_program files file program held none = accepted_plain held.text program held.clocked held.ranks held.judged held.arranged none
 
--- nothing is in the way of its machines
-pub is_built : BuiltLaw → (ordered : List Item) → IsPlainText ordered → HasNoMachines ordered → ⊥
-is_built law ordered t none = let text = t.1 in law text.0 text.2.program_of.tokens t.0 ordered text.1 (accepted_plain text.0 t.0 ordered text.1 text.2 text.3 t.2) none
-
--- and they are within the limits of what is executed
+-- its machines are within the limits of what is executed
 pub stays_within : WithinLaw → (files : Option Files) (file : List ℕ) (o : Obc) (compiled : AreCompiled files file o) → (node : List ℕ) → (longest_chain o.machines node ≤ 70) × (instance_count o.machines node ≤ 250000)
 stays_within law files file o compiled node =
     let held = compiled.held in

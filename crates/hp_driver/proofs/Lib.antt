@@ -3,6 +3,7 @@ pub mod CallLaws
 pub mod TellLaws
 pub mod Shown
 pub mod ChoosingLaws
+pub mod CompileLaws
 pub mod WordLaws
 pub mod LineLaws
 pub mod TraceLaws
@@ -15,7 +16,6 @@ pub mod ExecutionLaws
 pub mod HistoryLaws
 pub mod GameLaws
 pub mod WrittenLaws
-pub mod NamedLaws
 pub mod MachineLaws
 pub mod PastLaws
 pub mod ReadingLaws

@@ -27,14 +27,14 @@ use Rattle.hp_tree.specs.declared.program.Item.{Item}
 use Rattle.law_history.specs.Streams.Texts.{TextLaw, WithinLaw}
 use Rattle.law_decided.specs.Promised.{RunLaw}
 use Rattle.law_decided.specs.Outcomes.{AreKeptInGames}
-use Rattle.hp_driver.specs.Controls.{has_controls}
+use Rattle.hp_library.specs.Controls.{has_controls}
 use Rattle.hp_driver.specs.Command.{IsRunOf, IsPastOf, IsExecOf, IsCheckOf, IsProveOf, IsVerifyOf, IsOverSource, IsOverContract, ReadsSource, IsOver, Writes, no_node_line, IsNoFileCommand, IsTellOf, IsSweepOf}
 use Rattle.hp_driver.specs.Commanded.{SpellsTask}
 use Rattle.hp_driver.specs.Diagnostics.{no_text_line, no_form_line, limit_line, executor_line}
 use Rattle.hp_driver.specs.Executing.{executing}
-use Rattle.hp_driver.specs.Follows.{ExecOf, MachinesOutcome, OrderedRun, OrderedCompile, RefusedText, RefusedMachine}
+use Rattle.hp_driver.specs.Follows.{ExecOf, MachinesOutcome, OrderedRun, RefusedText, RefusedMachine}
 use Rattle.hp_driver.specs.Leaves.{Leaves, IsPrinted, ReadRose, WriteRose}
-use Rattle.hp_driver.specs.Leaving.{WritesText, WritesMachines, OrderedLeaves, RoseInWrite}
+use Rattle.hp_driver.specs.Leaving.{WritesText, WritesMachines, RoseInWrite}
 use Rattle.hp_driver.specs.Outcome.{Outcome, Gives, GivesMoreThan, IsHeld, AreCompiled, AreWritten, AreAskedFor, IsMachine, IsAskedFor, LacksNode}
 use Rattle.hp_driver.specs.Ran.{Ran, Reports, ReportsOrNot}
 use Rattle.hp_driver.specs.Systems.{of_node, of_machine}
@@ -42,7 +42,7 @@ use Rattle.hp_driver.specs.declared.words.Task.{Task}
 use Rattle.hp_driver.specs.declared.words.Task.TheVariants.{Run, Tell, Check, Compile}
 use Rattle.hp_compile.specs.declared.refusal.Place.TheVariants.{Whole}
 use Rattle.hp_driver.proofs.ExecutionLaws.{machine_says, machine_refuses}
-use Rattle.hp_driver.proofs.NamedLaws.{no_node_named}
+use Rattle.hp_library.proofs.NamedLaws.{no_node_named}
 use Rattle.hp_driver.proofs.OutcomeLaws.{told_or_not, Mirrors, outcome}
 use Rattle.hp_driver.proofs.WordLaws.{run_writes, exec_writes, check_writes, verify_writes, tell_writes, sweep_writes}
 use Rattle.hp_driver.proofs.HistoryLaws.{keeping, runs_node, stays_within, node_mirrors}
@@ -146,32 +146,9 @@ module _ (law : TextLaw) (run_law : RunLaw) (ordered : List Item) (o : Obc) (m :
   pub of_program : (node : List ℕ) (log : List Event) (line : List ℕ) (status : ℕ) → MachinesOutcome o node log line status → OrderedRun node ordered log line status
   of_program node log line status f words files file program held e none kept w = f words files (AreAskedFor.of_program w (compiled_of files file program held e none kept))
 
--- they are written, alone or among those of contracts
-module _ (law : TextLaw) (run_law : RunLaw) (ordered : List Item) (o own : Obc) (m : AreMachinesOf ordered own) (others : (o ≡ own) ⊎ AreWithContracts ordered own o) where
-  abbrev written_of : (files : Option Files) (file : List ℕ) (program : List Item) (held : IsHeld files file program) → held.clocked ≡ ordered → has_controls program ≡ false → AreKeptInGames held.clocked → AreWritten files file o
-  written_of files file program held e none kept = record {
-    own = own;
-    compiled = compiled_of law run_law ordered own m files file program held e none kept;
-    others = subst (λ (z : List Item). (o ≡ own) ⊎ AreWithContracts z own o) (sym e) others;
-  }
-
-  pub written : (out : List ℕ) (status : ℕ) → (status ≡ 0) ⊎ (status ≡ 5) ⊎ (status ≡ 6) → OrderedCompile out ordered [] status
-  written out status (inl h) words files file program held e none kept w = subst (Outcome words files [] []) (sym h) (Outcome.compiled w (written_of files file program held e none kept))
-  written out status (inr (inl h)) words files file program held e none kept w = subst (Outcome words files [] []) (sym h) (Outcome.not_written w (written_of files file program held e none kept))
-  written out status (inr (inr h)) words files file program held e none kept w = subst (Outcome words files [] []) (sym h) Outcome.no_memory
-
-  pub leaves : (out : List ℕ) (before after : Option Files) (status : ℕ) → WritesMachines o out before after status → OrderedLeaves out ordered before after status
-  leaves out before after status (WritesMachines.nothing same) words file program held e none kept w = Leaves.as_they_were same (λ y v h. omega (arith, h))
-  leaves out before after status (WritesMachines.whole printed all) words file program held e none kept w = Leaves.written w (written_of before file program held e none kept) printed all
-  leaves out before after status (WritesMachines.part why printed others_same this) words file program held e none kept w =
-      Leaves.in_part why w (written_of before file program held e none kept) printed others_same this
-
 -- there is no memory
 pub run_memory : (node : List ℕ) (ordered : List Item) → OrderedRun node ordered [] [] 6
 run_memory node ordered words files file program held e none kept w = Outcome.no_memory
-
-pub compile_memory : (out : List ℕ) (ordered : List Item) → OrderedCompile out ordered [] 6
-compile_memory out ordered words files file program held e none kept w = Outcome.no_memory
 
 -- ---- what a call leaves that wrote nothing
 

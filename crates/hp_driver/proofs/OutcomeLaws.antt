@@ -19,7 +19,6 @@ use Rattle.hp_driver.specs.Commanded.{SpellsTask, Spells, file_of, limit_of}
 use Rattle.hp_driver.specs.Course.{InStep}
 use Rattle.hp_driver.specs.Diagnostics.{refusal_line, too_long_line}
 use Rattle.hp_driver.specs.Follows.{OutcomeOf, DecidedOutcome, ProgramOutcome}
-use Rattle.hp_driver.specs.Leaving.{DecidedLeaves, ProgramLeaves}
 use Rattle.hp_driver.specs.Lines.{whole_lines, lines_of}
 use Rattle.hp_driver.specs.Log.{heard, said, has_ended, HeardFrom}
 use Rattle.hp_driver.specs.PastOutcome.{PastOutcome}
@@ -176,9 +175,6 @@ module _ (program clocked : List Item) (ranks : List (List ℕ)) (arranged : IsA
   -- whatever is decided of its contracts
   pub arranged_outcome : (task : Task) (log : List Event) (line : List ℕ) (status : ℕ) → DecidedOutcome task program clocked log line status → ProgramOutcome task program log line status
   arranged_outcome task log line status f text judged only words files file w held = f words files file (held_of files file text program clocked ranks held judged only arranged) refl w
-
-  pub arranged_leaves : (out : List ℕ) (before after : Option Files) (status : ℕ) → DecidedLeaves out program clocked before after status → ProgramLeaves out program before after status
-  arranged_leaves out before after status f words file text judged only held w = f words file (held_of before file text program clocked ranks held judged only arranged) refl w
 
 pub program_failed : (task : Task) (program : List Item) (log : List Event) (line : List ℕ) (b : ℕ) (rest : List ℕ) (status : ℕ) → ProgramOutcome task program log (line ++ b ∷ rest) status →
     ProgramOutcome task program log line 5

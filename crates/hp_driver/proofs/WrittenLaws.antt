@@ -6,12 +6,11 @@ use Rattle.hp_base.specs.Kinds.{AreOfKinds}
 use Rattle.hp_base.specs.declared.value.Value.{Value}
 use Rattle.hp_lines.specs.Lines.{line_of}
 use Rattle.hp_io.specs.Files.{Files}
-use Rattle.hp_controlled.specs.Among.{FormLaw, call_earlier}
-use Rattle.hp_controlled.specs.Joining.{AreWithContracts, SameLaw}
+use Rattle.hp_controlled.specs.Among.{FormLaw}
+use Rattle.hp_controlled.specs.Joining.{SameLaw}
+use Rattle.hp_library.proofs.OwnLaws.{does_there}
 use Rattle.hp_machines.specs.Machined.{AreMachinesOf}
-use Rattle.hp_machines.specs.Making.{AreMade}
-use Rattle.hp_machines.specs.NotBuilt.{HasNoMachines}
-use Rattle.hp_obc.specs.Form.{HasObcForm, machine_named}
+use Rattle.hp_obc.specs.Form.{machine_named}
 use Rattle.hp_obc.specs.Kinded.{kinds_in}
 use Rattle.hp_obc.specs.Machines.{Machine, Obc, ObcType}
 use Rattle.hp_obc.specs.Steps.{machine_behaviour, run}
@@ -23,7 +22,7 @@ use Rattle.law_decided.specs.Outcomes.{AreKeptInGames}
 use Rattle.law_decided.specs.Promised.{RunLaw}
 use Rattle.hp_driver.specs.Agreeing.{AgreesWith, AgreeWithNodes}
 use Rattle.hp_driver.specs.Answers.{IsAnswer}
-use Rattle.hp_driver.specs.Controls.{has_controls}
+use Rattle.hp_library.specs.Controls.{has_controls}
 use Rattle.hp_driver.specs.Outcome.{AreCompiled, AreWritten, IsHeld}
 use Rattle.hp_driver.specs.Systems.{System, of_node, of_machine, inputs_of, outputs_of}
 use Rattle.hp_driver.specs.Values.{inputs_until, first_bad}
@@ -88,47 +87,14 @@ module _ (a b : Obc) (node : List ℕ) (types : a.types ≡ b.types) (named : ma
 
 -- ---- the own machines of a program among those of its contracts
 
--- the own machines call own ones before them
-calls_own : BuiltLaw → FormLaw → (files : Option Files) (file : List ℕ) (own : Obc) → AreCompiled files file own → IsTrue (call_earlier [] own.machines)
-calls_own built form_law files file own compiled = by (call_earlier [] own.machines) refl
-  where
-    by : (b : Bool) → call_earlier [] own.machines ≡ b → IsTrue (call_earlier [] own.machines)
-    by true e = e
-    by false e =
-        let held = compiled.held in
-        let machines = compiled.machines in
-        let formless : HasObcForm own.types own.machines → ⊥ = λ form. (let calls = form_law own.types own.machines form.1 in cc) in
-        let none = subst (λ (ts : List ObcType). HasObcForm ts own.machines → ⊥) machines.types formless in
-        let made = subst (λ (ts : List ObcType). AreMade ts machines.nodes own.machines) machines.types machines.made in
-        absurd (built held.text held.judged.program_of.tokens compiled.program held.clocked held.ranks (accepted_program files file compiled.program held compiled.uncontrolled)
-        (HasNoMachines.formless machines.nodes own.machines (record { flat = machines.flat; made = machines.equations }) made none))
-
--- what the own machine of a node does in a text of machines
-pub record DoesThere (o own : Obc) (node : List ℕ) (m : Machine) : Type 0 where
-  pub types : o.types ≡ own.types
-  pub named : machine_named o.machines node ≡ Some m
-  pub does : machine_behaviour o node ≡ machine_behaviour own node
-
-does_there : BuiltLaw → FormLaw → SameLaw → (files : Option Files) (file : List ℕ) (o : Obc) (written : AreWritten files file o) (node : List ℕ) (m : Machine) → machine_named written.own.machines node ≡ Some m
-    → DoesThere o written.own node m
-does_there built form_law same_law files file o written node m named = by written.others
-  where
-    by : (o ≡ written.own) ⊎ AreWithContracts written.compiled.held.clocked written.own o → DoesThere o written.own node m
-    by (inl e) = record {
-      types = ap (λ (z : Obc). z.types) e;
-      named = ap (λ (z : Obc). machine_named z.machines node) e ∙ named;
-      does = ap (λ (z : Obc). machine_behaviour z node) e;
-    }
-    by (inr w) =
-        let same = same_law written.compiled.held.clocked written.own o w (calls_own built form_law files file written.own written.compiled) node m named in
-        record { types = w.types; named = same.0; does = same.1 }
-
 pub written_agrees : BuiltLaw → FormLaw → SameLaw → WrittenLaw
 written_agrees built form_law same_law files file o read text node m written printed stands named =
     let same : read ≡ o = same_machines text stands.file_is read o stands.spelled stands.machines (printed.stands stands.within) in
     let own = written.own in
     let compiled = written.compiled in
-    let there = does_there built form_law same_law files file o written node m named in
+    let held = compiled.held in
+    let accepted = accepted_program files file compiled.program held compiled.uncontrolled in
+    let there = does_there held.text held.judged.program_of.tokens compiled.program held.clocked held.ranks accepted own compiled.machines built form_law same_law o written.others node m named in
     let program = compiled.held.clocked in
     let among = agrees_too o own node there.types (there.named ∙ sym named) there.does (of_node program node) (compiled.agree node m named) in
     (ap (λ (z : Obc). machine_named z.machines node) same ∙ there.named, subst (λ z. AgreesWith (of_machine z node) (of_node program node)) (sym same) among)

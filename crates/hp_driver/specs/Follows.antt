@@ -10,7 +10,10 @@ use Rattle.hp_exec.specs.declared.error.ExecErr.{ExecErr}
 use Rattle.hp_compile.specs.Arranged.{IsArranged}
 use Rattle.hp_compile.specs.Judged.{IsJudged}
 use Rattle.law_decided.specs.Outcomes.{AreKeptInGames}
-use Rattle.hp_driver.specs.Controls.{has_controls}
+pub use Rattle.hp_library.specs.Texts.{IsArrangedText, IsPlainText}
+use Rattle.hp_library.specs.Compiled.{IsNotCompiled}
+use Rattle.hp_library.specs.declared.error.CompileErr.{CompileErr}
+use Rattle.hp_library.specs.Controls.{has_controls}
 use Rattle.hp_driver.specs.Command.{IsRunOf, IsTellOf, IsCompileOf, IsExecOf, IsVerifyOf, IsSweepOf, not_built_line}
 use Rattle.hp_driver.specs.Diagnostics.{executor_line}
 use Rattle.hp_driver.specs.Systems.{System}
@@ -35,6 +38,11 @@ abbrev pub DecidedOutcome : Task → List Item → List Item → List Event → 
 DecidedOutcome task program ordered log line status =
     (words : List (List ℕ)) (files : Option Files) (file : List ℕ) (held : IsHeld files file program) → held.clocked ≡ ordered → SpellsTask words file task → Outcome words files log line status
 
+-- whatever words asked to compile a text, which is not compiled for this reason
+abbrev pub RefusedCompile : List ℕ → CompileErr → List ℕ → ℕ → Type 0
+RefusedCompile out error line status =
+    (words : List (List ℕ)) (files : Option Files) (file text : List ℕ) → IsCompileOf words file out → Gives files file text → IsNotCompiled text error → Outcome words files [] line status
+
 -- whatever text the program is of
 abbrev pub ProgramOutcome : Task → List Item → List Event → List ℕ → ℕ → Type 0
 ProgramOutcome task program log line status = (text : List ℕ) → IsJudged text program → IsOnly text program → OutcomeOf task text log line status
@@ -46,14 +54,6 @@ pub record IsOrdered (text : List ℕ) (ordered : List Item) : Type 0 where
   pub only : IsOnly text program
   pub ranks : List (List ℕ)
   pub arranged : IsArranged program ordered ranks
-
--- A text has this program, and this is it once it is arranged.
-abbrev pub IsArrangedText : List Item → List Item → Type 0
-IsArrangedText program ordered = (text : List ℕ) × (ranks : List (List ℕ)) × IsJudged text program × IsArranged program ordered ranks
-
--- So it is of a program without controllable variables.
-abbrev pub IsPlainText : List Item → Type 0
-IsPlainText ordered = (program : List Item) × IsArrangedText program ordered × (has_controls program ≡ false)
 
 -- It is the node of this name in the ordered program of a text.
 abbrev pub IsNodeOfText : List Item → Node → Type 0
@@ -98,16 +98,11 @@ RefusedText error line status = (text node : List ℕ) → RefusesText text erro
 abbrev pub RefusedMachine : List ℕ → ExecErr → List ℕ → ℕ → Type 0
 RefusedMachine node error line status = (o : Obc) → RefusesMachine o node error → MachinesOutcome o node [] line status
 
--- whatever words and program the ordered program is of, where a machine of it is run, or its machines are written
+-- whatever words and program the ordered program is of, where a machine of it is run
 abbrev pub OrderedRun : List ℕ → List Item → List Event → List ℕ → ℕ → Type 0
 OrderedRun node ordered log line status =
     (words : List (List ℕ)) (files : Option Files) (file : List ℕ) (program : List Item) (held : IsHeld files file program) → held.clocked ≡ ordered →
     has_controls program ≡ false → AreKeptInGames held.clocked → IsRunOf words file node → Outcome words files log line status
-
-abbrev pub OrderedCompile : List ℕ → List Item → List ℕ → ℕ → Type 0
-OrderedCompile out ordered line status =
-    (words : List (List ℕ)) (files : Option Files) (file : List ℕ) (program : List Item) (held : IsHeld files file program) → held.clocked ≡ ordered →
-    has_controls program ≡ false → AreKeptInGames held.clocked → IsCompileOf words file out → Outcome words files [] line status
 
 -- whatever words and folder asked for this system, whose machine has this name among these
 abbrev pub ChosenOutcome : System → Obc → List ℕ → List Event → List ℕ → ℕ → Type 0
@@ -119,16 +114,11 @@ ChosenOutcome s o name log line status =
 abbrev pub RefusedChosen : List ℕ → ExecErr → List ℕ → ℕ → Type 0
 RefusedChosen name error line status = (s : System) (o : Obc) → RefusesMachine o name error → ChosenOutcome s o name [] line status
 
--- whatever words and program with controllable variables the ordered program is of, where a node of it is run, or its machines are written
+-- whatever words and program with controllable variables the ordered program is of, where a node of it is run
 abbrev pub ChoosingRun : List ℕ → List Item → List Event → List ℕ → ℕ → Type 0
 ChoosingRun node ordered log line status =
     (words : List (List ℕ)) (files : Option Files) (file : List ℕ) (program : List Item) (held : IsHeld files file program) → held.clocked ≡ ordered →
     has_controls program ≡ true → AreKeptInGames held.clocked → IsRunOf words file node → Outcome words files log line status
-
-abbrev pub ChoosingCompile : List ℕ → List Item → List ℕ → ℕ → Type 0
-ChoosingCompile out ordered line status =
-    (words : List (List ℕ)) (files : Option Files) (file : List ℕ) (program : List Item) (held : IsHeld files file program) → held.clocked ≡ ordered →
-    has_controls program ≡ true → AreKeptInGames held.clocked → IsCompileOf words file out → Outcome words files [] line status
 
 -- whatever words and program the ordered program is of, where it is asked what the contract of a node assumes and enforces
 abbrev pub ChoosingTell : List ℕ → List Item → List Event → List ℕ → ℕ → Type 0

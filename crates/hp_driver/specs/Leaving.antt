@@ -9,7 +9,7 @@ use Rattle.hp_obc.specs.Machines.{Obc}
 use Rattle.hp_tree.specs.Programs.{Node}
 use Rattle.hp_tree.specs.declared.program.Item.{Item}
 use Rattle.law_decided.specs.Outcomes.{AreKeptInGames}
-use Rattle.hp_driver.specs.Controls.{has_controls}
+use Rattle.hp_library.specs.Controls.{has_controls}
 use Rattle.hp_driver.specs.Command.{IsCompileOf, IsProveOf}
 use Rattle.hp_driver.specs.Commanded.{SpellsTask}
 use Rattle.hp_driver.specs.Leaves.{Leaves, IsPrinted}
@@ -24,21 +24,6 @@ pub data WritesMachines (o : Obc) (out : List ℕ) (before after : Option Files)
   whole : {text : List ℕ} → IsPrinted o text → after ≡ option_map (λ held. map.insert held out text) before → WritesMachines o out before after 0
   part : {text : List ℕ} {status : ℕ} → (status ≡ 5) ⊎ (status ≡ 6) → IsPrinted o text →
       BothTold before after (λ b a. SameElsewhere b a out) → BothTold before after (λ b a. SameOrPrefix b a out text) → WritesMachines o out before after status
-
--- whatever words and program the ordered program is of
-abbrev pub OrderedLeaves : List ℕ → List Item → Option Files → Option Files → ℕ → Type 0
-OrderedLeaves out ordered before after status =
-    (words : List (List ℕ)) (file : List ℕ) (program : List Item) (held : IsHeld before file program) → held.clocked ≡ ordered → has_controls program ≡ false → AreKeptInGames held.clocked →
-    IsCompileOf words file out → Leaves words before after status
-
-abbrev pub ChoosingLeaves : List ℕ → List Item → Option Files → Option Files → ℕ → Type 0
-ChoosingLeaves out ordered before after status =
-    (words : List (List ℕ)) (file : List ℕ) (program : List Item) (held : IsHeld before file program) → held.clocked ≡ ordered → has_controls program ≡ true → AreKeptInGames held.clocked →
-    IsCompileOf words file out → Leaves words before after status
-
-abbrev pub DecidedLeaves : List ℕ → List Item → List Item → Option Files → Option Files → ℕ → Type 0
-DecidedLeaves out program ordered before after status =
-    (words : List (List ℕ)) (file : List ℕ) (held : IsHeld before file program) → held.clocked ≡ ordered → IsCompileOf words file out → Leaves words before after status
 
 -- whatever text the program is of
 abbrev pub ProgramLeaves : List ℕ → List Item → Option Files → Option Files → ℕ → Type 0

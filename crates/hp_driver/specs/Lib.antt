@@ -14,7 +14,6 @@ pub mod BadLines
 pub mod Command
 pub mod Commanded
 pub mod Diagnostics
-pub mod Controls
 pub mod Given
 pub mod PastOutcome
 pub mod Outcome

@@ -18,7 +18,7 @@ use Rattle.hp_driver.specs.declared.telling.Ending.TheVariants as ending
 use Rattle.hp_controlled.specs.Chosen.{AreControlledMachines, IsChosen, IsToldBy}
 use Rattle.hp_controlled.specs.Joining.{AreWithContracts}
 use Rattle.hp_io.specs.Events.{put_events}
-use Rattle.hp_compile.specs.Arranged.{IsArranged, IsArrangeable}
+use Rattle.hp_compile.specs.Arranged.{IsArranged}
 use Rattle.hp_compile.specs.Judged.{IsJudged}
 use Rattle.hp_machines.specs.Machined.{AreMachinesOf}
 use Rattle.hp_compile.specs.Refusals.{Causes}
@@ -42,20 +42,13 @@ use Rattle.hp_verdicts.specs.declared.error.ContractErr.{ContractErr}
 use Rattle.hp_verdicts.specs.declared.error.ContractErr.TheVariants.{OutOfMemory}
 use Rattle.hp_driver.specs.Diagnostics.{refusal_line, too_long_line, no_text_line, no_form_line, executor_line, contract_line, no_contract_line, certificate_line, certificate_status}
 use Rattle.hp_driver.specs.BadLines.{bad_line_line}
-use Rattle.hp_driver.specs.Controls.{has_controls}
+use Rattle.hp_library.specs.Controls.{has_controls}
 use Rattle.hp_driver.specs.Command.{IsRunOf, IsTellOf, IsCheckOf, IsCompileOf, IsPastOf, IsExecOf, IsProveOf, IsVerifyOf, IsSweepOf, IsSummary, IsOverSource, IsOverContract, ReadsSource, ReadsFirst, IsNoCommand, usage_line, not_built_line, no_node_line, accepted_text, verdict_text}
 pub use Rattle.hp_driver.specs.Asking.{AsksToChoose, AsksToRun, IsRunFor}
 pub use Rattle.hp_driver.specs.Given.{Gives, GivesMoreThan}
+pub use Rattle.hp_library.specs.Texts.{IsOnly, HasNoProgram}
 use Rattle.hp_driver.specs.PastOutcome.{PastOutcome}
 use Rattle.hp_driver.specs.declared.trace_limits.BadLine.{BadLine}
-
--- the text has no other program
-abbrev pub IsOnly : List ℕ → List Item → Type 0
-IsOnly text program = (other : List Item) → IsJudged text other → other ≡ program
-
--- the text has no program that breaks no rule
-abbrev pub HasNoProgram : List ℕ → Type 0
-HasNoProgram text = (program : List Item) → IsJudged text program → IsArrangeable program → ⊥
 
 -- the program that the file holds, which breaks no rule
 pub record IsHeld (files : Option Files) (file : List ℕ) (program : List Item) : Type 0 where

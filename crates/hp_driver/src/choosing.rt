@@ -1,13 +1,11 @@
-//! Programs whose nodes choose the values of their controllable variables: their machines are run on a trace, with or without the values of contracts, or written.
+//! Programs whose nodes choose the values of their controllable variables: their machines are run on a trace, with or without the values of contracts.
 ghost use Rattle.std.specs.Prelude.{◌≡◌, ◌≢◌, ◌++◌, ℕ, List, None, codes, is_some, IfOk, IsTrue};
 ghost use Rattle.std.specs.String.{string_bytes};
-ghost use Rattle.hp_io.specs.Reads.{NothingRead};
 ghost use Rattle.hp_io.specs.Told.{Grows};
 ghost use Rattle.hp_obc.specs.Form.{TypesForm};
-ghost use Rattle.hp_driver.specs.Faults.{TakeFaults, PutFaults, BothPutFaults, WriteOrPutFaults};
-ghost use Rattle.hp_driver.specs.Follows.{ChoosingCompile, ChoosingRun, ChoosingTell, ChosenOutcome, NodeRun, NodeTold, RefusedChosen};
+ghost use Rattle.hp_driver.specs.Faults.{TakeFaults, PutFaults, BothPutFaults};
+ghost use Rattle.hp_driver.specs.Follows.{ChoosingRun, ChoosingTell, ChosenOutcome, NodeRun, NodeTold, RefusedChosen};
 ghost use Rattle.hp_driver.specs.Happened.{Happened};
-ghost use Rattle.hp_driver.specs.Leaving.{ChoosingLeaves};
 ghost use Rattle.hp_driver.specs.Status.{code_of};
 ghost use Rattle.hp_driver.specs.Systems.{of_machine, that_tells};
 
@@ -19,12 +17,11 @@ use crate::refuse::report_no_node;
 use crate::report::report;
 use crate::resources::Resources;
 use crate::run::run_trace;
-use crate::source::write_machines;
 use crate::status::Status;
 use crate::telling::{Ending, Telling};
 use hp_controlled::{ControlledErr, controlled_machines, is_chosen, is_told};
 use hp_exec::ExecErr;
-use hp_io::{Console, Folder, Sink};
+use hp_io::{Console, Sink};
 use hp_native::{Answers, NativeExec};
 use hp_obc::Obc;
 use hp_tree::{Node, Program};
@@ -245,29 +242,6 @@ pub(crate) fn tell_choosing<N: Answers, C: Console, E: Sink>(
     machines_of_texts_choose_the_greatest();
     match controlled_machines(resources.alloc, ordered) {
         Ok(machines) => tell_node(resources, &machines, node, name, console, diag),
-        Err(ControlledErr::NotBuilt) => report(diag, NOT_BUILT, Status::Refused),
-        Err(ControlledErr::OutOfMemory) => Status::NoMemory,
-    }
-}
-
-/// Writes the machines of an ordered program whose contracts are kept to a file.
-pub(crate) fn compile_choosing<F: Folder, E: Sink>(
-    alloc: Global,
-    ordered: &Program,
-    out: &str,
-    files: &mut F,
-    diag: &mut E,
-) -> Status
-    ensures outcome { (line : List ℕ) × Grows (E.took diag.old) (E.took diag.new) line × ChoosingCompile out.now ordered.now line (code_of result) }
-    ensures leaves { ChoosingLeaves out.now ordered.now (F.files files.old) (F.files files.new) (code_of result) }
-    ensures status { code_of result ≢ 4 }
-    ensures reads { NothingRead (F.reads files.old) (F.reads files.new) }
-    ensures writes { WriteOrPutFaults out.now (code_of result) (F.write_faults files.old) (F.write_faults files.new) (E.faults diag.old) (E.faults diag.new) }
-{
-    // A law: each line that the machines say is one that the program allows; where nothing is free but inputs, with the greatest permitted values.
-    machines_of_texts_choose_the_greatest();
-    match controlled_machines(alloc, ordered) {
-        Ok(machines) => write_machines(alloc, &machines, out, files),
         Err(ControlledErr::NotBuilt) => report(diag, NOT_BUILT, Status::Refused),
         Err(ControlledErr::OutOfMemory) => Status::NoMemory,
     }

@@ -6,33 +6,33 @@ ghost use Rattle.hp_io.specs.Reads.{NothingRead};
 ghost use Rattle.hp_io.specs.Told.{Grows};
 ghost use Rattle.hp_driver.specs.Command.{accepted_text};
 ghost use Rattle.hp_compile.specs.Judged.{IsJudged};
-ghost use Rattle.hp_driver.specs.Controls.{has_controls, own_controls, some_variable};
-ghost use Rattle.hp_verdicts.specs.Decided.{has_contract, own_contract};
-ghost use Rattle.hp_tree.specs.Meaning.{controls_of};
-ghost use Rattle.hp_driver.specs.Follows.{OutcomeOf, DecidedOutcome, ProgramOutcome, OrderedRun, OrderedCompile, Accepts, IsArrangedText, IsPlainText};
-ghost use Rattle.hp_driver.specs.Leaving.{WritesText, WritesMachines, OrderedLeaves, DecidedLeaves, ProgramLeaves, LeavesBy, RoseInWrite};
+ghost use Rattle.hp_driver.specs.Follows.{OutcomeOf, DecidedOutcome, ProgramOutcome, OrderedRun, Accepts, IsArrangedText, IsPlainText, RefusedCompile};
+ghost use Rattle.hp_library.specs.Compiled.{HasCircuit};
+ghost use Rattle.hp_driver.specs.Leaving.{WritesText, WritesMachines, ProgramLeaves, LeavesBy, RoseInWrite};
 ghost use Rattle.hp_driver.specs.declared.words.Task.TheVariants as Task;
 ghost use Rattle.hp_driver.specs.Faults.{TakeFaults, PutFaults, BothPutFaults, WriteFaults, WriteOrPutFaults, OutputFaults};
 ghost use Rattle.hp_driver.specs.Happened.{Happened};
 ghost use Rattle.hp_driver.specs.Status.{code_of};
 
-use crate::choosing::{compile_choosing, run_choosing, tell_choosing};
+use crate::choosing::{run_choosing, tell_choosing};
+use crate::diagnostic::NOT_BUILT;
 use crate::follow::say;
 use crate::machines::run_machines;
 use crate::refuse::{report_contract, report_refusal};
+use crate::report::report;
 use crate::resources::Resources;
 use crate::status::Status;
 use crate::words::Task;
 use hp_cause::Ordered;
 use hp_compile::{arrange, judge};
-use hp_controlled::{ControlledErr, machines_with_contracts};
 use hp_io::{Console, Folder, Sink, WriteErr};
+use hp_library::{CompileErr, compile_program, has_controls};
 use hp_machines::{MachineErr, machines};
 use hp_native::Answers;
 use hp_obc::Obc;
 use hp_obctext::print_obc;
 use hp_print::print;
-use hp_tree::{Contract, Item, Program};
+use hp_tree::Program;
 use hp_verdicts::decide;
 use law_decided::{machines_keep_contracts, outcomes_are_so};
 use law_history::streams::{machines_of_texts_are_built, machines_run_the_nodes_of_texts};
@@ -66,58 +66,6 @@ fn acceptance(alloc: Global, program: &Program, is_printed: bool) -> Result<Vec<
     } else {
         Vec::from_slice(alloc, ACCEPTED)
     }
-}
-
-/// Whether a contract has controllable variables.
-fn is_controlled(contract: &Option<Contract>) -> bool
-    ensures { result ≡ some_variable (controls_of contract.now) }
-{
-    match contract {
-        None => false,
-        Some(contract) => !contract.controls.is_empty(),
-    }
-}
-
-fn has_own_controls(item: &Item) -> bool
-    ensures { result ≡ own_controls item.now }
-{
-    match item {
-        Item::TypeItem(_) => false,
-        Item::NodeItem(node) => is_controlled(&node.contract),
-    }
-}
-
-/// Whether a node of the program has controllable variables.
-pub(crate) fn has_controls(program: &Program) -> bool
-    ensures { result ≡ has_controls program.now }
-{
-    for item in &program.items {
-        if has_own_controls(item) {
-            return true;
-        }
-    }
-    false
-}
-
-fn has_own_contract(item: &Item) -> bool
-    ensures { result ≡ own_contract item.now }
-{
-    match item {
-        Item::TypeItem(_) => false,
-        Item::NodeItem(node) => node.contract.is_some(),
-    }
-}
-
-/// Whether a node of the program has a contract.
-fn has_contract(program: &Program) -> bool
-    ensures { result ≡ has_contract program.now }
-{
-    for item in &program.items {
-        if has_own_contract(item) {
-            return true;
-        }
-    }
-    false
 }
 
 /// Says that the program is accepted, or its canonical text, if its contracts are kept.
@@ -314,107 +262,24 @@ pub(crate) fn write_machines<F: Folder>(
     }
 }
 
-/// Writes the machines of the nodes of an ordered program to a file.
-fn compile_plain<F: Folder, E: Sink>(
-    alloc: Global,
-    ordered: Ordered,
-    out: &str,
-    files: &mut F,
-    diag: &mut E,
-) -> Status
-    requires { IsPlainText ordered.program }
-    ensures outcome { (line : List ℕ) × Grows (E.took diag.old) (E.took diag.new) line × OrderedCompile out.now ordered.program line (code_of result) }
-    ensures leaves { OrderedLeaves out.now ordered.program (F.files files.old) (F.files files.new) (code_of result) }
+/// Reports why a program is not compiled, or that there is no memory.
+fn report_uncompiled<E: Sink>(alloc: Global, diag: &mut E, error: &CompileErr) -> Status
+    requires { HasCircuit error.now }
+    ensures told { (line : List ℕ) × Grows (E.took diag.old) (E.took diag.new) line × ((out : List ℕ) → RefusedCompile out error.now line (code_of result)) }
+    ensures fails { code_of result ≢ 0 }
     ensures status { code_of result ≢ 4 }
-    ensures reads { NothingRead (F.reads files.old) (F.reads files.new) }
-    ensures writes { WriteOrPutFaults out.now (code_of result) (F.write_faults files.old) (F.write_faults files.new) (E.faults diag.old) (E.faults diag.new) }
+    ensures faults { PutFaults (code_of result) (E.faults diag.old) (E.faults diag.new) }
 {
-    // Laws: nothing is in the way of the machines, and they do what the nodes do.
-    machines_of_texts_are_built();
-    machines_run_the_nodes_of_texts();
-    machines_keep_contracts();
-    match machines(alloc, ordered.program) {
-        Ok(machines) => write_machines(alloc, &machines, out, files),
-        Err(MachineErr::NotBuilt) => unreachable!(),
-        Err(MachineErr::OutOfMemory) => Status::NoMemory,
+    match error {
+        CompileErr::Refused(refusal) => report_refusal(alloc, diag, refusal),
+        CompileErr::Contract(cause) => report_contract(alloc, diag, cause),
+        CompileErr::NotBuilt => report(diag, NOT_BUILT, Status::Refused),
+        CompileErr::OutOfMemory => Status::NoMemory,
     }
-}
-
-/// Writes the machines of an ordered program to a file, with those of its contracts, or without them where they are not built. No program has shown that.
-fn compile_contracts<F: Folder, E: Sink>(
-    alloc: Global,
-    ordered: Ordered,
-    out: &str,
-    files: &mut F,
-    diag: &mut E,
-) -> Status
-    requires { IsPlainText ordered.program }
-    ensures outcome { (line : List ℕ) × Grows (E.took diag.old) (E.took diag.new) line × OrderedCompile out.now ordered.program line (code_of result) }
-    ensures leaves { OrderedLeaves out.now ordered.program (F.files files.old) (F.files files.new) (code_of result) }
-    ensures status { code_of result ≢ 4 }
-    ensures reads { NothingRead (F.reads files.old) (F.reads files.new) }
-    ensures writes { WriteOrPutFaults out.now (code_of result) (F.write_faults files.old) (F.write_faults files.new) (E.faults diag.old) (E.faults diag.new) }
-{
-    // Laws: the machines of nodes do what the nodes do.
-    machines_run_the_nodes_of_texts();
-    machines_keep_contracts();
-    match machines_with_contracts(alloc, &ordered.program) {
-        Ok(machines) => write_machines(alloc, &machines, out, files),
-        Err(ControlledErr::NotBuilt) => compile_plain(alloc, ordered, out, files, diag),
-        Err(ControlledErr::OutOfMemory) => Status::NoMemory,
-    }
-}
-
-/// Writes the machines of an ordered program to a file: those of its nodes, and of its contracts, if it has any.
-fn compile_ordered<F: Folder, E: Sink>(
-    alloc: Global,
-    ordered: Ordered,
-    out: &str,
-    files: &mut F,
-    diag: &mut E,
-) -> Status
-    requires { IsPlainText ordered.program }
-    ensures outcome { (line : List ℕ) × Grows (E.took diag.old) (E.took diag.new) line × OrderedCompile out.now ordered.program line (code_of result) }
-    ensures leaves { OrderedLeaves out.now ordered.program (F.files files.old) (F.files files.new) (code_of result) }
-    ensures status { code_of result ≢ 4 }
-    ensures reads { NothingRead (F.reads files.old) (F.reads files.new) }
-    ensures writes { WriteOrPutFaults out.now (code_of result) (F.write_faults files.old) (F.write_faults files.new) (E.faults diag.old) (E.faults diag.new) }
-{
-    if has_contract(&ordered.program) {
-        return compile_contracts(alloc, ordered, out, files, diag);
-    }
-    compile_plain(alloc, ordered, out, files, diag)
-}
-
-/// Writes the machines of a program to a file, if its contracts are kept.
-fn compile_decided<F: Folder, E: Sink>(
-    alloc: Global,
-    program: &Program,
-    ordered: Ordered,
-    out: &str,
-    files: &mut F,
-    diag: &mut E,
-) -> Status
-    requires { IsArrangedText program.now ordered.program }
-    ensures outcome { (line : List ℕ) × Grows (E.took diag.old) (E.took diag.new) line × DecidedOutcome (Task.Compile out.entry) program.now ordered.program [] line (code_of result) }
-    ensures leaves { DecidedLeaves out.now program.now ordered.program (F.files files.old) (F.files files.new) (code_of result) }
-    ensures status { code_of result ≢ 4 }
-    ensures reads { NothingRead (F.reads files.old) (F.reads files.new) }
-    ensures writes { WriteOrPutFaults out.now (code_of result) (F.write_faults files.old) (F.write_faults files.new) (E.faults diag.old) (E.faults diag.new) }
-{
-    // A law: what is found of contracts says so of their games.
-    outcomes_are_so();
-    if let Err(error) = decide(alloc, &ordered.program) {
-        return report_contract(alloc, diag, &error);
-    }
-    if has_controls(program) {
-        return compile_choosing(alloc, &ordered.program, out, files, diag);
-    }
-    compile_ordered(alloc, ordered, out, files, diag)
 }
 
 /// Writes the machines of the program to a file, if it can be arranged and its contracts are kept.
-fn compile_program<F: Folder, E: Sink>(
+fn write_program<F: Folder, E: Sink>(
     alloc: Global,
     program: &Program,
     out: &str,
@@ -428,9 +293,12 @@ fn compile_program<F: Folder, E: Sink>(
     ensures reads { NothingRead (F.reads files.old) (F.reads files.new) }
     ensures writes { WriteOrPutFaults out.now (code_of result) (F.write_faults files.old) (F.write_faults files.new) (E.faults diag.old) (E.faults diag.new) }
 {
-    match arrange(alloc, program) {
-        Ok(ordered) => compile_decided(alloc, program, ordered, out, files, diag),
-        Err(refusal) => report_refusal(alloc, diag, &refusal),
+    // Laws: machines do what nodes do, and keep their contracts.
+    machines_run_the_nodes_of_texts();
+    machines_keep_contracts();
+    match compile_program(alloc, program) {
+        Ok(machines) => write_machines(alloc, &machines, out, files),
+        Err(error) => report_uncompiled(alloc, diag, &error),
     }
 }
 
@@ -459,6 +327,6 @@ pub(crate) fn run_source<N: Answers, F: Folder, C: Console, E: Sink>(
         Task::Run { node } => run_program(resources, &program, node, console, diag),
         Task::Tell { node } => tell_program(resources, &program, node, console, diag),
         Task::Check { print } => check_program(resources.alloc, &program, print, console, diag),
-        Task::Compile { out } => compile_program(resources.alloc, &program, out, files, diag),
+        Task::Compile { out } => write_program(resources.alloc, &program, out, files, diag),
     }
 }

@@ -73,18 +73,18 @@ returns-in-Check-clause-leaves g c =
 
 pub returns-clause-outcome : goal.returns-clause-outcome
 returns-clause-outcome g c =
-    let done = c.compile_program.ensures.outcome in
+    let done = c.write_program.ensures.outcome in
     let text = c.args.text.now in (
       [],
       done.0,
       Grows-nil (g.C.Console.events c.args.console.now),
       heard_nothing (g.C.Console.left c.args.console.now),
       done.1,
-      subst (λ task. OutcomeOf task text [] done.0 (code_of c.compile_program.result)) (sym c.in-Compile.is) (done.2 text c.in-Ok.ensures.judged (λ other judged. sym (c.in-Ok.ensures.given other judged))),
+      subst (λ task. OutcomeOf task text [] done.0 (code_of c.write_program.result)) (sym c.in-Compile.is) (done.2 text c.in-Ok.ensures.judged (λ other judged. sym (c.in-Ok.ensures.given other judged))),
     )
 
 pub returns-clause-leaves : goal.returns-clause-leaves
 returns-clause-leaves g c =
     let text = c.args.text.now in
-    subst (λ task. LeavesBy task text (g.F.Folder.files c.args.files.now) (g.F.Folder.files c.compile_program.new.files) (code_of c.compile_program.result)) (sym c.in-Compile.is)
-    (λ words file w held. c.compile_program.ensures.leaves words file text c.in-Ok.ensures.judged (λ other judged. sym (c.in-Ok.ensures.given other judged)) held w)
+    subst (λ task. LeavesBy task text (g.F.Folder.files c.args.files.now) (g.F.Folder.files c.write_program.new.files) (code_of c.write_program.result)) (sym c.in-Compile.is)
+    (λ words file w held. c.write_program.ensures.leaves words file text c.in-Ok.ensures.judged (λ other judged. sym (c.in-Ok.ensures.given other judged)) held w)

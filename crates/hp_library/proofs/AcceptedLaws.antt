@@ -1,0 +1,63 @@
+-- The program of a text that is judged and arranged is one that the judgements accept.
+use Rattle.std.proofs.Common.{◌≡◌, ℕ, Bool, true, false, ◌||◌, List, [], ◌∷◌, refl}
+use Rattle.hp_compile.proofs.FormLaws.{formed}
+use Rattle.hp_compile.specs.Arranged.{IsArranged}
+use Rattle.hp_compile.specs.Judged.{IsJudged}
+use Rattle.hp_library.specs.Controls.{some_variable, has_controls}
+use Rattle.hp_library.specs.Texts.{IsPlainText}
+use Rattle.hp_machines.specs.NotBuilt.{HasNoMachines}
+use Rattle.hp_meaning.specs.Causal.Runs.{NoControls}
+use Rattle.hp_tree.specs.Blocks.{Decl}
+use Rattle.hp_tree.specs.Meaning.{controls_of}
+use Rattle.hp_tree.specs.declared.program.Item.{Item}
+use Rattle.hp_tree.specs.declared.program.Item.TheVariants.{TypeItem, NodeItem}
+use Rattle.law_decided.specs.Laws.{IsAcceptedText}
+use Rattle.law_history.specs.Streams.Texts.{BuiltLaw, IsAccepted}
+
+pub accepted_by : (text : List ℕ) (program ordered : List Item) (ranks : List (List ℕ)) (judged : IsJudged text program) → IsArranged program ordered ranks → IsAcceptedText text judged.program_of.tokens program ordered ranks
+accepted_by text program ordered ranks judged arranged = record {
+  spelled = judged.program_of.spelled;
+  read = judged.program_of.read;
+  named = judged.named;
+  typed = judged.typed;
+  defined = judged.defined;
+  formed = formed text program judged arranged.well_formed;
+  initialised = arranged.initialised;
+  clocks = arranged.clocks;
+  fall = arranged.ordered;
+}
+
+-- ---- no controllable variables
+
+pub none_or : (b c : Bool) → (b || c) ≡ false → (b ≡ false) × (c ≡ false)
+none_or false c e = (refl, e)
+none_or true c e = absurd cc
+
+is_empty : (ds : List Decl) → some_variable ds ≡ false → ds ≡ []
+is_empty [] e = refl
+is_empty (d ∷ ds) e = absurd cc
+
+no_controls : (items : List Item) → has_controls items ≡ false → NoControls items
+no_controls [] e = tt
+no_controls (TypeItem t ∷ items) e = no_controls items e
+no_controls (NodeItem n ∷ items) e =
+    let none = none_or (some_variable (controls_of n.contract)) (has_controls items) e in (is_empty (controls_of n.contract) none.0, no_controls items none.1)
+
+pub accepted_plain : (text : List ℕ) (program ordered : List Item) (ranks : List (List ℕ)) (judged : IsJudged text program) → IsArranged program ordered ranks → has_controls program ≡ false
+    → IsAccepted text judged.program_of.tokens program ordered ranks
+accepted_plain text program ordered ranks judged arranged none = record {
+  spelled = judged.program_of.spelled;
+  read = judged.program_of.read;
+  named = judged.named;
+  typed = judged.typed;
+  defined = judged.defined;
+  formed = formed text program judged arranged.well_formed;
+  initialised = arranged.initialised;
+  clocks = arranged.clocks;
+  fall = arranged.ordered;
+  uncontrolled = no_controls program none;
+}
+
+-- nothing is in the way of its machines
+pub is_built : BuiltLaw → (ordered : List Item) → IsPlainText ordered → HasNoMachines ordered → ⊥
+is_built law ordered t none = let text = t.1 in law text.0 text.2.program_of.tokens t.0 ordered text.1 (accepted_plain text.0 t.0 ordered text.1 text.2 text.3 t.2) none

@@ -1,0 +1,5 @@
+pub mod AcceptedLaws
+pub mod NamedLaws
+pub mod OwnLaws
+mod HandedLaws
+mod CompiledLaws

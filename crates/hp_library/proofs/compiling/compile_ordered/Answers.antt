@@ -1,0 +1,27 @@
+use Rattle.hp_library.specs.Compiled.{HasCircuit, IsCompiled, IsNotCompiled}
+use Rattle.hp_library.specs.Errors.{of_contract, of_controlled}
+use Rattle.hp_library.proofs.CompiledLaws.{compiled_by, contract_refused_by, has_circuit, not_built_by}
+use Rattle.hp_library.proofs.HandedLaws.{handed, handed_match}
+use Rattle.hp_library.proofs.compiling.compile_ordered.Goals as goal
+
+pub returns-in_err-decide-clause-compiled : goal.returns-in_err-decide-clause-compiled
+returns-in_err-decide-clause-compiled c = λ text found.
+    let cause = c.in_err-decide.field-0.0 in
+    handed_match (IsCompiled text) (IsNotCompiled text) c.from_residual.result (of_contract cause) c.from_residual.ensures.1
+    (contract_refused_by text c.args.program.now c.args.ordered.program found c.outcomes_are_so.ensures cause c.in_err-decide.ensures.refused)
+
+pub returns-in_err-decide-clause-circuits : goal.returns-in_err-decide-clause-circuits
+returns-in_err-decide-clause-circuits c =
+    let cause = c.in_err-decide.field-0.0 in
+    handed HasCircuit c.from_residual.result (of_contract cause) c.from_residual.ensures.1 (has_circuit c.outcomes_are_so.ensures c.args.program.now c.args.ordered.program c.requires cause c.in_err-decide.ensures.refused)
+
+pub returns-in_err-machines-clause-compiled : goal.returns-in_err-machines-clause-compiled
+returns-in_err-machines-clause-compiled c = λ text found.
+    let error = c.in_err-machines.field-0.0 in
+    handed_match (IsCompiled text) (IsNotCompiled text) c.from_residual-in_err-machines.result (of_controlled error) c.from_residual-in_err-machines.ensures.1
+    (not_built_by text c.args.program.now c.args.ordered.program found c.outcomes_are_so.ensures c.in_ok-decide.ensures.kept error c.in_err-machines.ensures.not_built)
+
+pub returns-clause-compiled : goal.returns-clause-compiled
+returns-clause-compiled c = λ text found.
+    compiled_by text c.args.program.now c.args.ordered.program found c.outcomes_are_so.ensures c.in_ok-decide.ensures.kept c.machines_run_the_nodes_of_texts.ensures c.machines_of_texts_are_built.ensures
+    c.machines_do_the_same_among_others.ensures.form c.own_machines_do_the_same.ensures c.machines_of_texts_choose_the_greatest.ensures c.in_ok-machines.machines c.in_ok-machines.ensures.machines

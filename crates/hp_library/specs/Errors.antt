@@ -1,0 +1,21 @@
+-- Errors of each step as why a text is not compiled.
+use Rattle.hp_compile.specs.declared.refusal.Refusal.{Refusal}
+use Rattle.hp_compile.specs.declared.refusal.Refusal.TheVariants as refusal
+use Rattle.hp_controlled.specs.declared.error.ControlledErr.{ControlledErr}
+use Rattle.hp_controlled.specs.declared.error.ControlledErr.TheVariants as controlled
+use Rattle.hp_verdicts.specs.declared.error.ContractErr.{ContractErr}
+use Rattle.hp_verdicts.specs.declared.error.ContractErr.TheVariants as contract
+use Rattle.hp_library.specs.declared.error.CompileErr.{CompileErr}
+use Rattle.hp_library.specs.declared.error.CompileErr.TheVariants as compile
+
+abbrev pub of_refusal : Refusal → CompileErr
+of_refusal refusal.OutOfMemory = compile.OutOfMemory
+of_refusal r = compile.Refused r
+
+abbrev pub of_contract : ContractErr → CompileErr
+of_contract contract.OutOfMemory = compile.OutOfMemory
+of_contract e = compile.Contract e
+
+abbrev pub of_controlled : ControlledErr → CompileErr
+of_controlled controlled.NotBuilt = compile.NotBuilt
+of_controlled controlled.OutOfMemory = compile.OutOfMemory

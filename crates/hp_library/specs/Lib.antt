@@ -1,0 +1,4 @@
+pub mod Controls
+pub mod Texts
+pub mod Errors
+pub mod Compiled

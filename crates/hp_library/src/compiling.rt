@@ -1,0 +1,113 @@
+ghost use Rattle.std.specs.Prelude.{◌≡◌, ◌⊎◌, ℕ, true, List, IfOk, IfErr, MatchResult};
+ghost use Rattle.hp_compile.specs.Judged.{IsJudged};
+ghost use Rattle.hp_controlled.specs.Joining.{AreWithContracts};
+ghost use Rattle.hp_controlled.specs.declared.error.ControlledErr.TheVariants.{NotBuilt};
+ghost use Rattle.hp_machines.specs.Machined.{AreMachinesOf};
+ghost use Rattle.hp_obc.specs.Machines.{Obc as ObcSeen};
+ghost use Rattle.hp_library.specs.Compiled.{AreMachinesFor, HasCircuit, IsCompiled, IsFound, IsNotCompiled};
+ghost use Rattle.hp_library.specs.Texts.{IsArrangedText, IsOnly, IsPlainText};
+ghost use Rattle.hp_library.specs.Controls.{has_controls};
+
+use crate::controls::{has_contract, has_controls};
+use crate::error::CompileErr;
+use hp_cause::Ordered;
+use hp_compile::{arrange, judge};
+use hp_controlled::{
+    ControlledErr, controlled_machines, machines_do_the_same_among_others, machines_with_contracts,
+    own_machines_do_the_same,
+};
+use hp_machines::{MachineErr, machines};
+use hp_obc::Obc;
+use hp_tree::Program;
+use hp_verdicts::decide;
+use law_controlled::machines_of_texts_choose_the_greatest;
+use law_decided::outcomes_are_so;
+use law_history::streams::{machines_of_texts_are_built, machines_run_the_nodes_of_texts};
+use std::alloc::{AllocError, Global};
+
+/// The machines of the nodes of an arranged program without controllable variables.
+fn own_machines(alloc: Global, ordered: Ordered) -> Result<Obc, AllocError>
+    requires { IsPlainText ordered.program }
+    ensures { IfOk result (AreMachinesOf ordered.program) }
+{
+    // A law: nothing is in the way of the machines.
+    machines_of_texts_are_built();
+    match machines(alloc, ordered.program) {
+        Ok(machines) => Ok(machines),
+        Err(MachineErr::NotBuilt) => unreachable!(),
+        Err(MachineErr::OutOfMemory) => Err(AllocError),
+    }
+}
+
+/// The same, with those of its contracts between them, or without them where they are not built. No program has shown that.
+fn among_contracts(alloc: Global, ordered: Ordered) -> Result<Obc, AllocError>
+    requires { IsPlainText ordered.program }
+    ensures { IfOk result (λ o. (own : ObcSeen) × AreMachinesOf ordered.program own × ((o ≡ own) ⊎ AreWithContracts ordered.program own o)) }
+{
+    match machines_with_contracts(alloc, &ordered.program) {
+        Ok(machines) => Ok(machines),
+        Err(ControlledErr::NotBuilt) => own_machines(alloc, ordered),
+        Err(ControlledErr::OutOfMemory) => Err(AllocError),
+    }
+}
+
+/// The machines of an arranged program without controllable variables: those of its nodes, and of its contracts, if it has any.
+fn plain_machines(alloc: Global, ordered: Ordered) -> Result<Obc, AllocError>
+    requires { IsPlainText ordered.program }
+    ensures { IfOk result (λ o. (own : ObcSeen) × AreMachinesOf ordered.program own × ((o ≡ own) ⊎ AreWithContracts ordered.program own o)) }
+{
+    if has_contract(&ordered.program) {
+        return among_contracts(alloc, ordered);
+    }
+    own_machines(alloc, ordered)
+}
+
+/// The machines of an arranged program whose contracts are kept. Only those of a program with controllable variables may be not built.
+pub fn machines_of(alloc: Global, program: &Program, ordered: Ordered) -> Result<Obc, ControlledErr>
+    requires { IsArrangedText program.now ordered.program }
+    ensures machines { IfOk result (AreMachinesFor program.now ordered.program) }
+    ensures not_built { IfErr result (λ e. e ≡ NotBuilt → has_controls program.now ≡ true) }
+{
+    if has_controls(program) {
+        return controlled_machines(alloc, &ordered.program);
+    }
+    let machines = plain_machines(alloc, ordered)?;
+    Ok(machines)
+}
+
+/// The machines of an arranged program, if its contracts are kept.
+fn compile_ordered(alloc: Global, program: &Program, ordered: Ordered) -> Result<Obc, CompileErr>
+    requires { IsArrangedText program.now ordered.program }
+    ensures compiled { (text : List ℕ) → IsFound text program.now ordered.program → MatchResult result (IsCompiled text) (IsNotCompiled text) }
+    ensures circuits { IfErr result HasCircuit }
+{
+    // Laws: what is found of contracts says so of their games; machines do what nodes do, also among those of contracts; and what machines say that choose, the program allows.
+    outcomes_are_so();
+    machines_of_texts_are_built();
+    machines_run_the_nodes_of_texts();
+    machines_do_the_same_among_others();
+    own_machines_do_the_same();
+    machines_of_texts_choose_the_greatest();
+    decide(alloc, &ordered.program)?;
+    let machines = machines_of(alloc, program, ordered)?;
+    Ok(machines)
+}
+
+/// The machines of a judged program, if it can be arranged and its contracts are kept, or why it has none.
+pub fn compile_program(alloc: Global, program: &Program) -> Result<Obc, CompileErr>
+    requires { (text : List ℕ) × IsJudged text program.now }
+    ensures compiled { (text : List ℕ) → IsJudged text program.now → IsOnly text program.now → MatchResult result (IsCompiled text) (IsNotCompiled text) }
+    ensures circuits { IfErr result HasCircuit }
+{
+    let ordered = arrange(alloc, program)?;
+    compile_ordered(alloc, program, ordered)
+}
+
+/// The machines of a source text, or why it has none. For each node there is a machine of its name, and for each with a contract one of its controller, before it, and one that also tells what the contract
+/// assumes and enforces, behind it (`f$ctl`, `f`, `f$contract`); `hp_exec::Exec` runs them, and has their signatures.
+pub fn compile(alloc: Global, text: &[u8]) -> Result<Obc, CompileErr>
+    ensures { MatchResult result (IsCompiled text.now) (IsNotCompiled text.now) }
+{
+    let program = judge(alloc, text)?;
+    compile_program(alloc, &program)
+}
