@@ -6,6 +6,7 @@ use Rattle.hp_compile.specs.Judged.{IsJudged}
 use Rattle.hp_compile.specs.Refusals.{IsRefused}
 use Rattle.hp_compile.specs.declared.refusal.Refusal.{Refusal}
 use Rattle.hp_compile.specs.declared.refusal.Refusal.TheVariants as refusal
+use Rattle.hp_controlled.specs.Lacking.{HasNoChosenMachines}
 use Rattle.hp_controlled.specs.Among.{FormLaw}
 use Rattle.hp_controlled.specs.Joining.{SameLaw}
 use Rattle.hp_controlled.specs.declared.error.ControlledErr.{ControlledErr}
@@ -57,8 +58,8 @@ module _ (text : List ℕ) (program ordered : List Item) (found : IsFound text p
   contract_refused_by law contract.NotBuilt refuses = IsNotCompiled.contract_refused found (λ e. absurd cc) ((said law).refused contract.NotBuilt refuses)
   contract_refused_by law contract.OutOfMemory refuses = IsNotCompiled.out_of_memory
 
-  pub not_built_by : OutcomesLaw → AreKept ordered ordered → (e : ControlledErr) → (e ≡ controlled.NotBuilt → has_controls program ≡ true) → IsNotCompiled text (of_controlled e)
-  not_built_by law kept controlled.NotBuilt some = IsNotCompiled.not_built found (in_games law kept) (some refl)
+  pub not_built_by : OutcomesLaw → AreKept ordered ordered → (e : ControlledErr) → (e ≡ controlled.NotBuilt → (has_controls program ≡ true) × HasNoChosenMachines ordered) → IsNotCompiled text (of_controlled e)
+  not_built_by law kept controlled.NotBuilt some = IsNotCompiled.not_built found (in_games law kept) (some refl).0 (some refl).1
   not_built_by law kept controlled.OutOfMemory some = IsNotCompiled.out_of_memory
 
   module _ (law : OutcomesLaw) (kept : AreKept ordered ordered) (text_law : TextLaw) (built : BuiltLaw) (form_law : FormLaw) (same_law : SameLaw) (said_law : GreatestSaidLaw) where
