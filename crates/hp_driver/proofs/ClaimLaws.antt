@@ -57,7 +57,7 @@ use Rattle.hp_driver.specs.declared.words.Command.{Command}
 use Rattle.hp_driver.specs.declared.words.Segment.{Segment}
 use Rattle.hp_driver.proofs.GoodLines.{same_up_to}
 use Rattle.hp_driver.proofs.OutcomeLaws.{over_of}
-use Rattle.hp_library.proofs.NamedLaws.{machine_of_node}
+use Rattle.hp_driver.proofs.NamedLaws.{machine_of_node}
 
 some_same : {A : Type 0} (a b : A) → Some a ≡ Some b → a ≡ b
 some_same a b e = ap (λ o. unwrap_or o a) e

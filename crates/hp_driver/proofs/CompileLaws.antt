@@ -6,11 +6,11 @@ use Rattle.hp_controlled.specs.Chosen.{AreControlledMachines}
 use Rattle.hp_controlled.specs.Joining.{AreWithContracts}
 use Rattle.hp_io.specs.Files.{Files}
 use Rattle.hp_io.specs.Told.{Grows}
-use Rattle.hp_library.proofs.AcceptedLaws.{none_or}
-use Rattle.hp_library.specs.Compiled.{AreMachinesFor, IsCompiled, IsFound, IsNotCompiled}
-use Rattle.hp_library.specs.Controls.{has_controls}
-use Rattle.hp_library.specs.declared.error.CompileErr.{CompileErr}
-use Rattle.hp_library.specs.declared.error.CompileErr.TheVariants.{Refused, Contract, NotBuilt, OutOfMemory}
+use Rattle.hp_driver.proofs.AcceptedLaws.{none_or}
+use Rattle.hp_driver.specs.Compiled.{AreMachinesFor, IsCompiled, IsFound, IsNotCompiled}
+use Rattle.hp_driver.specs.Controls.{has_controls}
+use Rattle.hp_driver.specs.declared.compile_error.CompileErr.{CompileErr}
+use Rattle.hp_driver.specs.declared.compile_error.CompileErr.TheVariants.{Refused, Contract, NotBuilt, OutOfMemory}
 use Rattle.hp_machines.specs.Machined.{AreMachinesOf}
 use Rattle.hp_obc.specs.Machines.{Obc}
 use Rattle.hp_tree.specs.Programs.{Node}

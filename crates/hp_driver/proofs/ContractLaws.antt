@@ -18,7 +18,7 @@ use Rattle.law_decided.specs.Outcomes.{OutcomesLaw, AreKeptInGames}
 use Rattle.hp_verdicts.specs.Decided.{own_contract, has_contract, AreKept, Refuses}
 use Rattle.hp_verdicts.specs.declared.error.ContractErr.{ContractErr}
 use Rattle.hp_verdicts.specs.declared.error.ContractErr.TheVariants as contract
-use Rattle.hp_library.specs.Controls.{some_variable, has_controls}
+use Rattle.hp_driver.specs.Controls.{some_variable, has_controls}
 use Rattle.hp_driver.specs.Command.{accepted_text}
 use Rattle.hp_driver.specs.Diagnostics.{contract_line}
 use Rattle.hp_driver.specs.Follows.{DecidedOutcome, OrderedRun, ChoosingRun, ChoosingTell, Accepts}
@@ -27,7 +27,7 @@ use Rattle.hp_driver.specs.Ran.{ReportsOrNot}
 use Rattle.hp_driver.specs.declared.words.Task.{Task}
 use Rattle.hp_driver.specs.declared.words.Task.TheVariants.{Run, Tell, Check, Compile}
 use Rattle.hp_driver.proofs.GameLaws.{are_said}
-use Rattle.hp_library.proofs.AcceptedLaws.{none_or}
+use Rattle.hp_driver.proofs.AcceptedLaws.{none_or}
 use Rattle.hp_driver.proofs.OutcomeLaws.{over_source, told_or_not}
 
 -- ---- programs without contracts

@@ -8,7 +8,7 @@ use Rattle.hp_obc.specs.Machines.{Obc}
 use Rattle.hp_controlled.specs.Chosen.{AreControlledMachines}
 use Rattle.law_controlled.specs.Greatest.{AllSayGreatest}
 use Rattle.law_controlled.specs.Said.{GreatestSaidLaw}
-use Rattle.hp_library.proofs.AcceptedLaws.{accepted_by}
+use Rattle.hp_driver.proofs.AcceptedLaws.{accepted_by}
 use Rattle.law_decided.specs.Mirrored.{MachinesLaw}
 use Rattle.law_decided.specs.Outcomes.{AreSaid, OutcomesLaw}
 use Rattle.hp_compile.proofs.FormLaws.{formed}

@@ -14,7 +14,7 @@ use Rattle.hp_verdicts.specs.declared.error.ContractErr.{ContractErr}
 use Rattle.hp_verdicts.specs.declared.error.ContractErr.TheVariants as contract
 use Rattle.hp_driver.specs.GoodCalls.{PlainLaw}
 use Rattle.hp_driver.proofs.ContractLaws.{plain_written, uncontrolled_plain}
-use Rattle.hp_library.proofs.AcceptedLaws.{none_or}
+use Rattle.hp_driver.proofs.AcceptedLaws.{none_or}
 
 -- ---- contracts that can be decided have a machine
 

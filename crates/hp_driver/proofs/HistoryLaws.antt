@@ -24,8 +24,8 @@ use Rattle.law_decided.specs.Outcomes.{AreKeptInGames}
 use Rattle.law_decided.specs.Promised.{KeepsContracts, RunLaw}
 use Rattle.hp_exec.specs.Bounds.{longest_chain, instance_count}
 use Rattle.hp_driver.specs.Answers.{IsAnswer}
-use Rattle.hp_library.proofs.AcceptedLaws.{accepted_plain}
-use Rattle.hp_library.specs.Controls.{has_controls}
+use Rattle.hp_driver.proofs.AcceptedLaws.{accepted_plain}
+use Rattle.hp_driver.specs.Controls.{has_controls}
 use Rattle.hp_driver.specs.Outcome.{IsHeld, AreCompiled}
 use Rattle.hp_driver.specs.Systems.{of_node, of_machine, inputs_of, outputs_of, Gives}
 use Rattle.hp_driver.specs.Trace.{Machine as Reacting, said_to}

@@ -1,3 +1,8 @@
+pub mod AcceptedLaws
+pub mod NamedLaws
+pub mod OwnLaws
+mod HandedLaws
+mod CompilingLaws
 pub mod AlikeLaws
 pub mod CallLaws
 pub mod TellLaws

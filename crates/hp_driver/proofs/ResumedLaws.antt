@@ -30,7 +30,7 @@ use Rattle.law_decided.specs.Promised.{RunLaw}
 use Rattle.law_history.specs.Streams.Texts.{TextLaw}
 use Rattle.hp_driver.specs.Answers.{IsAnswer}
 use Rattle.hp_driver.specs.Checkpoints.{IsCheckpointOf, IsTaken, memory_behind}
-use Rattle.hp_library.specs.Controls.{has_controls}
+use Rattle.hp_driver.specs.Controls.{has_controls}
 use Rattle.hp_driver.specs.Given.{Gives}
 use Rattle.hp_driver.specs.Joined.{AreGoodLines, ContinuedLaw, IsContinued, IsOneRun, LeftLaw, ResumedLaw, TakenAgainLaw, memory_past}
 use Rattle.hp_driver.specs.Lines.{lines_of}

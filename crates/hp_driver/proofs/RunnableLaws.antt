@@ -14,7 +14,7 @@ use Rattle.law_controlled.specs.Said.{GreatestSaidLaw}
 use Rattle.law_decided.specs.Outcomes.{OutcomesLaw}
 use Rattle.law_decided.specs.Promised.{RunLaw}
 use Rattle.law_history.specs.Streams.Texts.{TextLaw}
-use Rattle.hp_library.specs.Controls.{has_controls}
+use Rattle.hp_driver.specs.Controls.{has_controls}
 use Rattle.hp_driver.specs.Outcome.{IsOnly}
 use Rattle.hp_driver.specs.Restoring.{Ends, RunDecided, RunProgram, RunText}
 use Rattle.hp_driver.specs.Segments.{AreRun}

@@ -8,7 +8,7 @@ use Rattle.hp_lines.specs.Lines.{line_of}
 use Rattle.hp_io.specs.Files.{Files}
 use Rattle.hp_controlled.specs.Among.{FormLaw}
 use Rattle.hp_controlled.specs.Joining.{SameLaw}
-use Rattle.hp_library.proofs.OwnLaws.{does_there}
+use Rattle.hp_driver.proofs.OwnLaws.{does_there}
 use Rattle.hp_machines.specs.Machined.{AreMachinesOf}
 use Rattle.hp_obc.specs.Form.{machine_named}
 use Rattle.hp_obc.specs.Kinded.{kinds_in}
@@ -22,7 +22,7 @@ use Rattle.law_decided.specs.Outcomes.{AreKeptInGames}
 use Rattle.law_decided.specs.Promised.{RunLaw}
 use Rattle.hp_driver.specs.Agreeing.{AgreesWith, AgreeWithNodes}
 use Rattle.hp_driver.specs.Answers.{IsAnswer}
-use Rattle.hp_library.specs.Controls.{has_controls}
+use Rattle.hp_driver.specs.Controls.{has_controls}
 use Rattle.hp_driver.specs.Outcome.{AreCompiled, AreWritten, IsHeld}
 use Rattle.hp_driver.specs.Systems.{System, of_node, of_machine, inputs_of, outputs_of}
 use Rattle.hp_driver.specs.Values.{inputs_until, first_bad}

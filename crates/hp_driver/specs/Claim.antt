@@ -29,7 +29,7 @@ use Rattle.hp_verdicts.specs.declared.error.ContractErr.{ContractErr}
 use Rattle.hp_verdicts.specs.declared.error.ContractErr.TheVariants as contract
 use Rattle.law_decided.specs.Laws.{HoldsOf, IsForcedFirst, IsVerdictOf}
 use Rattle.hp_driver.specs.Command.{IsRunOf, IsTellOf, IsCheckOf, IsCompileOf, IsPastOf, IsExecOf, IsProveOf, IsVerifyOf, IsSegmentOf, IsSweepOf, IsSummary, IsOverSource, IsOverContract, ReadsSource, IsNoCommand, usage_line, not_built_line, no_node_line, accepted_text, verdict_text}
-use Rattle.hp_library.specs.Controls.{has_controls}
+use Rattle.hp_driver.specs.Controls.{has_controls}
 use Rattle.hp_driver.specs.Diagnostics.{checkpoint_line, refusal_line, too_long_line, no_text_line, no_form_line, executor_line, forced_line, contract_line, no_contract_line, certificate_line, certificate_status}
 use Rattle.hp_driver.specs.Lines.{lines_of}
 use Rattle.hp_driver.specs.PastOutcome.{unfolded_text}

@@ -10,10 +10,10 @@ use Rattle.hp_exec.specs.declared.error.ExecErr.{ExecErr}
 use Rattle.hp_compile.specs.Arranged.{IsArranged}
 use Rattle.hp_compile.specs.Judged.{IsJudged}
 use Rattle.law_decided.specs.Outcomes.{AreKeptInGames}
-pub use Rattle.hp_library.specs.Texts.{IsArrangedText, IsPlainText}
-use Rattle.hp_library.specs.Compiled.{IsNotCompiled}
-use Rattle.hp_library.specs.declared.error.CompileErr.{CompileErr}
-use Rattle.hp_library.specs.Controls.{has_controls}
+pub use Rattle.hp_driver.specs.Texts.{IsArrangedText, IsPlainText}
+use Rattle.hp_driver.specs.Compiled.{IsNotCompiled}
+use Rattle.hp_driver.specs.declared.compile_error.CompileErr.{CompileErr}
+use Rattle.hp_driver.specs.Controls.{has_controls}
 use Rattle.hp_driver.specs.Command.{IsRunOf, IsTellOf, IsCompileOf, IsExecOf, IsVerifyOf, IsSweepOf, not_built_line}
 use Rattle.hp_driver.specs.Diagnostics.{executor_line}
 use Rattle.hp_driver.specs.Systems.{System}

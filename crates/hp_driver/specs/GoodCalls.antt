@@ -18,7 +18,7 @@ use Rattle.hp_tree.specs.declared.program.Item.{Item}
 use Rattle.hp_verdicts.specs.Decided.{IsLong, IsProof, has_contract, is_wide_contract}
 use Rattle.hp_verdicts.specs.Verified.{Shows}
 use Rattle.hp_driver.specs.Checkpoints.{IsTaken, RefusesCheckpoint}
-use Rattle.hp_library.specs.Controls.{has_controls}
+use Rattle.hp_driver.specs.Controls.{has_controls}
 use Rattle.hp_driver.specs.Command.{IsRunOf, IsCheckOf, IsCompileOf, IsPastOf, IsExecOf, IsProveOf, IsVerifyOf, IsSegmentOf, IsOver, Writes}
 use Rattle.hp_driver.specs.Lines.{lines_of}
 use Rattle.hp_driver.specs.NodeKinds.{input_kinds}

@@ -16,7 +16,7 @@ use Rattle.hp_obctext.specs.Words.{printed}
 use Rattle.law_decided.specs.Outcomes.{IsProofInGame}
 use Rattle.hp_driver.specs.Checkpoints.{IsCheckpointOf}
 use Rattle.hp_driver.specs.Command.{IsCompileOf, IsPastOf, IsProveOf, IsSegmentOf, IsOver, Writes}
-use Rattle.hp_library.specs.Controls.{has_controls}
+use Rattle.hp_driver.specs.Controls.{has_controls}
 use Rattle.hp_driver.specs.Outcome.{AreWritten, AreChosen, HasContract}
 use Rattle.hp_driver.specs.PastOutcome.{HoldsProgram, unfolded_text}
 use Rattle.hp_driver.specs.Segments.{IsRunnable}

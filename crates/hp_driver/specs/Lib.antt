@@ -1,3 +1,7 @@
+pub mod Controls
+pub mod Texts
+pub mod CompileErrors
+pub mod Compiled
 pub mod Lines
 pub mod LineFaults
 pub mod Trace

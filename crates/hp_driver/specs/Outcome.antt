@@ -42,11 +42,11 @@ use Rattle.hp_verdicts.specs.declared.error.ContractErr.{ContractErr}
 use Rattle.hp_verdicts.specs.declared.error.ContractErr.TheVariants.{OutOfMemory}
 use Rattle.hp_driver.specs.Diagnostics.{refusal_line, too_long_line, no_text_line, no_form_line, executor_line, contract_line, no_contract_line, certificate_line, certificate_status}
 use Rattle.hp_driver.specs.BadLines.{bad_line_line}
-use Rattle.hp_library.specs.Controls.{has_controls}
+use Rattle.hp_driver.specs.Controls.{has_controls}
 use Rattle.hp_driver.specs.Command.{IsRunOf, IsTellOf, IsCheckOf, IsCompileOf, IsPastOf, IsExecOf, IsProveOf, IsVerifyOf, IsSweepOf, IsSummary, IsOverSource, IsOverContract, ReadsSource, ReadsFirst, IsNoCommand, usage_line, not_built_line, no_node_line, accepted_text, verdict_text}
 pub use Rattle.hp_driver.specs.Asking.{AsksToChoose, AsksToRun, IsRunFor}
 pub use Rattle.hp_driver.specs.Given.{Gives, GivesMoreThan}
-pub use Rattle.hp_library.specs.Texts.{IsOnly, HasNoProgram}
+pub use Rattle.hp_driver.specs.Texts.{IsOnly, HasNoProgram}
 use Rattle.hp_driver.specs.PastOutcome.{PastOutcome}
 use Rattle.hp_driver.specs.declared.trace_limits.BadLine.{BadLine}
 

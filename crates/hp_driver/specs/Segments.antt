@@ -16,7 +16,7 @@ pub use Rattle.hp_driver.specs.Asking.{run_words}
 use Rattle.hp_driver.specs.BadLines.{bad_line_line}
 use Rattle.hp_driver.specs.Checkpoints.{IsCheckpointOf, RefusesCheckpoint, memory_behind}
 use Rattle.hp_driver.specs.Command.{IsNoSegment, IsSegmentOf}
-use Rattle.hp_library.specs.Controls.{has_controls}
+use Rattle.hp_driver.specs.Controls.{has_controls}
 use Rattle.hp_driver.specs.Diagnostics.{checkpoint_line, too_long_line}
 use Rattle.hp_driver.specs.Given.{Gives, GivesMoreThan}
 use Rattle.hp_driver.specs.Lines.{whole_lines, lines_of}

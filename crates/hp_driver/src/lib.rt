@@ -1,9 +1,12 @@
-//! The commands of the tool: words, sources, machines that are run, the trace loop, the top call. Invariant: each answer is a row of `specs/Outcome`, with its cause. Used by `hp_main`, `hp_rows`.
+//! The commands of the tool: words, sources, machines that are run, the trace loop, the top call; and the compiler as a call, `compile`. Invariant: each answer is a row of `specs/Outcome`, with its cause. Used by `hp_main`, `hp_rows`.
 #![tactic(auto)]
 
 mod certificate;
 mod checkpoint;
 mod choosing;
+mod compile_error;
+mod compiling;
+mod controls;
 mod diagnostic;
 mod execution;
 mod follow;
@@ -26,6 +29,9 @@ mod tool;
 mod trace_limits;
 mod words;
 
+pub use compile_error::CompileErr;
+pub use compiling::{compile, compile_program, machines_of};
+pub use controls::{has_contract, has_controls};
 pub use laws::{
     checkpoints_are_memories, machines_of_contracts_mirror_nodes, plain_programs_are_good,
     stopped_runs_are_joined, written_certificates_are_good, written_machines_agree_with_nodes,

@@ -16,6 +16,7 @@ ghost use Rattle.hp_driver.specs.declared.words.Task.TheVariants as Task;
 
 use crate::certificate::node_named;
 use crate::choosing::report_choosing;
+use crate::controls::has_controls;
 use crate::diagnostic::NOT_BUILT;
 use crate::machines::report_machine;
 use crate::refuse::{report_contract, report_no_node, report_refusal};
@@ -26,7 +27,6 @@ use hp_compile::{arrange, judge};
 use hp_controlled::{ControlledErr, controlled_machines, is_chosen};
 use hp_exec::Exec;
 use hp_io::Sink;
-use hp_library::has_controls;
 use hp_machines::{MachineErr, machines};
 use hp_obc::Obc;
 use hp_tree::{Node, Program};

@@ -1,5 +1,5 @@
 use Rattle.std.proofs.Common.{◌≡◌, [], true, false, rules}
-use Rattle.hp_library.specs.Controls.{has_controls}
+use Rattle.hp_driver.specs.Controls.{has_controls}
 use Rattle.hp_driver.specs.Follows.{ChoosingRun, DecidedOutcome, OrderedRun}
 use Rattle.hp_driver.specs.Status.{code_of}
 use Rattle.hp_driver.specs.declared.words.Task.TheVariants.{Run}

@@ -1,7 +1,7 @@
 use Rattle.std.proofs.Common.{[]}
 use Rattle.hp_io.proofs.ToldLaws.{Grows-nil}
 use Rattle.hp_driver.specs.Status.{code_of}
-use Rattle.hp_library.proofs.AcceptedLaws.{is_built}
+use Rattle.hp_driver.proofs.AcceptedLaws.{is_built}
 use Rattle.hp_driver.proofs.MachineLaws.{of_program, run_memory}
 use Rattle.hp_driver.proofs.runnable.plain_runnable.Goals as goal
 

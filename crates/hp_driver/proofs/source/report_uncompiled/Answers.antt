@@ -1,6 +1,6 @@
 use Rattle.std.proofs.Common.{◌≡◌, [], rules, sym, subst}
 use Rattle.hp_io.proofs.ToldLaws.{Grows-nil}
-use Rattle.hp_library.specs.declared.error.CompileErr.TheVariants.{Refused, Contract, NotBuilt, OutOfMemory}
+use Rattle.hp_driver.specs.declared.compile_error.CompileErr.TheVariants.{Refused, Contract, NotBuilt, OutOfMemory}
 use Rattle.hp_driver.specs.Command.{not_built_line}
 use Rattle.hp_driver.specs.Diagnostics.{contract_line, refusal_line}
 use Rattle.hp_driver.specs.Status.{code_of}

@@ -1,6 +1,6 @@
 use Rattle.std.proofs.Common.{◌≡◌, [], true, false, rules}
 use Rattle.hp_io.proofs.ToldLaws.{Grows-nil}
-use Rattle.hp_library.specs.Controls.{has_controls}
+use Rattle.hp_driver.specs.Controls.{has_controls}
 use Rattle.hp_driver.specs.declared.words.Task.TheVariants.{Run}
 use Rattle.hp_driver.proofs.ContractLaws.{contract_told, choosing_run, ordered_run}
 use Rattle.hp_driver.proofs.GameLaws.{contracts_are_built}

@@ -1,8 +1,8 @@
-use Rattle.hp_library.specs.Compiled.{HasCircuit, IsCompiled, IsNotCompiled}
-use Rattle.hp_library.specs.Errors.{of_contract, of_controlled}
-use Rattle.hp_library.proofs.CompiledLaws.{compiled_by, contract_refused_by, has_circuit, not_built_by}
-use Rattle.hp_library.proofs.HandedLaws.{handed, handed_match}
-use Rattle.hp_library.proofs.compiling.compile_ordered.Goals as goal
+use Rattle.hp_driver.specs.Compiled.{HasCircuit, IsCompiled, IsNotCompiled}
+use Rattle.hp_driver.specs.CompileErrors.{of_contract, of_controlled}
+use Rattle.hp_driver.proofs.CompilingLaws.{compiled_by, contract_refused_by, has_circuit, not_built_by}
+use Rattle.hp_driver.proofs.HandedLaws.{handed, handed_match}
+use Rattle.hp_driver.proofs.compiling.compile_ordered.Goals as goal
 
 pub returns-in_err-decide-clause-compiled : goal.returns-in_err-decide-clause-compiled
 returns-in_err-decide-clause-compiled c = λ text found.

@@ -1,7 +1,7 @@
 use Rattle.std.proofs.Common.{◌≡◌, false, rules}
-use Rattle.hp_library.specs.Compiled.{AreMachinesFor}
-use Rattle.hp_library.specs.Controls.{has_controls}
-use Rattle.hp_library.proofs.compiling.machines_of.Goals as goal
+use Rattle.hp_driver.specs.Compiled.{AreMachinesFor}
+use Rattle.hp_driver.specs.Controls.{has_controls}
+use Rattle.hp_driver.proofs.compiling.machines_of.Goals as goal
 
 pub returns-clause-machines : goal.returns-clause-machines
 returns-clause-machines c =

@@ -6,16 +6,17 @@ use Rattle.hp_compile.specs.Judged.{IsJudged}
 use Rattle.hp_compile.specs.Refusals.{IsRefused}
 use Rattle.hp_compile.specs.declared.refusal.Refusal.{Refusal}
 use Rattle.hp_compile.specs.declared.refusal.Refusal.TheVariants as refusal
+use Rattle.hp_controlled.specs.Lacking.{HasNoChosenMachines}
 use Rattle.hp_controlled.specs.Among.{FormLaw}
 use Rattle.hp_controlled.specs.Joining.{SameLaw}
 use Rattle.hp_controlled.specs.declared.error.ControlledErr.{ControlledErr}
 use Rattle.hp_controlled.specs.declared.error.ControlledErr.TheVariants as controlled
-use Rattle.hp_library.proofs.AcceptedLaws.{accepted_by, accepted_plain}
-use Rattle.hp_library.proofs.OwnLaws.{run_nodes}
-use Rattle.hp_library.specs.Compiled.{AreMachinesFor, HasCircuit, IsCompiled, IsFound, IsNotCompiled, RunNodes}
-use Rattle.hp_library.specs.Controls.{has_controls}
-use Rattle.hp_library.specs.Texts.{HasNoProgram, IsArrangedText}
-use Rattle.hp_library.specs.Errors.{of_refusal, of_contract, of_controlled}
+use Rattle.hp_driver.proofs.AcceptedLaws.{accepted_by, accepted_plain}
+use Rattle.hp_driver.proofs.OwnLaws.{run_nodes}
+use Rattle.hp_driver.specs.Compiled.{AreMachinesFor, HasCircuit, IsCompiled, IsFound, IsNotCompiled, RunNodes}
+use Rattle.hp_driver.specs.Controls.{has_controls}
+use Rattle.hp_driver.specs.Texts.{HasNoProgram, IsArrangedText}
+use Rattle.hp_driver.specs.CompileErrors.{of_refusal, of_contract, of_controlled}
 use Rattle.hp_obc.specs.Machines.{Obc}
 use Rattle.hp_tree.specs.declared.program.Item.{Item}
 use Rattle.hp_verdicts.specs.Decided.{AreKept, Refuses}
@@ -57,8 +58,8 @@ module _ (text : List ℕ) (program ordered : List Item) (found : IsFound text p
   contract_refused_by law contract.NotBuilt refuses = IsNotCompiled.contract_refused found (λ e. absurd cc) ((said law).refused contract.NotBuilt refuses)
   contract_refused_by law contract.OutOfMemory refuses = IsNotCompiled.out_of_memory
 
-  pub not_built_by : OutcomesLaw → AreKept ordered ordered → (e : ControlledErr) → (e ≡ controlled.NotBuilt → has_controls program ≡ true) → IsNotCompiled text (of_controlled e)
-  not_built_by law kept controlled.NotBuilt some = IsNotCompiled.not_built found (in_games law kept) (some refl)
+  pub not_built_by : OutcomesLaw → AreKept ordered ordered → (e : ControlledErr) → (e ≡ controlled.NotBuilt → (has_controls program ≡ true) × HasNoChosenMachines ordered) → IsNotCompiled text (of_controlled e)
+  not_built_by law kept controlled.NotBuilt some = IsNotCompiled.not_built found (in_games law kept) (some refl).0 (some refl).1
   not_built_by law kept controlled.OutOfMemory some = IsNotCompiled.out_of_memory
 
   module _ (law : OutcomesLaw) (kept : AreKept ordered ordered) (text_law : TextLaw) (built : BuiltLaw) (form_law : FormLaw) (same_law : SameLaw) (said_law : GreatestSaidLaw) where

@@ -5,8 +5,8 @@ use Rattle.hp_controlled.specs.declared.error.ControlledErr.{ControlledErr}
 use Rattle.hp_controlled.specs.declared.error.ControlledErr.TheVariants as controlled
 use Rattle.hp_verdicts.specs.declared.error.ContractErr.{ContractErr}
 use Rattle.hp_verdicts.specs.declared.error.ContractErr.TheVariants as contract
-use Rattle.hp_library.specs.declared.error.CompileErr.{CompileErr}
-use Rattle.hp_library.specs.declared.error.CompileErr.TheVariants as compile
+use Rattle.hp_driver.specs.declared.compile_error.CompileErr.{CompileErr}
+use Rattle.hp_driver.specs.declared.compile_error.CompileErr.TheVariants as compile
 
 abbrev pub of_refusal : Refusal → CompileErr
 of_refusal refusal.OutOfMemory = compile.OutOfMemory

@@ -1,10 +1,10 @@
 use Rattle.std.proofs.Common.{subst}
 use Rattle.hp_compile.specs.Arranged.{IsArrangeable}
-use Rattle.hp_library.specs.Compiled.{IsCompiled, IsNotCompiled}
-use Rattle.hp_library.specs.Errors.{of_refusal}
-use Rattle.hp_library.proofs.CompiledLaws.{refused_by}
-use Rattle.hp_library.proofs.HandedLaws.{handed_match}
-use Rattle.hp_library.proofs.compiling.compile_program.Goals as goal
+use Rattle.hp_driver.specs.Compiled.{IsCompiled, IsNotCompiled}
+use Rattle.hp_driver.specs.CompileErrors.{of_refusal}
+use Rattle.hp_driver.proofs.CompilingLaws.{refused_by}
+use Rattle.hp_driver.proofs.HandedLaws.{handed_match}
+use Rattle.hp_driver.proofs.compiling.compile_program.Goals as goal
 
 pub returns-in_err-ordered-clause-compiled : goal.returns-in_err-ordered-clause-compiled
 returns-in_err-ordered-clause-compiled c = λ text judged only.

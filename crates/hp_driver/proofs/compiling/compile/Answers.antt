@@ -1,8 +1,8 @@
-use Rattle.hp_library.specs.Compiled.{IsCompiled, IsNotCompiled}
-use Rattle.hp_library.specs.Errors.{of_refusal}
-use Rattle.hp_library.proofs.CompiledLaws.{refused_by}
-use Rattle.hp_library.proofs.HandedLaws.{handed_match}
-use Rattle.hp_library.proofs.compiling.compile.Goals as goal
+use Rattle.hp_driver.specs.Compiled.{IsCompiled, IsNotCompiled}
+use Rattle.hp_driver.specs.CompileErrors.{of_refusal}
+use Rattle.hp_driver.proofs.CompilingLaws.{refused_by}
+use Rattle.hp_driver.proofs.HandedLaws.{handed_match}
+use Rattle.hp_driver.proofs.compiling.compile.Goals as goal
 
 pub returns-in_err-program : goal.returns-in_err-program
 returns-in_err-program c =

@@ -3,8 +3,8 @@ use Rattle.std.proofs.Common.{◌≡◌, ℕ, Bool, true, false, ◌||◌, List,
 use Rattle.hp_compile.proofs.FormLaws.{formed}
 use Rattle.hp_compile.specs.Arranged.{IsArranged}
 use Rattle.hp_compile.specs.Judged.{IsJudged}
-use Rattle.hp_library.specs.Controls.{some_variable, has_controls}
-use Rattle.hp_library.specs.Texts.{IsPlainText}
+use Rattle.hp_driver.specs.Controls.{some_variable, has_controls}
+use Rattle.hp_driver.specs.Texts.{IsPlainText}
 use Rattle.hp_machines.specs.NotBuilt.{HasNoMachines}
 use Rattle.hp_meaning.specs.Causal.Runs.{NoControls}
 use Rattle.hp_tree.specs.Blocks.{Decl}

@@ -1,4 +1,4 @@
-ghost use Rattle.hp_library.specs.Errors.{of_refusal, of_contract, of_controlled};
+ghost use Rattle.hp_driver.specs.CompileErrors.{of_refusal, of_contract, of_controlled};
 ghost use Rattle.std.specs.Prelude.{◌≡◌};
 
 use hp_compile::Refusal;
@@ -24,7 +24,7 @@ pub enum CompileErr {
 
 impl From<Refusal> for CompileErr {
     ghost use Rattle.std.specs.Prelude.{◌≡◌};
-    ghost use Rattle.hp_library.specs.Errors.{of_refusal};
+    ghost use Rattle.hp_driver.specs.CompileErrors.{of_refusal};
 
     ghost from_gives = { λ refusal e. e ≡ of_refusal refusal };
 
@@ -38,7 +38,7 @@ impl From<Refusal> for CompileErr {
 
 impl From<ContractErr> for CompileErr {
     ghost use Rattle.std.specs.Prelude.{◌≡◌};
-    ghost use Rattle.hp_library.specs.Errors.{of_contract};
+    ghost use Rattle.hp_driver.specs.CompileErrors.{of_contract};
 
     ghost from_gives = { λ error e. e ≡ of_contract error };
 
@@ -52,7 +52,7 @@ impl From<ContractErr> for CompileErr {
 
 impl From<ControlledErr> for CompileErr {
     ghost use Rattle.std.specs.Prelude.{◌≡◌};
-    ghost use Rattle.hp_library.specs.Errors.{of_controlled};
+    ghost use Rattle.hp_driver.specs.CompileErrors.{of_controlled};
 
     ghost from_gives = { λ error e. e ≡ of_controlled error };
 

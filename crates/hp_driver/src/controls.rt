@@ -1,5 +1,5 @@
 ghost use Rattle.std.specs.Prelude.{◌≡◌};
-ghost use Rattle.hp_library.specs.Controls.{has_controls, own_controls, some_variable};
+ghost use Rattle.hp_driver.specs.Controls.{has_controls, own_controls, some_variable};
 ghost use Rattle.hp_tree.specs.Meaning.{controls_of};
 ghost use Rattle.hp_verdicts.specs.Decided.{has_contract, own_contract};
 

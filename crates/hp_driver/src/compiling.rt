@@ -1,12 +1,13 @@
 ghost use Rattle.std.specs.Prelude.{◌≡◌, ◌⊎◌, ℕ, true, List, IfOk, IfErr, MatchResult};
 ghost use Rattle.hp_compile.specs.Judged.{IsJudged};
 ghost use Rattle.hp_controlled.specs.Joining.{AreWithContracts};
+ghost use Rattle.hp_controlled.specs.Lacking.{HasNoChosenMachines};
 ghost use Rattle.hp_controlled.specs.declared.error.ControlledErr.TheVariants.{NotBuilt};
 ghost use Rattle.hp_machines.specs.Machined.{AreMachinesOf};
 ghost use Rattle.hp_obc.specs.Machines.{Obc as ObcSeen};
-ghost use Rattle.hp_library.specs.Compiled.{AreMachinesFor, HasCircuit, IsCompiled, IsFound, IsNotCompiled};
-ghost use Rattle.hp_library.specs.Texts.{IsArrangedText, IsOnly, IsPlainText};
-ghost use Rattle.hp_library.specs.Controls.{has_controls};
+ghost use Rattle.hp_driver.specs.Compiled.{AreMachinesFor, HasCircuit, IsCompiled, IsFound, IsNotCompiled};
+ghost use Rattle.hp_driver.specs.Texts.{IsArrangedText, IsOnly, IsPlainText};
+ghost use Rattle.hp_driver.specs.Controls.{has_controls};
 
 use crate::controls::{has_contract, has_controls};
 use crate::error::CompileErr;
@@ -62,11 +63,11 @@ fn plain_machines(alloc: Global, ordered: Ordered) -> Result<Obc, AllocError>
     own_machines(alloc, ordered)
 }
 
-/// The machines of an arranged program whose contracts are kept. Only those of a program with controllable variables may be not built.
+/// The machines of an arranged program whose contracts are kept. Only those of a program with controllable variables may be not built, where something is in the way of them.
 pub fn machines_of(alloc: Global, program: &Program, ordered: Ordered) -> Result<Obc, ControlledErr>
     requires { IsArrangedText program.now ordered.program }
     ensures machines { IfOk result (AreMachinesFor program.now ordered.program) }
-    ensures not_built { IfErr result (λ e. e ≡ NotBuilt → has_controls program.now ≡ true) }
+    ensures not_built { IfErr result (λ e. e ≡ NotBuilt → (has_controls program.now ≡ true) × HasNoChosenMachines ordered.program) }
 {
     if has_controls(program) {
         return controlled_machines(alloc, &ordered.program);

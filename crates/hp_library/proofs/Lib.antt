@@ -1,5 +1,0 @@
-pub mod AcceptedLaws
-pub mod NamedLaws
-pub mod OwnLaws
-mod HandedLaws
-mod CompiledLaws

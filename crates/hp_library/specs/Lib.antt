@@ -1,4 +1,0 @@
-pub mod Controls
-pub mod Texts
-pub mod Errors
-pub mod Compiled
