@@ -1,11 +1,11 @@
 pub mod Allowed
 mod Calls
 pub mod Contracted
-mod Names
+pub mod Names
 pub mod Observed
 pub mod Observers
 pub mod Programs
-mod Said
+pub mod Said
 pub mod Standing
 pub mod Telling
 pub mod Tells

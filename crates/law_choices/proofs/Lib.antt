@@ -17,7 +17,7 @@ mod AnsweredLemmas
 mod PartLemmas
 mod AddingLemmas
 mod CodedLemmas
-mod InTurnLemmas
+pub mod InTurnLemmas
 mod InstancesLemmas
 pub mod ObservedLemmas
 pub mod PlayingLemmas

@@ -20,10 +20,12 @@ pub mod ObserverLaws
 pub mod OneListLaws
 pub mod PartLaws
 pub mod PlantLaws
+pub mod RegularPartLaws
 pub mod RemainingLaws
 pub mod RunLaws
 pub mod SaidLaws
 pub mod SeenLaws
 pub mod SightLaws
 pub mod ToldLaws
+pub mod WellMadeLaws
 pub mod WorkedLaws

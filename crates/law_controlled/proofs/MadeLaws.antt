@@ -23,7 +23,7 @@ use Rattle.hp_controller.specs.declared.decoding.Control.{Control}
 use Rattle.hp_controller.specs.declared.decoding.ControlKind.{ControlKind}
 use Rattle.hp_controller.specs.declared.decoding.ControlKind.TheVariants.{Truth, Constructor}
 use Rattle.hp_controller.specs.Decoding.{HasBits, total_width}
-use Rattle.hp_controlled.specs.Choosing.{AreControls, AreNodesOf, IsChoosing, IsOwn, Suits, Telling, asking, constructor_kind, contract_name, control_kind, controller_name, first_gate, telling, told_outputs}
+use Rattle.hp_controlled.specs.Choosing.{AreControls, AreNodesOf, AreOfContract, IsChoosing, IsOwn, Suits, Telling, asking, constructor_kind, contract_name, control_kind, controller_name, first_gate, telling, told_outputs}
 use Rattle.hp_controlled.specs.Choosing.AreNodesOf.{without_contract, with_contract}
 use Rattle.hp_controlled.specs.Choosing.IsOwn.{that_stays, that_chooses}
 use Rattle.hp_controlled.specs.Compiled.AreNodes.{of_none, of_a_type, of_a_node}
@@ -82,7 +82,7 @@ first_of (u ∷ vs) zero v rest e =
     (ap (λ (x : Variable). Some x) same, others)
 first_of (u ∷ vs) (suc i) v rest e = first_of vs i v rest e
 
-of_types : (types : List ObcType) (n : FlatNode) (vs : List Variable) (ws : List ℕ) (cs : List Control) (target : ℕ) → drop target n.variables ≡ vs → AreControls types vs ws cs → AreOfTypes types n target cs
+pub of_types : (types : List ObcType) (n : FlatNode) (vs : List Variable) (ws : List ℕ) (cs : List Control) (target : ℕ) → drop target n.variables ≡ vs → AreControls types vs ws cs → AreOfTypes types n target cs
 of_types types n vs [] [] target e are = tt
 of_types types n vs [] (c ∷ cs) target e are = absurd are
 of_types types n [] (w ∷ ws) cs target e are = absurd are
@@ -152,7 +152,7 @@ module _ (types : List ObcType) (observers : Observing) (node : Node) (n : FlatN
   abbrev asks : FlatNode
   asks = asking node.name w a s.controls
 
-  whole : IsWhole w.node a.machine (controller_name node.name) w.early w.late s.controls c.node
+  pub whole : IsWhole w.node a.machine (controller_name node.name) w.early w.late s.controls c.node
   whole =
       let is = chooses.is in
       let ordered = is.node in
@@ -239,6 +239,72 @@ pub record OneMade (program : List Item) (types : List ObcType) (observers : Obs
   pub added : HasAdded made
   pub few : AllByRecursion HasFew these → AllByRecursion HasFew (nodes_of made)
 
+-- what is made of a node with a contract
+module _ (program : List Item) (types : List ObcType) (observers : Observing) (node : Node) (n controller own told : FlatNode) (named : n.name ≡ node.name) (are : AreOfContract program types observers node n controller own told) where
+  abbrev pub its : Abstraction
+  its = are.abstraction
+
+  abbrev pub choosing : Telling
+  choosing = let chosen = are.chosen in chosen.choosing
+
+  abbrev pub made_choosing : IsChoosing types observers node n its choosing
+  made_choosing = let chosen = are.chosen in chosen.is_choosing
+
+  abbrev pub suited : Suits types observers node n its
+  suited = made_choosing.suits
+
+  pub widths : (length suited.controls ≡ length its.machine.widths) × (total_width suited.controls ≡ sum its.machine.widths) × AllByRecursion (λ (k : Control). HasBits k.kind k.width) suited.controls
+  widths = widths_are types (drop (length node.inputs) n.variables) its.machine.widths suited.controls suited.are
+
+  abbrev pub assume_there : its.assume < length its.machine.gates
+  assume_there = let drawn = are.is_abstraction in let assume = drawn.assume in assume.there
+
+  abbrev pub enforce_there : its.enforce < length its.machine.gates
+  enforce_there = let drawn = are.is_abstraction in let enforce = drawn.enforce in enforce.there
+
+  pub chosen_named : choosing.node.name ≡ node.name
+  chosen_named =
+      let sees = suited.sees in
+      name_is types observers node n its choosing are.is_machine made_choosing assume_there enforce_there (larger types observers node (map (λ g. g.is_early) its.given.items) n suited.watched sees.is_watched) named
+
+  pub count : length suited.controls ≡ length (controls_of node.contract)
+  count = widths.0 ∙ suited.widths
+
+  pub own_is : (stands : FlatNode) × turn.IsOwn suited.controls (record { plant = n; controller = controller; own = stands; chosen = record { node = choosing.node; assume = choosing.assume; enforce = choosing.enforce } }) × IsMadeFrom stands own
+  own_is = let chosen = are.chosen in own_made node n choosing own suited.controls controller count chosen_named chosen.itself
+
+  pub places : (choosing.assume ≡ length (asking node.name suited.watched its suited.controls).variables) × (choosing.enforce ≡ suc choosing.assume)
+  places = numbers types observers node n its choosing are.is_machine made_choosing assume_there enforce_there
+
+  abbrev pub it : Contracted
+  it = record { plant = n; controller = controller; own = own_is.0; chosen = record { node = choosing.node; assume = choosing.assume; enforce = choosing.enforce } }
+
+  abbrev pub is_contracted : IsContracted types observers node it
+  is_contracted =
+      let sees = suited.sees in
+      let drawn = are.is_abstraction in
+      let its_machine = drawn.machine in
+      let machine = are.is_machine in
+      record {
+        machine = its.machine;
+        is_machine = machine;
+        named = its_machine.named;
+        controller = are.controls;
+        controls = suited.controls;
+        count = count;
+        kinds = of_types types n (drop (length node.inputs) n.variables) its.machine.widths suited.controls (length node.inputs) refl suited.are;
+        bits = widths.2;
+        widths = widths.1 ∙ machine.widths;
+        is_early = map (λ g. g.is_early) its.given.items;
+        watched = suited.watched;
+        is_watched = sees.is_watched;
+        early = sees.early;
+        whole = whole types observers node n its choosing machine made_choosing assume_there enforce_there;
+        assume = places.0;
+        enforce = places.1;
+        own = own_is.1;
+      }
+
 one_made : (program : List Item) (types : List ObcType) (observers : Observing) (node : Node) (n : FlatNode) (these : List FlatNode) → n.name ≡ node.name → AreNodesOf program types observers node n these → OneMade program types observers node n these
 one_made program types observers node n these named (without_contract none) = record { made = plain n; is = subst (λ k. IsMade types observers node k (plain n)) (sym none) tt; asks = tt; plant = refl; from = (itself, tt); added = tt; few = λ h. h }
 one_made program types observers node n these named (with_contract controller own told some are) =
@@ -247,40 +313,16 @@ one_made program types observers node n these named (with_contract controller ow
     let c = chosen.choosing in
     let chooses = chosen.is_choosing in
     let s = chooses.suits in
-    let sees = s.sees in
+    let made = it program types observers node n controller own told named are in
+    let is = is_contracted program types observers node n controller own told named are in
+    let stands = own_is program types observers node n controller own told named are in
+    let name = chosen_named program types observers node n controller own told named are in
     let drawn = are.is_abstraction in
-    let its_machine = drawn.machine in
+    let machine = are.is_machine in
     let assume = drawn.assume in
     let enforce = drawn.enforce in
-    let machine = are.is_machine in
-    let widths = widths_are types (drop (length node.inputs) n.variables) a.machine.widths s.controls s.are in
-    let grown = larger types observers node (map (λ g. g.is_early) a.given.items) n s.watched sees.is_watched in
-    let name = name_is types observers node n a c machine chooses assume.there enforce.there grown named in
-    let count : length s.controls ≡ length (controls_of node.contract) = widths.0 ∙ s.widths in
-    let own_is = own_made node n c own s.controls controller count name chosen.itself in
-    let after = numbers types observers node n a c machine chooses assume.there enforce.there in
-    let it : Contracted = record { plant = n; controller = controller; own = own_is.0; chosen = record { node = c.node; assume = c.assume; enforce = c.enforce } } in
-    let is : IsContracted types observers node it = record {
-      machine = a.machine;
-      is_machine = machine;
-      named = its_machine.named;
-      controller = are.controls;
-      controls = s.controls;
-      count = count;
-      kinds = of_types types n (drop (length node.inputs) n.variables) a.machine.widths s.controls (length node.inputs) refl s.are;
-      bits = widths.2;
-      widths = widths.1 ∙ machine.widths;
-      is_early = map (λ g. g.is_early) a.given.items;
-      watched = s.watched;
-      is_watched = sees.is_watched;
-      early = sees.early;
-      whole = whole types observers node n a c machine chooses assume.there enforce.there;
-      assume = after.0;
-      enforce = after.1;
-      own = own_is.1;
-    } in
     let gates = copied types observers node n a c machine chooses assume.there enforce.there in
-    let asks : AsksItsMachine program types observers node it = record {
+    let asks : AsksItsMachine program types observers node made = record {
       is = is;
       abstraction = a;
       is_abstraction = drawn;
@@ -291,16 +333,16 @@ one_made program types observers node n these named (with_contract controller ow
       enforce = gates.1;
     } in
     let adds : Adds n c.node = choosing_adds types observers node n a c chooses in
-    let told_name : turn.telling it.chosen ≡ with_outputs (contract_name node.name) (told_outputs c) c.node =
+    let told_name : turn.telling made.chosen ≡ with_outputs (contract_name node.name) (told_outputs c) c.node =
     λ j. record { name = contract_name (name j); variables = c.node.variables; inputs = c.node.inputs; outputs = told_outputs c; eqns = c.node.eqns } in
     record {
-      made = contracted it;
-      is = contract_made types observers node node.contract it some is;
+      made = contracted made;
+      is = contract_made types observers node node.contract made some is;
       asks = asks;
       plant = refl;
-      from = (itself, (own_is.2, (a_part c.node told (contract_name node.name) (told_outputs c) told_name chosen.tells, tt)));
+      from = (itself, (stands.2, (a_part c.node told (contract_name node.name) (told_outputs c) told_name chosen.tells, tt)));
       added = adds;
-      few = λ h. (h.0, (own_few s.controls it own_is.1 (few_before n c.node adds chosen.few) chosen.few, (chosen.few, tt)));
+      few = λ h. (h.0, (own_few s.controls made stands.1 (few_before n c.node adds chosen.few) chosen.few, (chosen.few, tt)));
     }
 
 -- ---- programs

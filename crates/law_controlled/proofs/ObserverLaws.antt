@@ -4,23 +4,21 @@ use Rattle.std.specs.Prelude.{slice_get}
 use Rattle.std.specs.Str.{bytes_eq}
 use Rattle.std.proofs.lemmas.List.{append_assoc, length-append}
 use Rattle.std.proofs.lemmas.Slice.Eq.{bytes_eq-Decides}
-use Rattle.hp_obc.specs.Form.{TypesForm}
 use Rattle.hp_complete.specs.Signatures.{numbered}
 use Rattle.hp_tree.specs.declared.program.Item.{Item}
 use Rattle.hp_tree.specs.declared.program.Item.TheVariants.{TypeItem, NodeItem}
 use Rattle.hp_tree.specs.Meaning.{types_of}
 use Rattle.hp_tree.specs.Programs.{Contract, Node}
-use Rattle.law_judged.specs.Named.Scoped.{EachNode}
-use Rattle.law_values.specs.Accepted.Laws.{IsReady}
-use Rattle.hp_automata.specs.NewNames.{is_new}
 use Rattle.hp_flat.specs.Nodes.{FlatNode}
 use Rattle.law_equations.specs.Followed.Programs.{CallsOnly}
-use Rattle.law_equations.specs.Made.Types.{obc_types, obc_types_of}
+use Rattle.law_equations.specs.Made.Types.{obc_types}
+use Rattle.law_equations.specs.Meaning.Kinding.{Callees}
+use Rattle.hp_obc.specs.Machines.{ObcType}
 use Rattle.hp_watch.specs.Watching.{Observed, Observing, observed}
-use Rattle.law_choices.specs.Adding.Surveyed.{Suits}
+use Rattle.law_choices.specs.Adding.Surveyed.{AllSuit, Suits}
+use Rattle.law_choices.specs.InTurn.Calling.{CallNothing}
 use Rattle.law_choices.specs.InTurn.Laws.{said_of}
-use Rattle.law_choices.specs.InTurn.Nodes.{Made, AreAllMade}
-use Rattle.law_choices.specs.InTurn.Observed.{CanBeObserved, with_contract, contracted_nodes, EachObserved, ObservedLaw}
+use Rattle.law_choices.specs.InTurn.Observed.{with_contract, contracted_nodes, EachObserved, ObservedLaw}
 use Rattle.law_choices.specs.InTurn.Observers.{IsObserver, ObserverLaw}
 use Rattle.hp_controlled.specs.Compiled.{name_if, names_with_contracts, contract_if, contracts_of, observed_all, numbered_of, AreObserved}
 use Rattle.law_controlled.specs.Observers.{ObserversSuitLaw}
@@ -86,32 +84,31 @@ module _ (P : Node → FlatNode → Type 0) (f : List ℕ) (o : Observed) where
 
 -- ---- the law
 
-module _ (observed_law : ObservedLaw) (observer_law : ObserverLaw) (program after : List Item) (observers : Observing) (ms : List Made) (r : IsReady program after) (form : TypesForm (obc_types_of program)) (signs : EachNode (λ (n : Node). is_new n.name ≡ false) after) (can : CanBeObserved after)
-    (all_made : AreAllMade (obc_types (types_of after)) observers after ms) (are : AreObserved after observers) where
+module _ (types : List ObcType) (all : Callees) (observer_law : ObserverLaw) (after : List Item) (observers : Observing) (are : AreObserved after observers) where
   abbrev Is : Node → FlatNode → Type 0
-  Is n g = IsObserver (obc_types (types_of after)) (said_of after ms) n.name g × CallsOnly [] g.eqns
+  Is n g = IsObserver types all n.name g × CallsOnly [] g.eqns
 
   abbrev named : List (Node × Contract)
   named = contracted_nodes after
 
-  same : (f : List ℕ) → observers f ≡ numbered_of (observed_all (map contract_of named) are.nodes) (numbered 0 (map name_of named) f)
-  same f = ap (λ (os : Observing). os f) are.are ∙ ap₂ (λ ns cs. numbered_of (observed_all cs are.nodes) (numbered 0 ns f)) (names_are after) (contracts_are after)
+  module _ (each : EachObserved Is (contracted_nodes after) are.nodes) where
+    same : (f : List ℕ) → observers f ≡ numbered_of (observed_all (map contract_of named) are.nodes) (numbered 0 (map name_of named) f)
+    same f = ap (λ (os : Observing). os f) are.are ∙ ap₂ (λ ns cs. numbered_of (observed_all cs are.nodes) (numbered 0 ns f)) (names_are after) (contracts_are after)
 
-  it : (f : List ℕ) (o : Observed) → observers f ≡ Some o → Found Is f o
-  it f o e =
-      let equations = are.equations in
-      found Is f o named are.nodes [] (observed_law program after observers ms are.nodes r form signs can all_made equations.made) (sym (same f) ∙ e)
+    it : (f : List ℕ) (o : Observed) → observers f ≡ Some o → Found Is f o
+    it f o e = found Is f o named are.nodes [] each (sym (same f) ∙ e)
 
-  suits : (f : List ℕ) (o : Observed) → Found Is f o → Suits (obc_types (types_of after)) (said_of after ms) f o
-  suits f o h =
-      subst (λ (z : Observed). Suits (obc_types (types_of after)) (said_of after ms) f z) h.4
-      (subst (λ x. Suits (obc_types (types_of after)) (said_of after ms) x (observed h.1 h.2)) h.3 (observer_law (obc_types (types_of after)) (said_of after ms) h.0.name h.1 h.2 h.5.0))
+    suits : (f : List ℕ) (o : Observed) → Found Is f o → Suits types all f o
+    suits f o h = subst (λ (z : Observed). Suits types all f z) h.4 (subst (λ x. Suits types all x (observed h.1 h.2)) h.3 (observer_law types all h.0.name h.1 h.2 h.5.0))
 
-  calls : (f : List ℕ) (o : Observed) → Found Is f o → CallsOnly [] o.node.eqns
-  calls f o h = subst (λ (z : Observed). CallsOnly [] z.node.eqns) h.4 h.5.1
+    calls : (f : List ℕ) (o : Observed) → Found Is f o → CallsOnly [] o.node.eqns
+    calls f o h = subst (λ (z : Observed). CallsOnly [] z.node.eqns) h.4 h.5.1
+
+    -- the observers suit, and call nothing, where they take what is said of the nodes that they belong to
+    pub observers_suit_by : AllSuit types all observers × CallNothing observers
+    observers_suit_by = ((λ f o e. suits f o (it f o e)), (λ f o e. calls f o (it f o e)))
 
 pub observers_suit_law : ObservedLaw → ObserverLaw → ObserversSuitLaw
-observers_suit_law observed_law observer_law program after observers ms r form signs can all_made are = (
-  (λ f o e. suits observed_law observer_law program after observers ms r form signs can all_made are f o (it observed_law observer_law program after observers ms r form signs can all_made are f o e)),
-  (λ f o e. calls observed_law observer_law program after observers ms r form signs can all_made are f o (it observed_law observer_law program after observers ms r form signs can all_made are f o e)),
-)
+observers_suit_law observed_law observer_law program after observers ms r form signs can all_made are =
+    let equations = are.equations in
+    observers_suit_by (obc_types (types_of after)) (said_of after ms) observer_law after observers are (observed_law program after observers ms are.nodes r form signs can all_made equations.made)

@@ -26,7 +26,7 @@ many (true ∷ ms) = suc (many ms)
 many (false ∷ ms) = many ms
 
 -- how many of them before a place
-abbrev before : List Bool → ℕ → ℕ
+abbrev pub before : List Bool → ℕ → ℕ
 before [] x = 0
 before (true ∷ ms) zero = 0
 before (true ∷ ms) (suc x) = suc (before ms x)
@@ -89,7 +89,7 @@ number_from (false ∷ ms) k (suc x) h =
     let less : x < length ms = omega (arith, h) in
     number_from ms k x less
 
-number_is : (ms : List Bool) (x : ℕ) → x < length ms → number_at (numbers_from 0 ms) x ≡ before ms x
+pub number_is : (ms : List Bool) (x : ℕ) → x < length ms → number_at (numbers_from 0 ms) x ≡ before ms x
 number_is ms x h =
     let zero_plus : 0 + before ms x ≡ before ms x = omega arith in
     ap (λ o. unwrap_or o x) (number_from ms 0 x h) ∙ zero_plus

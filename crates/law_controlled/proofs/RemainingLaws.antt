@@ -1,10 +1,12 @@
 -- Most causes are in the way of no accepted program whose contracts are kept.
-use Rattle.std.proofs.Common.{◌≡◌, inl, inr, ℕ, ◌+◌, ◌≤◌, List, [], ◌∷◌, ◌++◌, length, map, drop, reverse, Option, None, Some, refl, sym, ap, ap₂, subst, ◌∙◌, arith}
+use Rattle.std.proofs.Common.{◌≡◌, inl, inr, ℕ, Bool, true, false, ◌||◌, ◌+◌, ◌≤◌, List, [], ◌∷◌, ◌++◌, length, map, drop, reverse, Option, None, Some, refl, sym, ap, ap₂, subst, ◌∙◌, arith}
 use Rattle.std.specs.Prelude.{All, IsTrue, is_some, option_map}
 use Rattle.std.specs.List.{AllByRecursion}
+use Rattle.std.specs.Str.{bytes_eq}
 use Rattle.std.proofs.lemmas.List.{length-map}
+use Rattle.std.proofs.lemmas.Slice.Eq.{bytes_eq-Decides}
 use Rattle.std.proofs.lemmas.List.Elements.{All-head, All-tail}
-use Rattle.hp_obc.specs.Form.{HasConstructors, TypesForm}
+use Rattle.hp_obc.specs.Form.{TypesForm, has_name}
 use Rattle.hp_obc.specs.Machines.{ObcType}
 use Rattle.hp_tree.specs.Blocks.{Decl}
 use Rattle.hp_tree.specs.Instant.{Controls}
@@ -22,10 +24,12 @@ use Rattle.hp_clocks.specs.Writing.{AreWritten}
 use Rattle.hp_expand.specs.Numbering.{no_node, with_node, replaced_node, replaced_items, replaced}
 use Rattle.law_values.specs.Filled.Firsts.{NodeHasFirsts}
 use Rattle.law_values.proofs.FilledLemmas.Ready.{ready_firsts}
+use Rattle.hp_automata.specs.NewNames.{is_new}
 use Rattle.hp_automata.specs.Lowering as lowering
 use Rattle.hp_automata.specs.Lowering.{Enumerations, Types, enumerations, lowered_contract, lowered_item, lowered_node, lowered_program}
 use Rattle.law_automata.specs.Lowered.Laws.{RanksLaw}
 use Rattle.hp_flat.specs.Nodes.{FlatNode}
+use Rattle.law_equations.specs.Meaning.Kinding.{Callees, EqnKinds}
 use Rattle.law_equations.specs.Made.Making.{Known, outputs_of}
 use Rattle.law_equations.specs.Made.Types.{obc_type_of, obc_types, obc_types_of}
 use Rattle.hp_complete.specs.Declaring.{known_of}
@@ -49,25 +53,38 @@ use Rattle.law_games.specs.Mirror.Mirrored.{controls_among, widths_at}
 use Rattle.law_drawing.specs.Mirrors.Drawn.{DrawnMirrorsLaw, DrawnSafeLaw}
 use Rattle.law_drawing.proofs.MirrorsLemmas.Reading.{node_reads}
 use Rattle.law_history.proofs.StreamsLemmas.Asked.{Splits, split_first, split_next}
+use Rattle.law_choices.specs.Adding.Made.{CompiledMadeLaw, IsReadyMade}
+use Rattle.law_choices.specs.InTurn.Nodes.{Contracted, IsContracted}
+use Rattle.law_choices.specs.InTurn.Observed.{CanBeObserved}
+use Rattle.law_choices.specs.InTurn.Observers.{ObserverLaw}
+use Rattle.law_choices.specs.InTurn.Texts.{SignLaw}
 use Rattle.law_choices.specs.Observed.Contracts.{IsObservable}
+use Rattle.law_choices.specs.Observed.Laws.{CanBeObservedLaw, TestedObserversLaw}
+use Rattle.law_choices.specs.OnClocks.WellMade.{calls_of}
 use Rattle.law_choices.specs.Observed.Texts.{ObservableTextsLaw}
 use Rattle.law_choices.specs.Places.Laws.{CountLaw}
+use Rattle.law_choices.proofs.InTurnLemmas.Programs.{TurnLaws}
 use Rattle.law_choices.proofs.ObservedLemmas.Programs.{observers_in_order}
+use Rattle.law_choices.proofs.OnClocksLemmas.OneMeaning.{AreTurned, IsTurned, ready_nodes}
 use Rattle.law_choices.proofs.OnClocksLemmas.Programs.{compilable_law, number_of, some_of}
 use Rattle.law_choices.proofs.OnClocksLemmas.Texts.{IsArranged, when_accepted}
 use Rattle.law_choices.proofs.PlayingLemmas.ControlBits.{control_row, controls-are, here as self}
-use Rattle.hp_controlled.specs.Choosing.{AreControls, AreNodesOf, Suits}
+use Rattle.hp_controlled.specs.Choosing.{AreControls, AreNodesOf, AreOfContract, IsOwn, Suits, Telling, contract_name, told_outputs}
 use Rattle.hp_controlled.specs.Choosing.AreNodesOf.{without_contract, with_contract}
+use Rattle.hp_controlled.specs.Choosing.IsOwn.{that_stays, that_chooses}
 use Rattle.hp_controlled.specs.Compiled.{AreEquationsOf, AreObserved, contracts_of}
 use Rattle.hp_controlled.specs.Lacking.{ChoosesNot, FitContracts, HasCircularEquations, HasNoChosenMachines, LacksCompiled, LacksMachines, LacksNodes, LacksObservers, OneLacksMachines}
 use Rattle.hp_controlled.specs.Lacking.OneLacksMachines.{none_left, here, behind_a_node, behind_a_type}
 use Rattle.law_controlled.specs.Remaining.{Hinders, IsHindered, Remaining, RemainingLaw, SeesAll}
-use Rattle.law_controlled.specs.Remaining.Hinders.{unseen, circular, irregular, uncontracted}
+use Rattle.law_controlled.specs.Remaining.Hinders.{unseen, circular, uncontracted}
 use Rattle.law_controlled.specs.Remaining.Remaining.{one_hindered, formless}
 use Rattle.law_controlled.proofs.CircleLaws.{no_circle}
 use Rattle.law_controlled.proofs.FitLaws.{contracts_fit}
 use Rattle.law_controlled.proofs.KeptLaws.{not_refused, safe_on_each}
+use Rattle.law_controlled.proofs.MadeLaws.{is_contracted, it}
+use Rattle.law_controlled.proofs.RegularPartLaws.{kinds_regular, part_regular}
 use Rattle.law_controlled.proofs.SightLaws.{NamedIn, has_observer, node_controls, suits}
+use Rattle.law_controlled.proofs.WellMadeLaws.{all as said_with, chosen_well}
 
 -- the laws that are joined here
 pub record RemainingLaws : Type 0 where
@@ -82,6 +99,12 @@ pub record RemainingLaws : Type 0 where
   pub mirrors : DrawnMirrorsLaw
   pub contracts : ReadyContractsLaw
   pub observable : ObservableTextsLaw
+  pub sign : SignLaw
+  pub can : CanBeObservedLaw
+  pub tested : TestedObserversLaw
+  pub turn : TurnLaws
+  pub made : CompiledMadeLaw
+  pub observer : ObserverLaw
 
 -- ---- names of nodes
 
@@ -108,15 +131,28 @@ short_written (NodeItem n ∷ xs) (y ∷ ys) w h = let it = w.0 in subst (λ z. 
 
 -- ---- one node that lacks its machines
 
--- A node has a short name, and each of its declarations has a first value.
+-- a controller calls no node
+abbrev no_callees : Callees
+no_callees = record { takes = λ f. []; gives = λ f. [] }
+
+-- A node has a short name without the sign, and each of its declarations has a first value.
 record IsKnown (types : List TypeDecl) (n : Node) : Type 0 where
   is_short : Short n
+  unsigned : is_new n.name ≡ false
   firsts : NodeHasFirsts types n
 
-all_known : (types : List TypeDecl) (items : List Item) → EachNode Short items → EachNode (NodeHasFirsts types) items → EachNode (IsKnown types) items
-all_known types [] h g = tt
-all_known types (TypeItem t ∷ items) h g = all_known types items h g
-all_known types (NodeItem n ∷ items) h g = (record { is_short = h.0; firsts = g.0 }, all_known types items h.1 g.1)
+all_known : (types : List TypeDecl) (items : List Item) → EachNode Short items → EachNode (λ (n : Node). is_new n.name ≡ false) items → EachNode (NodeHasFirsts types) items → EachNode (IsKnown types) items
+all_known types [] h u g = tt
+all_known types (TypeItem t ∷ items) h u g = all_known types items h u g
+all_known types (NodeItem n ∷ items) h u g = (record { is_short = h.0; unsigned = u.0; firsts = g.0 }, all_known types items h.1 u.1 g.1)
+
+-- a name is none of those with the sign, as those before it
+signed_more : (f : List ℕ) (names : List (List ℕ)) → is_new f ≡ false → ((g : List ℕ) → has_name names g ≡ true → is_new g ≡ false) → (g : List ℕ) → has_name (f ∷ names) g ≡ true → is_new g ≡ false
+signed_more f names plain h g there = by (bytes_eq f g) refl there
+  where
+    by : (b : Bool) → bytes_eq f g ≡ b → (b || has_name names g) ≡ true → is_new g ≡ false
+    by true e q = subst (λ z. is_new z ≡ false) ((bytes_eq-Decides f g).0 e) plain
+    by false e q = h g q
 
 controls_low : (enums : Enumerations) (types : Types) (o : Option Contract) → controls_of (option_map (lowered_contract enums types) o) ≡ controls_of o
 controls_low enums types None = refl
@@ -136,22 +172,29 @@ module _ (after : List Item) (k : Known) (enums : Enumerations) (places : List �
     made : IsMadeOf k (lowered_node enums node) plant
     flat : IsFlat places (lowered_node enums node) plant
     regular : EqnsRegular types plant
+    ready : IsReadyMade types (calls_of types k) plant
+    names : List (List ℕ)
+    turned : IsTurned types k names (lowered_node enums node) plant
+    signed : (f : List ℕ) → has_name names f ≡ true → is_new f ≡ false
     known : IsKnown decls node
     kept : IsTrue (is_some node.contract) → IsKept after node
     lacks : LacksMachines after types seen node plant
 
   -- what is known of some nodes and of their clocked equations
-  record AreKnown (items : List Item) (ns : List FlatNode) : Type 0 where
+  record AreKnown (names : List (List ℕ)) (items : List Item) (ns : List FlatNode) : Type 0 where
     are_made : AreMadeOf k (map (lowered_item enums) items) ns
     are_flat : AreFlat places (map (lowered_item enums) items) ns
     are_regular : AllByRecursion (EqnsRegular types) ns
+    are_ready : AllByRecursion (IsReadyMade types (calls_of types k)) ns
+    are_turned : AreTurned types k names (map (lowered_item enums) items) ns
+    are_signed : (f : List ℕ) → has_name names f ≡ true → is_new f ≡ false
     are_known : EachNode (IsKnown decls) items
     are_kept : All (KeptItem after) items
     are_named : (f : List ℕ) → NamedIn items f → NamedIn after f
 
-  found : (before items : List Item) (ns : List FlatNode) → Splits (reverse after) before items → AreKnown items ns → OneLacksMachines after types seen items ns → Lacking
-  found before items ns e h (none_left {items = rest} node) = absurd h.are_made
-  found before items ns e h (here {items = rest} {ns = others} node n lacks) = record {
+  found : (before items : List Item) (ns : List FlatNode) (names : List (List ℕ)) → Splits (reverse after) before items → AreKnown names items ns → OneLacksMachines after types seen items ns → Lacking
+  found before items ns names e h (none_left {items = rest} node) = absurd h.are_made
+  found before items ns names e h (here {items = rest} {ns = others} node n lacks) = record {
     node = node;
     plant = n;
     earlier = before;
@@ -160,33 +203,46 @@ module _ (after : List Item) (k : Known) (enums : Enumerations) (places : List �
     made = h.are_made.0;
     flat = h.are_flat.0;
     regular = h.are_regular.0;
+    ready = h.are_ready.0;
+    names = names;
+    turned = h.are_turned.0;
+    signed = h.are_signed;
     known = h.are_known.0;
     kept = All-head (KeptItem after) (NodeItem node) rest h.are_kept;
     lacks = lacks;
   }
-  found before items ns e h (behind_a_node {items = rest} {ns = others} node n lacks) =
-      found (NodeItem node ∷ before) rest others (split_next (reverse after) before rest (NodeItem node) e)
+  found before items ns names e h (behind_a_node {items = rest} {ns = others} node n lacks) =
+      found (NodeItem node ∷ before) rest others (n.name ∷ names) (split_next (reverse after) before rest (NodeItem node) e)
       (record {
         are_made = h.are_made.1;
         are_flat = h.are_flat.1;
         are_regular = h.are_regular.1;
+        are_ready = h.are_ready.1;
+        are_turned = h.are_turned.1;
+        are_signed = signed_more n.name names (let known = h.are_known.0 in let made = h.are_made.0 in ap is_new made.name ∙ known.unsigned) h.are_signed;
         are_known = h.are_known.1;
         are_kept = All-tail (KeptItem after) (NodeItem node) rest h.are_kept;
         are_named = λ f there. h.are_named f (inr there);
       }) lacks
-  found before items ns e h (behind_a_type {items = rest} {ns = others} t lacks) =
-      found (TypeItem t ∷ before) rest ns (split_next (reverse after) before rest (TypeItem t) e)
+  found before items ns names e h (behind_a_type {items = rest} {ns = others} t lacks) =
+      found (TypeItem t ∷ before) rest ns names (split_next (reverse after) before rest (TypeItem t) e)
       (record {
         are_made = h.are_made;
         are_flat = h.are_flat;
         are_regular = h.are_regular;
+        are_ready = h.are_ready;
+        are_turned = h.are_turned;
+        are_signed = h.are_signed;
         are_known = h.are_known;
         are_kept = All-tail (KeptItem after) (TypeItem t) rest h.are_kept;
         are_named = h.are_named;
       }) lacks
 
-  module _ (laws : RemainingLaws) (program : List Item) (ranks : List (List ℕ)) (order : IsInOrder program after ranks) (counts : All HasConstructors types) (many : length decls ≤ 1000) (are : (x : List ℕ) → places x ≡ numbered 0 (map (λ (d : TypeDecl). d.name) decls) x)
-      (same : types_of after ≡ decls) (seen_are : AreObserved after seen) (l : Lacking) where
+  module _ (laws : RemainingLaws) (program : List Item) (ranks : List (List ℕ)) (order : IsInOrder program after ranks) (form : TypesForm types) (are : (x : List ℕ) → places x ≡ numbered 0 (map (λ (d : TypeDecl). d.name) decls) x)
+      (same : types_of after ≡ decls) (seen_are : AreObserved after seen) (l : Lacking)
+      (wells :
+      (c : Contracted) → IsContracted types seen l.node c → (names : List (List ℕ)) → IsTurned types k names (lowered_node enums l.node) c.plant → IsMadeOf k (lowered_node enums l.node) c.plant → IsReadyMade types (calls_of types k) c.plant
+      → ((f : List ℕ) → has_name names f ≡ true → is_new f ≡ false) → is_new c.plant.name ≡ false → (all : Callees) × AllByRecursion (EqnKinds types all c.chosen.node.variables) c.chosen.node.eqns) where
     abbrev Left : Type 0
     Left = Hinders after types seen l.node l.plant
 
@@ -227,7 +283,9 @@ module _ (after : List Item) (k : Known) (enums : Enumerations) (places : List �
         let known = l.known in
         let firsts = known.firsts in
         let reads = node_reads program after ranks order l.earlier l.node l.stands in
-        let controls = node_controls decls counts many places are l.node l.plant signed reads.controls firsts.controls (below Controls self) in
+        let long = length-map decls obc_type_of in
+        let number = form.number in
+        let controls = node_controls decls form.counts (omega (arith, number, long)) places are l.node l.plant signed reads.controls firsts.controls (below Controls self) in
         suits types seen l.node l.plant a own (made.inputs ∙ ap (λ cs. length l.node.inputs + length cs) lower)
         (subst (λ ws. (cs : List Control) × AreControls types (drop (length l.node.inputs) l.plant.variables) ws cs × (length ws ≡ length (controls_of l.node.contract))) (sym (widths a is)) controls)
         (sym (laws.count (λ f. map (λ (d : Decl). d.name) (outputs_of (k.nodes f))) k enums l.node l.plant.eqns (λ f. refl) made.eqns)) has all
@@ -254,13 +312,36 @@ module _ (after : List Item) (k : Known) (enums : Enumerations) (places : List �
         let some : IsTrue (is_some l.node.contract) = subst (λ o. IsTrue (is_some o)) (sym e) refl in
         no_nodes some (l.kept some) lacks
 
+    -- the node itself is its clocked equations, or a part of the one that chooses
+    own_regular : (own : FlatNode) (c : Telling) → IsOwn l.node l.plant c own → EqnsRegular types c.node → EqnsRegular types own
+    own_regular own c (that_stays none same) h = subst (EqnsRegular types) (sym same) l.regular
+    own_regular own c (that_chooses some part) h = part_regular types c.node l.node.name c.node.outputs own part h
+
+    -- the nodes that are made of a node with a contract
+    nodes_regular : (controller own told : FlatNode) → AreOfContract after types seen l.node l.plant controller own told → AllByRecursion (EqnsRegular types) (controller ∷ own ∷ told ∷ [])
+    nodes_regular controller own told are =
+        let made = l.made in
+        let known = l.known in
+        let chosen = are.chosen in
+        let t = chosen.choosing in
+        let of_contract = it after types seen l.node l.plant controller own told made.name are in
+        let is = is_contracted after types seen l.node l.plant controller own told made.name are in
+        let well = wells of_contract is l.names l.turned made l.ready l.signed (ap is_new made.name ∙ known.unsigned) in
+        let regular : EqnsRegular types t.node = kinds_regular types well.0 t.node.variables t.node.eqns form well.1 in
+        let k = are.controls in
+        let controls = k.well_made types no_callees in (
+          kinds_regular types no_callees controller.variables controller.eqns form controls.kinds,
+          (own_regular own t chosen.itself regular, (part_regular types t.node (contract_name l.node.name) (told_outputs t) told chosen.tells regular, tt)),
+        )
+
     no_machines : LacksMachines after types seen l.node l.plant → Left
     no_machines (LacksMachines.lacks_nodes lacks) = no_nodes_if l.node.contract refl lacks
     no_machines (LacksMachines.irregular these nodes_are none) = by these nodes_are none
       where
         by : (these : List FlatNode) → AreNodesOf after types seen l.node l.plant these → (AllByRecursion (EqnsRegular types) these → ⊥) → Left
         by these (without_contract e) none = absurd (none (l.regular, tt))
-        by these (with_contract controller own told some are) none = irregular controller own told some are none
+        by these (with_contract controller own told some are) none =
+            absurd (none (nodes_regular controller own told are))
 
     hindered : IsHindered after types seen
     hindered = record { node = l.node; plant = l.plant; earlier = l.earlier; stands = l.stands; hinders = no_machines l.lacks }
@@ -275,6 +356,7 @@ record IsBuildable (program after : List Item) (ranks : List (List ℕ)) : Type 
   kept : AreKept after after
   calls : ContractsCallNothing after
   observable : EachNode IsObservable after
+  unsigned : EachNode (λ (n : Node). is_new n.name ≡ false) after
 
 module _ (laws : RemainingLaws) (program after : List Item) (ranks : List (List ℕ)) (b : IsBuildable program after ranks) where
   abbrev low : List Item
@@ -306,6 +388,11 @@ module _ (laws : RemainingLaws) (program after : List Item) (ranks : List (List 
       let c = observers_in_order laws.ranks program after ranks order q.removable q.form q.short b.calls b.observable (laws.all_ranks after ranks order.ordered) in
       no_circle laws.no_circle program (lowered_program (observers after)) c.0.0 c.0.1 c.1 circle
 
+  can_be : CanBeObserved after
+  can_be =
+      let q = b.arranged in
+      laws.can program after q.ready q.removable q.form q.short b.calls b.observable (laws.tested program after ranks b.order q.removable q.form q.short b.calls b.observable)
+
   fit : (ns : List FlatNode) → AreEquationsOf (observers after) ns → FitContracts (contracts_of after) ns
   fit ns equations =
       let seen = lowered_program (observers after) in
@@ -319,14 +406,27 @@ module _ (laws : RemainingLaws) (program after : List Item) (ranks : List (List 
       let q = b.arranged in
       let c = compilable_law program after q.ready q.removable q.form in
       let form : TypesForm (obc_types (types_of after)) = subst (λ ts. TypesForm (obc_types ts)) (sym (sym (types_low (enumerations [] after) after) ∙ c.0.same)) q.form in
-      let number = form.number in
-      let long = length-map (types_of after) obc_type_of in
+      let turns = laws.turn in
+      let nodes = ready_nodes turns.targets turns.calls program after q.ready q.removable q.form q.short plants equations.made in
       let l =
-      found after (known_of low) (enumerations [] after) (places_of low) (types_of after) seen [] after plants (split_first after)
-      (record { are_made = equations.made; are_flat = equations.flat; are_regular = all_regular plants equations.made; are_known = b.known; are_kept = b.kept; are_named = λ f h. h }) lacks in
+      found after (known_of low) (enumerations [] after) (places_of low) (types_of after) seen [] after plants [] (split_first after)
+      (record {
+        are_made = equations.made;
+        are_flat = equations.flat;
+        are_regular = all_regular plants equations.made;
+        are_ready = turns.ready program after q.ready q.removable q.form q.short plants equations.made;
+        are_turned = nodes.turned;
+        are_signed = λ f h. absurd cc;
+        are_known = b.known;
+        are_kept = b.kept;
+        are_named = λ f h. h;
+      }) lacks in
       one_hindered plants seen equations are
-      (hindered after (known_of low) (enumerations [] after) (places_of low) (types_of after) seen laws program ranks b.order form.counts (omega (arith, number, long))
-      (λ x. ap (λ names. numbered 0 names x) (names_of_types low ∙ ap (λ ds. map (λ (d : TypeDecl). d.name) ds) (types_low (enumerations [] after) after))) refl are l)
+      (hindered after (known_of low) (enumerations [] after) (places_of low) (types_of after) seen laws program ranks b.order form
+      (λ x. ap (λ names. numbered 0 names x) (names_of_types low ∙ ap (λ ds. map (λ (d : TypeDecl). d.name) ds) (types_low (enumerations [] after) after))) refl are l
+      (λ c is names t made ready signed plain.
+      let well = chosen_well laws.turn laws.made laws.observer program after q b.unsigned can_be seen are l.node c is names t made ready signed plain in
+      (said_with laws.turn laws.made laws.observer program after q b.unsigned can_be seen are l.node c is, well.kinds)))
   left (HasNoChosenMachines.formless ms are none) = formless ms are none
 
 pub remaining_law : RemainingLaws → RemainingLaw
@@ -334,14 +434,16 @@ remaining_law laws text tokens program after ranks a p named typed defined forme
     let q = when_accepted text tokens program after a p named typed defined formed initialised clocks in
     let form = q.form in
     let short = short_written (replaced program) after clocks (short_replaced no_node program (source_short program (laws.names text tokens program a p))) in
+    let unsigned = laws.sign text tokens program after a p clocks in
     let firsts = ready_firsts program after q.ready (some_of (types_of program) form.counts) in
     let order = laws.order text tokens program after ranks a p named typed defined formed initialised clocks fall in
     let b : IsBuildable program after ranks = record {
       arranged = q;
       order = order;
-      known = all_known (types_of after) after short firsts;
+      known = all_known (types_of after) after short unsigned firsts;
       kept = kept;
       calls = laws.contracts program after q.ready order.conditions;
       observable = laws.observable text tokens program after a p clocks;
+      unsigned = unsigned;
     } in
     left laws program after ranks b none

@@ -22,6 +22,11 @@ use hp_meaning::contract::{
     choice_is_permitted, choices_are_values, duty_is_kept, reactions_are_instants_of_the_game,
 };
 use law_automata::lowered::ranks_are_kept;
+use law_choices::adding::{
+    callees_may_differ_elsewhere, equations_may_be_added, made_nodes_may_be_added_to,
+    watched_nodes_choose,
+};
+use law_choices::answered::extended_nodes_close;
 use law_choices::in_turn::{
     a_node_stands_for_each, a_node_tells_each_contract,
     nodes_that_choose_answer_as_the_program_allows, nodes_that_choose_stand_in_turn,
@@ -46,7 +51,7 @@ use law_choices::seeing::{
 use law_choices::undisturbed::controls_are_apart;
 use law_drawing::mirrors::{drawn_games_are_kept, drawn_nodes_are_mirrored};
 use law_equations::fewer::nodes_are_compiled;
-use law_equations::fitting::{larger_names_are_free, names_fit};
+use law_equations::fitting::{calls_are_kept, larger_names_are_free, names_fit, targets_differ};
 use law_equations::followed::names_are_own;
 use law_games::ready_games::{
     contracts_call_nothing, programs_of_texts_are_in_order, ready_nodes_are_settled,
@@ -189,7 +194,7 @@ pub fn programs_that_choose_have_one_list_of_machines()
     contracts_of_texts_can_be_observed();
 }
 
-/// Where the contracts of the program of an accepted text are kept, few causes are left for which the compiler would have no machines of it: clocked equations of its nodes, and of the observers of contracts, read each other in no circle; those of nodes are regular, each contract has as many comparisons as its clocked equations, names are short, no machine is refused or forced to violate its contract, and each controllable variable has the bits of its type.
+/// Where the contracts of the program of an accepted text are kept, few causes are left for which the compiler would have no machines of it: clocked equations of its nodes, and of the observers of contracts, read each other in no circle; those of nodes, and of all that is made of them, are regular, each contract has as many comparisons as its clocked equations, names are short, no machine is refused or forced to violate its contract, and each controllable variable has the bits of its type.
 pub fn few_causes_are_left()
     ensures { RemainingLaw }
 {
@@ -201,6 +206,17 @@ pub fn few_causes_are_left()
     walks_find_places();
     contracts_call_nothing();
     contracts_of_texts_can_be_observed();
+    programs_of_texts_may_choose();
+    observers_can_be_compiled();
+    tests_of_observers_are_typed();
+    watched_nodes_choose();
+    equations_may_be_added();
+    extended_nodes_close();
+    callees_may_differ_elsewhere();
+    made_nodes_may_be_added_to();
+    targets_differ();
+    calls_are_kept();
+    well_built_observers_suit();
     programs_of_texts_are_in_order();
     drawn_nodes_are_mirrored();
     drawn_games_are_kept();

@@ -22,7 +22,9 @@ use Rattle.law_equations.specs.Flattened.Lifted.{in_body}
 use Rattle.law_equations.specs.Followed.Programs.{CallsAmong, CallsOnly}
 use Rattle.law_equations.specs.Made.Laws.{unplaced}
 use Rattle.law_equations.specs.Made.Making.{Known, flat_type, outputs_of, sketch_node}
-use Rattle.law_equations.specs.Made.Types.{obc_types}
+use Rattle.hp_obc.specs.Form.{TypesForm}
+use Rattle.law_values.specs.Accepted.Laws.{IsReady}
+use Rattle.law_equations.specs.Made.Types.{obc_types, obc_types_of}
 use Rattle.law_equations.specs.Meaning.Kinding.{Callees, kind_of_type, kinds_at}
 use Rattle.law_equations.specs.Meaning.Reactions.{inputs_of}
 use Rattle.hp_complete.specs.Declaring.{known_of}
@@ -40,7 +42,7 @@ use Rattle.law_choices.specs.Adding.Called.{SaysSame, CalledLaw}
 use Rattle.law_choices.specs.Adding.Made.{IsReadyMade, CompiledMadeLaw}
 use Rattle.law_choices.specs.InTurn.Laws.{said_of}
 use Rattle.law_choices.specs.InTurn.Nodes.{besides}
-use Rattle.law_choices.specs.InTurn.Observed.{with_contract, contracted_nodes, EachObserved, CallsNone, ObservedLaw}
+use Rattle.law_choices.specs.InTurn.Observed.{CanBeObserved, with_contract, contracted_nodes, EachObserved, CallsNone, ObservedLaw}
 use Rattle.law_choices.specs.InTurn.Observers.{IsObserver}
 use Rattle.law_choices.proofs.InTurnLemmas.Programs.{besides_new}
 use Rattle.law_choices.proofs.InTurnLemmas.Said.{SaySame, said_old}
@@ -150,12 +152,14 @@ each_says types own enums all old names (NodeItem n ∷ items) fresh signs =
       each_says types own enums all old (n.name ∷ names) items fresh.2 signs.1,
     )
 
-pub observed_law : CompiledMadeLaw → CalledLaw → CallsLaw → ObservedLaw
-observed_law made_law called_law calls_law program after observing ms fs r form signs can all_made made =
+-- So it is where the same is said of names without the sign as of the nodes of the program.
+pub observed_by : CompiledMadeLaw → CalledLaw → CallsLaw → (program after : List Item) (all : Callees) (fs : List FlatNode) → IsReady program after → TypesForm (obc_types_of program) → EachNode (λ (n : Node). is_new n.name ≡ false) after → CanBeObserved after
+    → ((f : List ℕ) → is_new f ≡ false → SaySame (callees_of after) all f) → AreMadeOf (known_of (lowered_program (observers after))) (lowered_program (observers after)) fs
+    → EachObserved (λ n f. IsObserver (obc_types (types_of after)) all n.name f × CallsOnly [] f.eqns) (contracted_nodes after) fs
+observed_by made_law called_law calls_law program after all fs r form signs can old made =
     let low = lowered_program after in
     let seen = lowered_program (observers after) in
     let types = obc_types (types_of after) in
-    let all = said_of after ms in
     let same : types_of seen ≡ types_of after = types_watched after in
     let t : HasTypesOf program seen = record { same = same ∙ types_same program after r; named = r.named; form = form } in
     let names : type_names seen ≡ type_names low =
@@ -163,5 +167,10 @@ observed_law made_law called_law calls_law program after observing ms fs r form 
     let ready = subst (λ ts. AllByRecursion (IsReadyMade (obc_types ts) (calls_of (obc_types ts) (known_of seen))) fs) same (made_law program seen t can.compilable can.short fs made) in
     let clocked = subst (λ ts. EachNode (Clocked (obc_types ts) (known_of seen)) seen) same (compiled_clocked program seen t can.compilable) in
     let apart = lowered_apart program after r.named (clocked_of (replaced program) after r.clocks) in
-    let says = each_says types (known_of low) (enumerations [] after) all (λ f e. said_old types (callees_of after) (flat_map besides ms) f (besides_new types observing after ms all_made) e) [] after (all_fresh low apart) signs in
+    let says = each_says types (known_of low) (enumerations [] after) all old [] after (all_fresh low apart) signs in
     all_observe called_law calls_law types (known_of low) (known_of seen) (ap (λ (ns : List (List ℕ)). numbered 0 ns) names) (enumerations [] (observers after)) all after says fs made clocked can.alone ready
+
+pub observed_law : CompiledMadeLaw → CalledLaw → CallsLaw → ObservedLaw
+observed_law made_law called_law calls_law program after observing ms fs r form signs can all_made made =
+    observed_by made_law called_law calls_law program after (said_of after ms) fs r form signs can
+    (λ f e. said_old (obc_types (types_of after)) (callees_of after) (flat_map besides ms) f (besides_new (obc_types (types_of after)) observing after ms all_made) e) made

@@ -4,25 +4,24 @@ use Rattle.std.proofs.Math.Path.{fun_ext}
 use Rattle.std.specs.Prelude.{IsTrue}
 use Rattle.std.specs.Str.{bytes_eq}
 use Rattle.hp_base.specs.declared.span.Span.{Span}
-use Rattle.hp_base.specs.declared.ty.Const.{Const}
-use Rattle.hp_tree.specs.Expressions.{Expr, constant, variable}
+use Rattle.hp_tree.specs.Expressions.{Expr, variable}
 use Rattle.hp_tree.specs.Blocks.{Decl, Block, block, Eqns, no_eqn, more_eqns, Eqn, define, switch, reset, automaton, eqns_of, list_of_eqns}
 use Rattle.hp_tree.specs.Programs.{Contract, Node}
 use Rattle.hp_tree.specs.declared.program.Item.{Item}
 use Rattle.hp_tree.specs.declared.program.Item.TheVariants.{TypeItem, NodeItem}
 use Rattle.hp_tree.specs.Instant.{Body, Observer, Assume, Enforce, Named, Equations, Head, Tail, Right, First, Place, Clock}
-use Rattle.hp_tree.specs.Meaning.{declares, defines, some_defines, clock_of, clock_in}
+use Rattle.hp_tree.specs.Meaning.{declares, defines, some_defines, clock_in}
 use Rattle.hp_meaning.specs.Causal.Causality.{IsRanked, Ranked, sources}
-use Rattle.hp_meaning.specs.Causal.Clocked.{AllRight, BlockRight, ClocksRight, ContractRight, IsOn, Standing, TellsOnBase, base_alone, on_base, standing_in, standing_of}
+use Rattle.hp_meaning.specs.Causal.Clocked.{AllRight, ClocksRight, ContractRight, IsOn, Standing, TellsOnBase, base_alone, on_base, standing_in}
 use Rattle.hp_meaning.proofs.CausalLemmas.NodesAgree.{within_more}
 use Rattle.hp_meaning.specs.Causal.Sources.{Sources, none, only, both, also, Within, NameSources, PlaceSources, below, at_row, at_right}
-use Rattle.hp_meaning.specs.Causal.WhatIsRead.{at_expr, at_told, has_equation, in_block, in_contract, in_equation, in_equations, names_in, names_in_block, of_clock, of_definition, of_definitions, of_expr, output_in}
-use Rattle.law_judged.specs.Named.Scoped.{BlockScoped, ContractScoped, EachNode, NodeScoped, also as also_names, equations_of, interface, no_names}
+use Rattle.hp_meaning.specs.Causal.WhatIsRead.{at_expr, at_told, has_equation, in_block, in_contract, in_equation, in_equations, names_in, of_clock, of_definition, of_definitions, of_expr, output_in}
+use Rattle.law_judged.specs.Named.Scoped.{BlockScoped, ContractScoped, EachNode, NodeScoped, equations_of, interface, no_names}
 use Rattle.law_judged.specs.Replaced.Fitting.{BlockNames, ContractNames}
 use Rattle.law_judged.proofs.NamedLemmas.Sets.{or_left, or_right}
 use Rattle.law_automata.proofs.LoweredLemmas.Apart.{bytes_same, same_bytes}
 use Rattle.hp_meaning.specs.Clocking.Clocking.{AreDefined}
-use Rattle.hp_watch.specs.Observing.{all_handed_on, assumed, condition_of, enforced, equation, input_name, inputs_for, lines_of, observer_of, observer_if, observers, outputs_at, with_lines}
+use Rattle.hp_watch.specs.Observing.{all_handed_on, assumed, condition_of, enforced, input_name, inputs_for, lines_of, observer_of, observer_if, observers, outputs_at, with_lines}
 use Rattle.law_choices.specs.Observed.Contracts.{IsObservable, IsOther}
 use Rattle.law_choices.proofs.IndependentLemmas.Moved.{mk, mn, move_expr, move_in_block, move_of, moved}
 use Rattle.law_choices.proofs.ObservedLemmas.Bodies.{assumed_not_other, defines_behind, enforced_not_other, eqn_local, lines_define, local_no_output, none_declared, outputs_other}

@@ -9,7 +9,7 @@ use Rattle.hp_tree.specs.Instant.{Body, Named, Equations, Head, Tail, Right, Tes
 use Rattle.hp_tree.specs.Meaning.{defines, some_defines, clock_of, clock_in}
 use Rattle.hp_meaning.specs.Causal.Clocked.{AllRight, ArmsRight, BlockRight, ClockRight, ConditionsOn, ExprsOn, IsOn, OneRight, PartsOn, Standing, StatesRight, base_alone, standing_in, standing_of}
 use Rattle.hp_meaning.specs.Causal.Sources.{Sources, none, both, also, NameSources, PlaceSources, below, nowhere, at_one, at_two, at_three, at_row, at_merge, at_call, at_block, at_right, at_arms, at_body, at_state, at_words}
-use Rattle.hp_meaning.specs.Causal.WhatIsRead.{of_clock, of_expr, of_exprs, of_parts, names_in, names_within, names_in_block, in_arms, in_states, strong_ones, weak_ones, at_expr, at_exprs, at_parts, at_conditions, of_definition, of_definitions, in_block, in_equations, in_equation, in_each_arm, in_each_state}
+use Rattle.hp_meaning.specs.Causal.WhatIsRead.{of_clock, of_expr, of_exprs, of_parts, names_in, names_within, names_in_block, in_arms, strong_ones, weak_ones, at_expr, at_exprs, at_parts, at_conditions, of_definition, of_definitions, in_block, in_equations, in_equation, in_each_arm, in_each_state}
 
 -- names that stand on clocks stand for the same
 abbrev pub Agree : Standing → NameSources → NameSources → Type 0

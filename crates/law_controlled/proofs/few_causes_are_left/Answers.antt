@@ -14,4 +14,22 @@ returns c = remaining_law (record {
   mirrors = c.drawn_nodes_are_mirrored.ensures.mirrors;
   contracts = c.contracts_call_nothing.ensures.ready;
   observable = c.contracts_of_texts_can_be_observed.ensures;
+  sign = c.programs_of_texts_may_choose.ensures.sign;
+  can = c.observers_can_be_compiled.ensures;
+  tested = c.tests_of_observers_are_typed.ensures;
+  turn = record {
+    nodes = record {
+      watching = c.watched_nodes_choose.ensures.watched;
+      choosing = c.watched_nodes_choose.ensures.chooses;
+      ordered = c.equations_may_be_added.ensures.ordered;
+      itself = c.extended_nodes_close.ensures.itself;
+    };
+    called = c.callees_may_differ_elsewhere.ensures;
+    ready = c.made_nodes_may_be_added_to.ensures.made;
+    bytes = c.made_nodes_may_be_added_to.ensures.bytes;
+    targets = c.targets_differ.ensures;
+    calls = c.calls_are_kept.ensures;
+  };
+  made = c.made_nodes_may_be_added_to.ensures.compiled;
+  observer = c.well_built_observers_suit.ensures;
 })
