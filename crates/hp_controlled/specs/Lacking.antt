@@ -1,5 +1,5 @@
 -- Why a program has no machines that choose, though there is memory. Of no program whose contracts are kept any of it has been seen.
-use Rattle.std.specs.Prelude.{◌≡◌, ◌<◌, ⊤, ℕ, List, [], ◌∷◌, length, All}
+use Rattle.std.specs.Prelude.{◌≡◌, ◌<◌, ⊤, ℕ, List, [], ◌∷◌, length, All, IsTrue, is_some}
 use Rattle.std.specs.List.{AllByRecursion}
 use Rattle.hp_boolx.specs.Machine.{Machine as Boolean, game}
 use Rattle.hp_boolx.specs.Search.{Set}
@@ -61,9 +61,9 @@ pub data LacksNodes (program : List Item) (types : List ObcType) (observers : Ob
   long_machine : (a : Abstraction) → IsAbstractionOf program node a → IsLong a.machine.name → LacksNodes program types observers node n
   chooses_not : (a : Abstraction) → IsAbstractionOf program node a → ChoosesNot types observers node n a → LacksNodes program types observers node n
 
--- There are no such nodes, or equations of them are not regular.
+-- There are no such nodes of a node with a contract, or equations of them are not regular.
 pub data LacksMachines (program : List Item) (types : List ObcType) (observers : Observing) (node : Node) (n : FlatNode) : Type 0 where
-  lacks_nodes : LacksNodes program types observers node n → LacksMachines program types observers node n
+  lacks_nodes : IsTrue (is_some node.contract) → LacksNodes program types observers node n → LacksMachines program types observers node n
   irregular : (these : List FlatNode) → AreNodesOf program types observers node n these → (AllByRecursion (EqnsRegular types) these → ⊥) → LacksMachines program types observers node n
 
 -- ---- a program

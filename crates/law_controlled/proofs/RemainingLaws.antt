@@ -75,8 +75,8 @@ use Rattle.hp_controlled.specs.Choosing.IsOwn.{that_stays, that_chooses}
 use Rattle.hp_controlled.specs.Compiled.{AreEquationsOf, AreObserved, contracts_of}
 use Rattle.hp_controlled.specs.Lacking.{ChoosesNot, FitContracts, HasCircularEquations, HasNoChosenMachines, LacksCompiled, LacksMachines, LacksNodes, LacksObservers, OneLacksMachines}
 use Rattle.hp_controlled.specs.Lacking.OneLacksMachines.{none_left, here, behind_a_node, behind_a_type}
-use Rattle.law_controlled.specs.Remaining.{Hinders, IsHindered, Remaining, RemainingLaw, SeesAll}
-use Rattle.law_controlled.specs.Remaining.Hinders.{unseen, circular, uncontracted}
+use Rattle.law_controlled.specs.Remaining.{Hinders, IsHindered, Remaining, RemainingLaw, SeesAsMany}
+use Rattle.law_controlled.specs.Remaining.Hinders.{unseen, circular}
 use Rattle.law_controlled.specs.Remaining.Remaining.{one_hindered, formless}
 use Rattle.law_controlled.proofs.CircleLaws.{no_circle}
 use Rattle.law_controlled.proofs.FitLaws.{contracts_fit}
@@ -277,7 +277,7 @@ module _ (after : List Item) (k : Known) (enums : Enumerations) (places : List �
         let mirror = laws.mirrors program after ranks order l.earlier l.node l.stands is.drawn a.machine is.is_drawn is.is_machine in
         mirror.widths ∙ ap₂ (λ ds ps. widths_at ds ps) same (controls-are after l.node)
 
-    all_suits : (a : Abstraction) → IsAbstractionOf after l.node a → (own : Observed) → seen l.plant.name ≡ Some own → SeesAll types seen l.node l.plant a own → Suits types seen l.node l.plant a
+    all_suits : (a : Abstraction) → IsAbstractionOf after l.node a → (own : Observed) → seen l.plant.name ≡ Some own → SeesAsMany types seen l.node l.plant a own → Suits types seen l.node l.plant a
     all_suits a is own has all =
         let made = l.made in
         let known = l.known in
@@ -306,12 +306,6 @@ module _ (after : List Item) (k : Known) (enums : Enumerations) (places : List �
         absurd (omega (arith, long, same_name, short))
     no_nodes some kept (LacksNodes.chooses_not a is none) = chooses_not a some is none
 
-    no_nodes_if : (o : Option Contract) → l.node.contract ≡ o → LacksNodes after types seen l.node l.plant → Left
-    no_nodes_if None e lacks = uncontracted e lacks
-    no_nodes_if (Some c) e lacks =
-        let some : IsTrue (is_some l.node.contract) = subst (λ o. IsTrue (is_some o)) (sym e) refl in
-        no_nodes some (l.kept some) lacks
-
     -- the node itself is its clocked equations, or a part of the one that chooses
     own_regular : (own : FlatNode) (c : Telling) → IsOwn l.node l.plant c own → EqnsRegular types c.node → EqnsRegular types own
     own_regular own c (that_stays none same) h = subst (EqnsRegular types) (sym same) l.regular
@@ -335,7 +329,7 @@ module _ (after : List Item) (k : Known) (enums : Enumerations) (places : List �
         )
 
     no_machines : LacksMachines after types seen l.node l.plant → Left
-    no_machines (LacksMachines.lacks_nodes lacks) = no_nodes_if l.node.contract refl lacks
+    no_machines (LacksMachines.lacks_nodes some lacks) = no_nodes some (l.kept some) lacks
     no_machines (LacksMachines.irregular these nodes_are none) = by these nodes_are none
       where
         by : (these : List FlatNode) → AreNodesOf after types seen l.node l.plant these → (AllByRecursion (EqnsRegular types) these → ⊥) → Left

@@ -44,7 +44,7 @@ use Rattle.hp_controller.specs.declared.decoding.ControlKind.TheVariants.{Truth,
 use Rattle.law_choices.proofs.PlayingLemmas.Inputs.{row_of_slots, slot_of}
 use Rattle.hp_controlled.specs.Choosing.{AreControls, Suits, constructor_kind}
 use Rattle.hp_controlled.specs.Compiled.{contract_if, contracts_of, name_if, names_with_contracts, numbered_of, observed_all}
-use Rattle.law_controlled.specs.Remaining.{SeesAll}
+use Rattle.law_controlled.specs.Remaining.{SeesAsMany}
 use Rattle.law_controlled.proofs.ObserverLaws.{at_length}
 
 -- ---- declared types
@@ -180,7 +180,7 @@ module _ (k : Known) (enums : Enumerations) (f : List ℕ) where
 
 module _ (types : List ObcType) (seen : Observing) (node : Node) (n : FlatNode) (a : Abstraction) (own : Observed) where
   pub suits : n.inputs ≡ length node.inputs + length (controls_of node.contract) → ((cs : List Control) × AreControls types (drop (length node.inputs) n.variables) a.machine.widths cs × (length a.machine.widths ≡ length (controls_of node.contract)))
-      → in_block node.body ≡ length (events_from 0 n.eqns) → seen n.name ≡ Some own → SeesAll types seen node n a own → Suits types seen node n a
+      → in_block node.body ≡ length (events_from 0 n.eqns) → seen n.name ≡ Some own → SeesAsMany types seen node n a own → Suits types seen node n a
   suits inputs controls events has all =
       let flags = map (λ (g : Given). g.is_early) a.given.items in
       record {

@@ -11,7 +11,7 @@ use Rattle.hp_controlled.proofs.node.add_contract.Goals as goal
 pub returns-in_err-nodes-clause-lacking : goal.returns-in_err-nodes-clause-lacking
 returns-in_err-nodes-clause-lacking c =
     let said : IfErr c.from_residual.result (SaysNotBuilt (LacksNodes c.args.context.program.now c.args.context.types.now (observers_seen c.args.context.observers.now) c.args.node.now c.args.flat)) = search rules in
-    says_more c.from_residual.result _ _ (λ lacks. lacks_nodes lacks) said
+    says_more c.from_residual.result _ _ (λ lacks. lacks_nodes c.requires lacks) said
 
 pub returns-clause-added : goal.returns-clause-added
 returns-clause-added c =
