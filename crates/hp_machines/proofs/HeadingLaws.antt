@@ -37,7 +37,7 @@ use Rattle.hp_machines.proofs.MakingLaws.{headings-made}
 
 -- ---- types by number
 
-abbrev names_of : List ObcType → List (List ℕ)
+abbrev pub names_of : List ObcType → List (List ℕ)
 names_of types = map (λ (t : ObcType). t.name) types
 
 -- a name has a place among the types, or no type has it
@@ -87,7 +87,7 @@ from_both (Some x) None h k = absurd (cc)
 from_both (Some x) (Some xs) h k = refl
 
 -- where all have kinds, those in front have, and those behind
-kinds_apart : (types : List ObcType) (xs ys : List Var) → IsSome (var_kinds types (xs ++ ys)) → IsSome (var_kinds types xs) × IsSome (var_kinds types ys)
+pub kinds_apart : (types : List ObcType) (xs ys : List Var) → IsSome (var_kinds types (xs ++ ys)) → IsSome (var_kinds types xs) × IsSome (var_kinds types ys)
 kinds_apart types [] ys h = (refl, h)
 kinds_apart types (x ∷ xs) ys h =
     let parts = both_some (kind_of types x.ty) (var_kinds types (xs ++ ys)) h in
@@ -131,7 +131,7 @@ module _ (types : List ObcType) (form : TypesForm types) where
   same_type ty.Int h = refl
   same_type (ty.Enum x) h = numbered_type x (placed types 0 0 x) h
 
-  same_vars : (ds : List Decl) → IsSome (var_kinds types (map (declared types) (variables_of (numbered 0 (names_of types)) ds))) →
+  pub same_vars : (ds : List Decl) → IsSome (var_kinds types (map (declared types) (variables_of (numbered 0 (names_of types)) ds))) →
       map (declared types) (variables_of (numbered 0 (names_of types)) ds) ≡ vars_of ds
   same_vars [] h = refl
   same_vars (d ∷ ds) h =
@@ -139,7 +139,7 @@ module _ (types : List ObcType) (form : TypesForm types) where
       λ i. record { name = d.name; ty = same_type d.ty parts.0 i } ∷ same_vars ds parts.1 i
 
   -- outputs, where these are their variables
-  same_outputs : (vs : List Variable) (outs : List ℕ) (wanted : List Variable) → map (slice_get vs) outs ≡ map Some wanted →
+  pub same_outputs : (vs : List Variable) (outs : List ℕ) (wanted : List Variable) → map (slice_get vs) outs ≡ map Some wanted →
       map (λ x. declared types (variable_at vs x)) outs ≡ map (declared types) wanted
   same_outputs vs [] [] h = refl
   same_outputs vs [] (w ∷ wanted) h = absurd (cc)
@@ -159,7 +159,7 @@ module _ (types : List ObcType) (form : TypesForm types) where
     outputs_are : m.outputs ≡ map (declared types) (variables_of (numbered 0 (names_of types)) n.outputs)
     outputs_are = ap (λ (h : Heading). h.outputs) same ∙ same_outputs f.variables f.outputs (variables_of (numbered 0 (names_of types)) n.outputs) signed.outputs
 
-    same_heading : (earlier : List Machine) → MachineForm types earlier m → heading_of_machine m ≡ heading_of_node n
+    pub same_heading : (earlier : List Machine) → MachineForm types earlier m → heading_of_machine m ≡ heading_of_node n
     same_heading earlier h =
         let all = kinds_apart types m.inputs (written m) h.kinds in
         let behind = kinds_apart types (m.outputs ++ m.vars) (mem_vars m.mems) all.1 in
@@ -184,7 +184,7 @@ module _ (types : List ObcType) (form : TypesForm types) where
 
 -- ---- the program without automata
 
-same_controls : (enums : Enumerations) (known : Types) (c : Option Contract) → controls_of (option_map (lowered_contract enums known) c) ≡ controls_of c
+pub same_controls : (enums : Enumerations) (known : Types) (c : Option Contract) → controls_of (option_map (lowered_contract enums known) c) ≡ controls_of c
 same_controls enums known None = refl
 same_controls enums known (Some c) = refl
 
@@ -195,12 +195,12 @@ headings_lowered enums (NodeItem n ∷ items) =
     let controls = same_controls enums (lowering.types_of n) n.contract in
     λ i. record { name = n.name; inputs = vars_of (n.inputs ++ controls i); outputs = vars_of n.outputs } ∷ headings_lowered enums items i
 
-names_lowered : (enums : Enumerations) (items : List Item) → type_names (map (lowered_item enums) items) ≡ type_names items
+pub names_lowered : (enums : Enumerations) (items : List Item) → type_names (map (lowered_item enums) items) ≡ type_names items
 names_lowered enums [] = refl
 names_lowered enums (TypeItem t ∷ items) = ap (λ xs. t.name ∷ xs) (names_lowered enums items)
 names_lowered enums (NodeItem n ∷ items) = names_lowered enums items
 
-names_of_types : (items : List Item) → type_names items ≡ names_of (obc_types_of items)
+pub names_of_types : (items : List Item) → type_names items ≡ names_of (obc_types_of items)
 names_of_types [] = refl
 names_of_types (TypeItem t ∷ items) = ap (λ xs. t.name ∷ xs) (names_of_types items)
 names_of_types (NodeItem n ∷ items) = names_of_types items

@@ -1,6 +1,6 @@
-mod MakingLaws
+pub mod MakingLaws
 mod Rules
-mod HeadingLaws
+pub mod HeadingLaws
 mod NotBuiltLaws
 pub mod OneLaws
 mod NeededLaws
