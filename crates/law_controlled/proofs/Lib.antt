@@ -8,6 +8,7 @@ pub mod DepthLaws
 pub mod DutyLaws
 pub mod FitLaws
 pub mod GreatestLaws
+pub mod HeadedLaws
 pub mod KeepingLaws
 pub mod KeptLaws
 pub mod MachineLaws

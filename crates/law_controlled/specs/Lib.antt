@@ -2,6 +2,7 @@ pub mod Alike
 pub mod Allowed
 pub mod AtDepth
 pub mod Greatest
+pub mod Headed
 pub mod Machines
 pub mod Mirrored
 pub mod Names

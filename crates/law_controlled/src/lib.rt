@@ -4,6 +4,7 @@
 #![tactic(auto)]
 
 ghost use Rattle.law_controlled.specs.Allowed.{AllowedLaw};
+ghost use Rattle.law_controlled.specs.Headed.{HeadedLaw};
 ghost use Rattle.law_controlled.specs.Machines.{MadeMachinesLaw, TurnMachinesLaw};
 ghost use Rattle.law_controlled.specs.Mirrored.{MirroredLaw};
 ghost use Rattle.law_controlled.specs.Names.{NamesLaw, PlantNamesLaw};
@@ -168,6 +169,11 @@ pub fn machines_of_texts_choose_the_greatest()
     programs_of_texts_are_in_order();
     contracts_of_texts_can_be_observed();
 }
+
+/// Each node has a machine of its name, which takes its inputs and gives its outputs; and each contract one that gives two truth values more.
+pub fn nodes_have_their_machines()
+    ensures { HeadedLaw }
+{}
 
 /// A program has one list of machines, as far as one can tell by running them: what the compiler is free in are the commands of controllers, and these give one choice and keep nothing.
 pub fn programs_that_choose_have_one_list_of_machines()
