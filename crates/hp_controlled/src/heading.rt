@@ -1,35 +1,11 @@
-//! Whether the machines of a node have its inputs and outputs.
-ghost use Rattle.std.specs.Prelude.{◌≡◌, ◌∷◌, ◌++◌, [], ◌↔◌, ℕ, List, IsTrue, MatchOption, None, Some};
-ghost use Rattle.hp_controlled.specs.Chosen.{IsChosen, IsToldBy, truth};
+//! Whether variables of a machine are those of a node.
+ghost use Rattle.std.specs.Prelude.{◌≡◌, ◌∷◌, [], ◌↔◌, ℕ, List, IsTrue};
+ghost use Rattle.hp_controlled.specs.Chosen.{truth};
 ghost use Rattle.hp_machines.specs.Machined.{vars_of};
-ghost use Rattle.hp_obc.specs.Form.{machine_named};
 
 use hp_base::Ty;
-use hp_obc::{Machine, Obc, Var};
-use hp_tree::{Decl, Node};
-
-/// The machine, if it has this name.
-fn machine_in<'o>(machine: &'o Machine, name: &str) -> Option<&'o Machine>
-    ensures { MatchOption result (machine_named (machine.entry.now ∷ []) name.now ≡ None) (λ m. machine_named (machine.entry.now ∷ []) name.now ≡ Some m.now) }
-{
-    if machine.name.bytes() == name.as_bytes() {
-        Some(machine)
-    } else {
-        None
-    }
-}
-
-/// The machine of this name among some.
-fn named<'o>(machines: &'o [Machine], name: &str) -> Option<&'o Machine>
-    ensures { MatchOption result (machine_named machines.entry.now name.now ≡ None) (λ m. machine_named machines.entry.now name.now ≡ Some m.now) }
-{
-    for machine in machines {
-        if let Some(found) = machine_in(machine, name) {
-            return Some(found);
-        }
-    }
-    None
-}
+use hp_obc::Var;
+use hp_tree::Decl;
 
 /// Whether a variable of a machine is declared so in a node.
 fn is_var(var: &Var, decl: &Decl) -> bool
@@ -71,40 +47,4 @@ pub fn are_truths(vars: &[Var]) -> bool
         [assume, enforce] => is_truth(assume) && is_truth(enforce),
         _ => false,
     }
-}
-
-/// Whether the machine of this name has the name, the inputs and the outputs of the node.
-pub fn is_chosen(o: &Obc, name: &str, node: &Node) -> bool
-    ensures { IsTrue result → IsChosen name.now o.now node.now }
-{
-    let Some(machine) = named(o.machines(), name) else {
-        return false;
-    };
-    if !machine.name.same(&node.name) {
-        return false;
-    }
-    if !are_vars(&machine.inputs, &node.inputs) {
-        return false;
-    }
-    are_vars(&machine.outputs, &node.outputs)
-}
-
-/// Whether the machine of this name has the inputs of the node, and gives its outputs and two truth values more.
-pub fn is_told(o: &Obc, name: &str, node: &Node) -> bool
-    ensures { IsTrue result → IsToldBy name.now o.now node.now }
-{
-    let Some(machine) = named(o.machines(), name) else {
-        return false;
-    };
-    let count = node.outputs.len();
-    if machine.outputs.len() < count {
-        return false;
-    }
-    if !are_vars(&machine.inputs, &node.inputs) {
-        return false;
-    }
-    if !are_vars(&machine.outputs[..count], &node.outputs) {
-        return false;
-    }
-    are_truths(&machine.outputs[count..])
 }

@@ -11,6 +11,5 @@ mod part;
 
 pub use among::{machines_do_the_same_among_others, own_machines_do_the_same};
 pub use error::ControlledErr;
-pub use heading::{is_chosen, is_told};
 pub use joining::machines_with_contracts;
 pub use machines::controlled_machines;

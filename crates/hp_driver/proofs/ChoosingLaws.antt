@@ -1,19 +1,21 @@
 -- From how a machine that chooses was run, or refused, to what the call did.
-use Rattle.std.proofs.Common.{◌≡◌, ℕ, ◌⊎◌, inl, inr, List, [], ◌∷◌, ◌++◌, None, Some, refl, sym, ap, subst, ◌∙◌, arith}
-use Rattle.std.specs.Prelude.{codes, is_some, IsTrue, Option}
+use Rattle.std.proofs.Common.{◌≡◌, ◌≢◌, ℕ, inl, inr, false, true, List, [], ◌∷◌, ◌++◌, None, Some, refl, sym, ap, subst, ◌∙◌}
+use Rattle.std.specs.Prelude.{codes, is_some, IsSome, IsTrue, Option}
 use Rattle.hp_base.specs.declared.limit.Limit.{Limit}
 use Rattle.hp_io.specs.Events.{put_events}
 use Rattle.hp_io.specs.Files.{Files}
 use Rattle.hp_io.specs.declared.console.Event.{Event}
 use Rattle.hp_controlled.specs.Chosen.{AreControlledMachines, IsChosen, IsToldBy}
-use Rattle.hp_exec.specs.Answers.{Executes}
+use Rattle.hp_exec.specs.Answers.{Executes, Refuses as RefusesMachine}
 use Rattle.hp_exec.specs.Executors.{Executor}
 use Rattle.hp_exec.specs.declared.error.ExecErr.{ExecErr}
-use Rattle.hp_exec.specs.declared.error.ExecErr.TheVariants.{Limit as Passed}
+use Rattle.hp_exec.specs.declared.error.ExecErr.TheVariants.{Limit as Passed, NoNode}
+use Rattle.hp_obc.specs.Form.{machine_named}
 use Rattle.hp_obc.specs.Machines.{Obc}
 use Rattle.hp_tree.specs.Meaning.{node_among}
 use Rattle.hp_tree.specs.Programs.{Node}
 use Rattle.hp_tree.specs.declared.program.Item.{Item}
+use Rattle.law_controlled.specs.Headed.{HeadedLaw}
 use Rattle.law_controlled.specs.Said.{GreatestSaidLaw}
 use Rattle.law_decided.specs.Outcomes.{AreKeptInGames}
 use Rattle.hp_driver.specs.Command.{IsSummary, not_built_line, no_node_line}
@@ -38,16 +40,16 @@ teller_mirrors : (ending : Ending) (name : List ℕ) (o : Obc) (e : Executor) �
 teller_mirrors ending name o e h = record { says = teller_says o name e h ending; refuses = teller_refuses o name e h ending }
 
 pub chosen_ran : (o : Obc) (name : List ℕ) (e : Executor) (log : List Event) (line : List ℕ) (status : ℕ) → Executes o name e → Ran executing e log line status → ChosenOutcome (of_machine o name) o name log line status
-chosen_ran o name e log line status h r words files asked passed unbuilt =
+chosen_ran o name e log line status h r words files asked passed =
     outcome executing e (of_machine o name) (machine_mirrors name o e h) words files (asked (machine_of name o e h)) log line status r
 
 pub told_ran : (ending : Ending) (o : Obc) (name : List ℕ) (e : Executor) (log : List Event) (line : List ℕ) (status : ℕ) → Executes o name e → Ran telling (teller e ending) log line status →
     ChosenOutcome (that_tells ending o name) o name log line status
-told_ran ending o name e log line status h r words files asked passed unbuilt =
+told_ran ending o name e log line status h r words files asked passed =
     outcome telling (teller e ending) (that_tells ending o name) (teller_mirrors ending name o e h) words files (asked (machine_of name o e h)) log line status r
 
 pub chosen_memory : (s : System) (o : Obc) (name : List ℕ) → ChosenOutcome s o name [] [] 6
-chosen_memory s o name words files asked passed unbuilt = Outcome.no_memory
+chosen_memory s o name words files asked passed = Outcome.no_memory
 
 -- ---- it is refused
 
@@ -55,50 +57,44 @@ abbrev pub RefusedByAll : ExecErr → List ℕ → ℕ → Type 0
 RefusedByAll error line status = (name : List ℕ) → RefusedChosen name error line status
 
 pub refused_failed : (error : ExecErr) (line : List ℕ) (b : ℕ) (rest : List ℕ) (status : ℕ) → RefusedByAll error (line ++ b ∷ rest) status → RefusedByAll error line 5
-refused_failed error line b rest status f name s o h words files asked passed unbuilt = Outcome.line_failed line b rest (f name s o h words files asked passed unbuilt)
+refused_failed error line b rest status f name s o h words files asked passed = Outcome.line_failed line b rest (f name s o h words files asked passed)
 
 pub refused_memory : (error : ExecErr) → RefusedByAll error [] 6
-refused_memory error name s o h words files asked passed unbuilt = Outcome.no_memory
-
-pub no_such : (error : ExecErr) → RefusedByAll error not_built_line 1
-no_such error name s o h words files asked passed unbuilt = unbuilt
+refused_memory error name s o h words files asked passed = Outcome.no_memory
 
 pub too_large : (limit : Limit) → RefusedByAll (Passed limit) (executor_line limit) 1
-too_large limit name s o h words files asked passed unbuilt = passed limit h
+too_large limit name s o h words files asked passed = passed limit h
+
+-- a machine that is there is not refused for its name
+pub is_there : (o : Obc) (name : List ℕ) (error : ExecErr) → IsSome (machine_named o.machines name) → RefusesMachine o name error → error ≢ NoNode
+is_there o name error some refused e = let none : machine_named o.machines name ≡ None = subst (RefusesMachine o name) e refused in let both : false ≡ true = sym (ap (λ m. is_some m) none) ∙ some in cc
+
+pub chosen_there : (o : Obc) (name : List ℕ) (n : Node) → IsChosen name o n → IsSome (machine_named o.machines name)
+chosen_there o name n is = let named = is.named in ap (λ m. is_some m) named
+
+pub told_there : (o : Obc) (name : List ℕ) (n : Node) → IsToldBy name o n → IsSome (machine_named o.machines name)
+told_there o name n is = let named = is.named in ap (λ m. is_some m) named
+
+-- the machines of a node and of its contract, among those of its program
+pub its_machine : HeadedLaw → (ordered : List Item) (o : Obc) → AreControlledMachines ordered o → (name : List ℕ) (n : Node) → node_among ordered name ≡ Some n
+    → IsChosen name o n × (IsTrue (is_some n.contract) → IsToldBy (name ++ codes "$contract") o n)
+its_machine law ordered o machines name n named = law ordered o machines name n named
 
 -- ---- a node is run
 
 module _ (o : Obc) (n : Node) (name : List ℕ) where
-  pub node_failed : (log : List Event) (line : List ℕ) (b : ℕ) (rest : List ℕ) (status : ℕ) → NodeRun o n name log (line ++ b ∷ rest) status → NodeRun o n name log line 5
-  node_failed log line b rest status f words files file chosen some named w = Outcome.line_failed line b rest (f words files file chosen some named w)
-
-  pub node_not_built : NodeRun o n name [] not_built_line 1
-  node_not_built words files file chosen some named w = Outcome.not_built (AsksToChoose.to_run w some) chosen.held chosen.kept
-
   pub node_ran : (log : List Event) (line : List ℕ) (status : ℕ) → IsChosen name o n → ChosenOutcome (of_machine o name) o name log line status → NodeRun o n name log line status
   node_ran log line status is f words files file chosen some named w =
       f words files (λ m. IsAskedFor.a_chosen_node n w chosen some named m is) (λ limit p. Outcome.chosen_too_large limit chosen (AsksToRun.to_run w some) (inl refl) p)
-      (Outcome.not_built (AsksToChoose.to_run w some) chosen.held chosen.kept)
-
-  pub told_failed : (log : List Event) (line : List ℕ) (b : ℕ) (rest : List ℕ) (status : ℕ) → NodeTold o n name log (line ++ b ∷ rest) status → NodeTold o n name log line 5
-  told_failed log line b rest status f words files file chosen named w = Outcome.line_failed line b rest (f words files file chosen named w)
-
-  pub told_not_built : NodeTold o n name [] not_built_line 1
-  told_not_built words files file chosen named w = Outcome.not_built (AsksToChoose.to_tell w) chosen.held chosen.kept
-
-  pub told_memory : NodeTold o n name [] [] 6
-  told_memory words files file chosen named w = Outcome.no_memory
 
   pub plain_told : (log : List Event) (line : List ℕ) (status : ℕ) → n.contract ≡ None → IsChosen name o n → ChosenOutcome (that_tells Kept o name) o name log line status → NodeTold o n name log line status
   plain_told log line status none is f words files file chosen named w =
       f words files (λ m. IsAskedFor.no_contract n w chosen named none m is) (λ limit p. Outcome.chosen_too_large limit chosen (AsksToRun.to_tell w) (inl refl) p)
-      (Outcome.not_built (AsksToChoose.to_tell w) chosen.held chosen.kept)
 
   pub contract_told : (log : List Event) (line : List ℕ) (status : ℕ) → IsTrue (is_some n.contract) → IsToldBy (name ++ codes "$contract") o n →
       ChosenOutcome (that_tells Told o (name ++ codes "$contract")) o (name ++ codes "$contract") log line status → NodeTold o n name log line status
   contract_told log line status some is f words files file chosen named w =
       f words files (λ m. IsAskedFor.a_contract n w chosen named some m is) (λ limit p. Outcome.chosen_too_large limit chosen (AsksToRun.to_tell w) (inr refl) p)
-      (Outcome.not_built (AsksToChoose.to_tell w) chosen.held chosen.kept)
 
 -- ---- of an ordered program
 

@@ -14,7 +14,7 @@ pub use Rattle.hp_driver.specs.Texts.{IsArrangedText, IsPlainText}
 use Rattle.hp_driver.specs.Compiled.{IsNotCompiled}
 use Rattle.hp_driver.specs.declared.compile_error.CompileErr.{CompileErr}
 use Rattle.hp_driver.specs.Controls.{has_controls}
-use Rattle.hp_driver.specs.Command.{IsRunOf, IsTellOf, IsCompileOf, IsExecOf, IsVerifyOf, IsSweepOf, not_built_line}
+use Rattle.hp_driver.specs.Command.{IsRunOf, IsTellOf, IsCompileOf, IsExecOf, IsVerifyOf, IsSweepOf}
 use Rattle.hp_driver.specs.Diagnostics.{executor_line}
 use Rattle.hp_driver.specs.Systems.{System}
 use Rattle.hp_base.specs.declared.limit.Limit.{Limit}
@@ -108,7 +108,7 @@ OrderedRun node ordered log line status =
 abbrev pub ChosenOutcome : System → Obc → List ℕ → List Event → List ℕ → ℕ → Type 0
 ChosenOutcome s o name log line status =
     (words : List (List ℕ)) (files : Option Files) → (IsMachine name o → IsAskedFor words files s) → ((limit : Limit) → IsPassed o name limit → Outcome words files [] (executor_line limit) 1) →
-    Outcome words files [] not_built_line 1 → Outcome words files log line status
+    Outcome words files log line status
 
 -- the machine of this name is refused for this reason
 abbrev pub RefusedChosen : List ℕ → ExecErr → List ℕ → ℕ → Type 0

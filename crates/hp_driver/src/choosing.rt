@@ -1,13 +1,16 @@
 //! Programs whose nodes choose the values of their controllable variables: their machines are run on a trace, with or without the values of contracts.
-ghost use Rattle.std.specs.Prelude.{◌≡◌, ◌≢◌, ◌++◌, ℕ, List, None, codes, is_some, IfOk, IsTrue};
+ghost use Rattle.std.specs.Prelude.{◌≡◌, ◌≢◌, ◌++◌, ℕ, List, None, codes, is_some, IfOk, IsSome, IsTrue};
 ghost use Rattle.std.specs.String.{string_bytes};
+ghost use Rattle.hp_controlled.specs.Chosen.{IsChosen, IsToldBy};
+ghost use Rattle.hp_exec.specs.declared.error.ExecErr.TheVariants.{NoNode};
 ghost use Rattle.hp_io.specs.Told.{Grows};
-ghost use Rattle.hp_obc.specs.Form.{TypesForm};
+ghost use Rattle.hp_obc.specs.Form.{TypesForm, machine_named};
 ghost use Rattle.hp_driver.specs.Faults.{TakeFaults, PutFaults, BothPutFaults};
 ghost use Rattle.hp_driver.specs.Follows.{ChoosingRun, ChoosingTell, ChosenOutcome, NodeRun, NodeTold, RefusedChosen};
 ghost use Rattle.hp_driver.specs.Happened.{Happened};
 ghost use Rattle.hp_driver.specs.Status.{code_of};
 ghost use Rattle.hp_driver.specs.Systems.{of_machine, that_tells};
+ghost use Rattle.hp_driver.specs.declared.telling.Ending.TheVariants.{Told};
 
 use crate::certificate::node_named;
 use crate::diagnostic::NOT_BUILT;
@@ -19,13 +22,13 @@ use crate::resources::Resources;
 use crate::run::run_trace;
 use crate::status::Status;
 use crate::telling::{Ending, Telling};
-use hp_controlled::{ControlledErr, controlled_machines, is_chosen, is_told};
+use hp_controlled::{ControlledErr, controlled_machines};
 use hp_exec::ExecErr;
 use hp_io::{Console, Sink};
 use hp_native::{Answers, NativeExec};
 use hp_obc::Obc;
 use hp_tree::{Node, Program};
-use law_controlled::machines_of_texts_choose_the_greatest;
+use law_controlled::{machines_of_texts_choose_the_greatest, nodes_have_their_machines};
 use std::alloc::{AllocError, Global};
 
 /// The name of the machine that also tells what the contract of a node assumes and enforces.
@@ -38,15 +41,16 @@ fn contract_name(alloc: Global, node: &str) -> Result<String, AllocError>
     Ok(name)
 }
 
-/// Reports why the machine of a node that the program has is not run, or that there is no memory.
+/// Reports why the machine of a node, which is there, is not run, or that there is no memory.
 pub(crate) fn report_choosing<E: Sink>(alloc: Global, diag: &mut E, error: ExecErr) -> Status
+    requires { error ≢ NoNode }
     ensures told { (line : List ℕ) × Grows (E.took diag.old) (E.took diag.new) line × ((name : List ℕ) → RefusedChosen name error line (code_of result)) }
     ensures fails { code_of result ≢ 0 }
     ensures status { code_of result ≢ 4 }
     ensures faults { PutFaults (code_of result) (E.faults diag.old) (E.faults diag.new) }
 {
     match error {
-        ExecErr::NoNode => report(diag, NOT_BUILT, Status::Refused),
+        ExecErr::NoNode => unreachable!(),
         ExecErr::Limit(limit) => report_large(alloc, diag, limit),
         ExecErr::OutOfMemory => Status::NoMemory,
     }
@@ -60,7 +64,8 @@ fn run_chosen<N: Answers, C: Console, E: Sink>(
     console: &mut C,
     diag: &mut E,
 ) -> Status
-    requires { TypesForm machines.now.types }
+    requires form { TypesForm machines.now.types }
+    requires there { IsSome (machine_named machines.now.machines name.now) }
     ensures outcome { Happened (C.events console.old) (C.events console.new) (C.left console.old) (C.left console.new) (E.took diag.old) (E.took diag.new)
         (λ log line. ChosenOutcome (of_machine machines.now name.now) machines.now name.now log line (code_of result)) }
     ensures takes { TakeFaults (code_of result) (C.take_faults console.old) (C.take_faults console.new) }
@@ -85,7 +90,8 @@ fn tell_chosen<N: Answers, C: Console, E: Sink>(
     console: &mut C,
     diag: &mut E,
 ) -> Status
-    requires { TypesForm machines.now.types }
+    requires form { TypesForm machines.now.types }
+    requires there { IsSome (machine_named machines.now.machines name.now) }
     ensures outcome { Happened (C.events console.old) (C.events console.new) (C.left console.old) (C.left console.new) (E.took diag.old) (E.took diag.new)
         (λ log line. ChosenOutcome (that_tells ending machines.now name.now) machines.now name.now log line (code_of result)) }
     ensures takes { TakeFaults (code_of result) (C.take_faults console.old) (C.take_faults console.new) }
@@ -101,7 +107,7 @@ fn tell_chosen<N: Answers, C: Console, E: Sink>(
     run_trace(resources.alloc, &mut telling, console, diag)
 }
 
-/// Runs the machine of a node, if it has the inputs and outputs of the node.
+/// Runs the machine of a node, which is among these under this name, on the trace that the console gives.
 fn run_node<N: Answers, C: Console, E: Sink>(
     resources: &Resources<'_, N>,
     machines: &Obc,
@@ -110,15 +116,13 @@ fn run_node<N: Answers, C: Console, E: Sink>(
     console: &mut C,
     diag: &mut E,
 ) -> Status
-    requires { TypesForm machines.now.types }
+    requires form { TypesForm machines.now.types }
+    requires own { IsChosen name.now machines.now node.now }
     ensures outcome { Happened (C.events console.old) (C.events console.new) (C.left console.old) (C.left console.new) (E.took diag.old) (E.took diag.new)
         (λ log line. NodeRun machines.now node.now name.now log line (code_of result)) }
     ensures takes { TakeFaults (code_of result) (C.take_faults console.old) (C.take_faults console.new) }
     ensures puts { BothPutFaults (code_of result) (C.put_faults console.old) (C.put_faults console.new) (E.faults diag.old) (E.faults diag.new) }
 {
-    if !is_chosen(machines, name, node) {
-        return report(diag, NOT_BUILT, Status::Refused);
-    }
     run_chosen(resources, machines, name, console, diag)
 }
 
@@ -138,8 +142,9 @@ pub(crate) fn run_choosing<N: Answers, C: Console, E: Sink>(
     let Some(found) = node_named(ordered, node) else {
         return report_no_node(resources.alloc, diag, node);
     };
-    // A law: each line that the machines say is one that the program allows; where nothing is free but inputs, with the greatest permitted values.
+    // Laws: each line that the machines say is one that the program allows; where nothing is free but inputs, with the greatest permitted values. And the node has a machine of its name.
     machines_of_texts_choose_the_greatest();
+    nodes_have_their_machines();
     match controlled_machines(resources.alloc, ordered) {
         Ok(machines) => run_node(resources, &machines, found, node, console, diag),
         Err(ControlledErr::NotBuilt) => report(diag, NOT_BUILT, Status::Refused),
@@ -147,50 +152,24 @@ pub(crate) fn run_choosing<N: Answers, C: Console, E: Sink>(
     }
 }
 
-/// Runs the node, which has no contract, on the trace, and tells behind its outputs that what it assumes and enforces is true.
-fn tell_plain<N: Answers, C: Console, E: Sink>(
-    resources: &Resources<'_, N>,
-    machines: &Obc,
-    node: &Node,
-    name: &str,
-    console: &mut C,
-    diag: &mut E,
-) -> Status
-    requires form { TypesForm machines.now.types }
-    requires none { node.now.contract ≡ None }
-    ensures outcome { Happened (C.events console.old) (C.events console.new) (C.left console.old) (C.left console.new) (E.took diag.old) (E.took diag.new)
-        (λ log line. NodeTold machines.now node.now name.now log line (code_of result)) }
-    ensures takes { TakeFaults (code_of result) (C.take_faults console.old) (C.take_faults console.new) }
-    ensures puts { BothPutFaults (code_of result) (C.put_faults console.old) (C.put_faults console.new) (E.faults diag.old) (E.faults diag.new) }
-{
-    if !is_chosen(machines, name, node) {
-        return report(diag, NOT_BUILT, Status::Refused);
-    }
-    tell_chosen(resources, machines, name, Ending::Kept, console, diag)
-}
-
-/// Runs the node, which has a contract, on the trace, and tells behind its outputs what that assumes and enforces.
+/// Runs the machine that also tells what the contract of a node of this name assumes and enforces.
 fn tell_contract<N: Answers, C: Console, E: Sink>(
     resources: &Resources<'_, N>,
     machines: &Obc,
-    node: &Node,
     name: &str,
     console: &mut C,
     diag: &mut E,
 ) -> Status
     requires form { TypesForm machines.now.types }
-    requires some { IsTrue (is_some node.now.contract) }
+    requires there { IsSome (machine_named machines.now.machines (name.now ++ codes "$contract")) }
     ensures outcome { Happened (C.events console.old) (C.events console.new) (C.left console.old) (C.left console.new) (E.took diag.old) (E.took diag.new)
-        (λ log line. NodeTold machines.now node.now name.now log line (code_of result)) }
+        (λ log line. ChosenOutcome (that_tells Told machines.now (name.now ++ codes "$contract")) machines.now (name.now ++ codes "$contract") log line (code_of result)) }
     ensures takes { TakeFaults (code_of result) (C.take_faults console.old) (C.take_faults console.new) }
     ensures puts { BothPutFaults (code_of result) (C.put_faults console.old) (C.put_faults console.new) (E.faults diag.old) (E.faults diag.new) }
 {
     let Ok(told) = contract_name(resources.alloc, name) else {
         return Status::NoMemory;
     };
-    if !is_told(machines, told.as_str(), node) {
-        return report(diag, NOT_BUILT, Status::Refused);
-    }
     tell_chosen(
         resources,
         machines,
@@ -210,15 +189,17 @@ fn tell_node<N: Answers, C: Console, E: Sink>(
     console: &mut C,
     diag: &mut E,
 ) -> Status
-    requires { TypesForm machines.now.types }
+    requires form { TypesForm machines.now.types }
+    requires own { IsChosen name.now machines.now node.now }
+    requires told { IsTrue (is_some node.now.contract) → IsToldBy (name.now ++ codes "$contract") machines.now node.now }
     ensures outcome { Happened (C.events console.old) (C.events console.new) (C.left console.old) (C.left console.new) (E.took diag.old) (E.took diag.new)
         (λ log line. NodeTold machines.now node.now name.now log line (code_of result)) }
     ensures takes { TakeFaults (code_of result) (C.take_faults console.old) (C.take_faults console.new) }
     ensures puts { BothPutFaults (code_of result) (C.put_faults console.old) (C.put_faults console.new) (E.faults diag.old) (E.faults diag.new) }
 {
     match &node.contract {
-        None => tell_plain(resources, machines, node, name, console, diag),
-        Some(_) => tell_contract(resources, machines, node, name, console, diag),
+        None => tell_chosen(resources, machines, name, Ending::Kept, console, diag),
+        Some(_) => tell_contract(resources, machines, name, console, diag),
     }
 }
 
@@ -238,8 +219,9 @@ pub(crate) fn tell_choosing<N: Answers, C: Console, E: Sink>(
     let Some(node) = node_named(ordered, name) else {
         return report_no_node(resources.alloc, diag, name);
     };
-    // A law: each line that the machines say is one that the program allows; where nothing is free but inputs, with the greatest permitted values.
+    // Laws: each line that the machines say is one that the program allows; where nothing is free but inputs, with the greatest permitted values. And the node has a machine of its name, as has its contract.
     machines_of_texts_choose_the_greatest();
+    nodes_have_their_machines();
     match controlled_machines(resources.alloc, ordered) {
         Ok(machines) => tell_node(resources, &machines, node, name, console, diag),
         Err(ControlledErr::NotBuilt) => report(diag, NOT_BUILT, Status::Refused),

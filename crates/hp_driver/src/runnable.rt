@@ -24,14 +24,14 @@ use crate::report::report;
 use crate::status::Status;
 use hp_cause::Ordered;
 use hp_compile::{arrange, judge};
-use hp_controlled::{ControlledErr, controlled_machines, is_chosen};
+use hp_controlled::{ControlledErr, controlled_machines};
 use hp_exec::Exec;
 use hp_io::Sink;
 use hp_machines::{MachineErr, machines};
 use hp_obc::Obc;
 use hp_tree::{Node, Program};
 use hp_verdicts::decide;
-use law_controlled::machines_of_texts_choose_the_greatest;
+use law_controlled::{machines_of_texts_choose_the_greatest, nodes_have_their_machines};
 use law_decided::{machines_keep_contracts, outcomes_are_so};
 use law_history::streams::{machines_of_texts_are_built, machines_run_the_nodes_of_texts};
 use std::alloc::Global;
@@ -73,7 +73,7 @@ fn plain_runnable<E: Sink>(
     }
 }
 
-/// The machine of a node among these, if it takes what the node takes and gives what the node gives, or the status with which the call ends.
+/// The machine of a node among these, or the status with which the call ends.
 fn chosen_runnable<E: Sink>(
     alloc: Global,
     machines: Obc,
@@ -81,6 +81,7 @@ fn chosen_runnable<E: Sink>(
     name: &str,
     diag: &mut E,
 ) -> Result<Runnable, Status>
+    requires { IsChosen name.now machines node.now }
     ensures runs { IfOk result (λ r. Executes r.machines name.now r.exec) }
     ensures machines { IfOk result (λ r. r.machines ≡ machines) }
     ensures chosen { IfOk result (λ r. IsChosen name.now machines node.now) }
@@ -89,9 +90,6 @@ fn chosen_runnable<E: Sink>(
     ensures status { IfErr result (λ status. code_of status ≢ 4) }
     ensures faults { PutFaults (ending result) (E.faults diag.old) (E.faults diag.new) }
 {
-    if !is_chosen(&machines, name, node) {
-        return Err(report(diag, NOT_BUILT, Status::Refused));
-    }
     match Exec::new(alloc, &machines, name) {
         Ok(exec) => Ok(Runnable { machines, exec }),
         Err(error) => Err(report_choosing(alloc, diag, error)),
@@ -116,8 +114,9 @@ fn choosing_runnable<E: Sink>(
     let Some(found) = node_named(ordered, node) else {
         return Err(report_no_node(alloc, diag, node));
     };
-    // A law: each line that the machines say is one that the program allows; where nothing is free but inputs, with the greatest permitted values.
+    // Laws: each line that the machines say is one that the program allows; where nothing is free but inputs, with the greatest permitted values. And the node has a machine of its name.
     machines_of_texts_choose_the_greatest();
+    nodes_have_their_machines();
     match controlled_machines(alloc, ordered) {
         Ok(machines) => chosen_runnable(alloc, machines, found, node, diag),
         Err(ControlledErr::NotBuilt) => Err(report(diag, NOT_BUILT, Status::Refused)),

@@ -1,15 +1,10 @@
 use Rattle.std.proofs.Common.{[], sym, subst}
 use Rattle.hp_io.proofs.ToldLaws.{Grows-nil}
-use Rattle.hp_driver.specs.Command.{not_built_line}
 use Rattle.hp_driver.specs.Diagnostics.{executor_line}
 use Rattle.hp_driver.specs.Status.{code_of}
-use Rattle.hp_driver.proofs.ChoosingLaws.{RefusedByAll, refused_failed, refused_memory, no_such, too_large}
-use Rattle.hp_driver.proofs.OutcomeLaws.{told_of, told_or_not}
+use Rattle.hp_driver.proofs.ChoosingLaws.{RefusedByAll, refused_failed, refused_memory, too_large}
+use Rattle.hp_driver.proofs.OutcomeLaws.{told_or_not}
 use Rattle.hp_driver.proofs.choosing.report_choosing.Goals as goal
-
-pub returns-in-NoNode-clause-told : goal.returns-in-NoNode-clause-told
-returns-in-NoNode-clause-told g c =
-    told_of (RefusedByAll c.args.error) (refused_failed c.args.error) (g.E.Sink.took c.args.diag.now) (g.E.Sink.took c.report.new.diag) not_built_line 1 (code_of c.report.result) c.report.ensures.reports (no_such c.args.error)
 
 pub returns-in-Limit-clause-told : goal.returns-in-Limit-clause-told
 returns-in-Limit-clause-told g c =

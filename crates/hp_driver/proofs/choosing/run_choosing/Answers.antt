@@ -4,7 +4,7 @@ use Rattle.hp_io.proofs.ToldLaws.{Grows-nil}
 use Rattle.hp_driver.specs.Command.{not_built_line, no_node_line}
 use Rattle.hp_driver.specs.Follows.{ChoosingRun}
 use Rattle.hp_driver.specs.Status.{code_of}
-use Rattle.hp_driver.proofs.ChoosingLaws.{run_failed, run_memory, run_not_built, run_no_node, choosing_ran}
+use Rattle.hp_driver.proofs.ChoosingLaws.{its_machine, run_failed, run_memory, run_not_built, run_no_node, choosing_ran}
 use Rattle.hp_driver.proofs.OutcomeLaws.{told_of, told_or_not}
 use Rattle.hp_driver.proofs.RanLaws.{heard_nothing}
 use Rattle.hp_driver.proofs.choosing.run_choosing.Goals as goal
@@ -17,8 +17,13 @@ returns-in_default-clause-outcome g c =
     c.report_no_node.ensures.reports (run_no_node name ordered (MatchOption-at_none _ _ c.in_default.is c.node_named.ensures)) in
     ([], told.0, Grows-nil (g.C.Console.events c.args.console.now), heard_nothing (g.C.Console.left c.args.console.now), told.1, told.2)
 
-pub run_node-requires : goal.run_node-requires
-run_node-requires g c = c.in-Ok.ensures.form
+pub run_node-requires-clause-form : goal.run_node-requires-clause-form
+run_node-requires-clause-form g c = c.in-Ok.ensures.form
+
+pub run_node-requires-clause-own : goal.run_node-requires-clause-own
+run_node-requires-clause-own g c =
+    let node = c.in-Some.found in
+    (its_machine c.nodes_have_their_machines.ensures c.args.ordered.now c.in-Ok.machines c.in-Ok.ensures c.args.node.now node.now (MatchOption-at_some _ _ node c.in-Some.is c.node_named.ensures)).0
 
 pub returns-in-Ok-clause-outcome : goal.returns-in-Ok-clause-outcome
 returns-in-Ok-clause-outcome g c =

@@ -4,10 +4,13 @@ use Rattle.hp_driver.specs.Executing.{executing}
 use Rattle.hp_driver.specs.Ran.{Ran}
 use Rattle.hp_driver.specs.Status.{code_of}
 use Rattle.hp_driver.specs.Systems.{of_machine}
-use Rattle.hp_driver.proofs.ChoosingLaws.{chosen_ran, chosen_memory}
+use Rattle.hp_driver.proofs.ChoosingLaws.{chosen_ran, chosen_memory, is_there}
 use Rattle.hp_driver.proofs.ExecutionLaws.{few_inputs, behaves}
 use Rattle.hp_driver.proofs.RanLaws.{heard_nothing}
 use Rattle.hp_driver.proofs.choosing.run_chosen.Goals as goal
+
+pub report_choosing-requires : goal.report_choosing-requires
+report_choosing-requires g c = is_there c.args.machines.now c.args.name.now c.in-Err.error c.requires.there c.in-Err.ensures
 
 pub returns-in-Err-clause-outcome : goal.returns-in-Err-clause-outcome
 returns-in-Err-clause-outcome g c =
@@ -22,7 +25,7 @@ returns-in-Err-clause-outcome g c =
     )
 
 pub new-requires-2-clause-few : goal.new-requires-2-clause-few
-new-requires-2-clause-few g c = few_inputs c.args.machines.now c.args.name.now c.in-Ok.exec c.requires c.in-Ok.ensures
+new-requires-2-clause-few g c = few_inputs c.args.machines.now c.args.name.now c.in-Ok.exec c.requires.form c.in-Ok.ensures
 
 pub new-requires-2-clause-behaves : goal.new-requires-2-clause-behaves
 new-requires-2-clause-behaves g c = behaves c.args.machines.now c.args.name.now c.in-Ok.exec c.in-Ok.ensures

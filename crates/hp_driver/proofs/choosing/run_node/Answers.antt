@@ -1,26 +1,11 @@
-use Rattle.std.proofs.Common.{[], rules, IsTrue}
-use Rattle.hp_io.proofs.ToldLaws.{Grows-nil}
-use Rattle.hp_driver.specs.Command.{not_built_line}
-use Rattle.hp_driver.specs.Follows.{NodeRun}
 use Rattle.hp_driver.specs.Status.{code_of}
-use Rattle.hp_driver.proofs.ChoosingLaws.{node_failed, node_not_built, node_ran}
-use Rattle.hp_driver.proofs.OutcomeLaws.{told_of}
-use Rattle.hp_driver.proofs.RanLaws.{heard_nothing}
+use Rattle.hp_driver.proofs.ChoosingLaws.{chosen_there, node_ran}
 use Rattle.hp_driver.proofs.choosing.run_node.Goals as goal
 
-pub returns-then-not-is_chosen-clause-outcome : goal.returns-then-not-is_chosen-clause-outcome
-returns-then-not-is_chosen-clause-outcome g c =
-    let o = c.args.machines.now in
-    let n = c.args.node.now in
-    let name = c.args.name.now in
-    let told = told_of (NodeRun o n name []) (node_failed o n name []) (g.E.Sink.took c.args.diag.now) (g.E.Sink.took c.report.new.diag) not_built_line 1 (code_of c.report.result) c.report.ensures.reports (node_not_built o n name) in
-    ([], told.0, Grows-nil (g.C.Console.events c.args.console.now), heard_nothing (g.C.Console.left c.args.console.now), told.1, told.2)
+pub run_chosen-requires-clause-there : goal.run_chosen-requires-clause-there
+run_chosen-requires-clause-there g c = chosen_there c.args.machines.now c.args.name.now c.args.node.now c.requires.own
 
 pub returns-clause-outcome : goal.returns-clause-outcome
 returns-clause-outcome g c =
-    let o = c.args.machines.now in
-    let n = c.args.node.now in
-    let name = c.args.name.now in
     let ran = c.run_chosen.ensures.outcome in
-    let is : IsTrue c.is_chosen.result = search rules in
-    (ran.0, ran.1, ran.2, ran.3, ran.4, node_ran o n name ran.0 ran.1 (code_of c.run_chosen.result) (c.is_chosen.ensures is) ran.5)
+    (ran.0, ran.1, ran.2, ran.3, ran.4, node_ran c.args.machines.now c.args.node.now c.args.name.now ran.0 ran.1 (code_of c.run_chosen.result) c.requires.own ran.5)

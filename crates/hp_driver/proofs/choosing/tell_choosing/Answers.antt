@@ -4,7 +4,7 @@ use Rattle.hp_io.proofs.ToldLaws.{Grows-nil}
 use Rattle.hp_driver.specs.Command.{not_built_line, no_node_line}
 use Rattle.hp_driver.specs.Follows.{ChoosingTell}
 use Rattle.hp_driver.specs.Status.{code_of}
-use Rattle.hp_driver.proofs.ChoosingLaws.{tell_failed, tell_memory, tell_not_built, tell_no_node, choosing_told}
+use Rattle.hp_driver.proofs.ChoosingLaws.{its_machine, tell_failed, tell_memory, tell_not_built, tell_no_node, choosing_told}
 use Rattle.hp_driver.proofs.OutcomeLaws.{told_of, told_or_not}
 use Rattle.hp_driver.proofs.RanLaws.{heard_nothing}
 use Rattle.hp_driver.proofs.choosing.tell_choosing.Goals as goal
@@ -17,8 +17,18 @@ returns-in_default-clause-outcome g c =
     c.report_no_node.ensures.reports (tell_no_node name ordered (MatchOption-at_none _ _ c.in_default.is c.node_named.ensures)) in
     ([], told.0, Grows-nil (g.C.Console.events c.args.console.now), heard_nothing (g.C.Console.left c.args.console.now), told.1, told.2)
 
-pub tell_node-requires : goal.tell_node-requires
-tell_node-requires g c = c.in-Ok.ensures.form
+pub tell_node-requires-clause-form : goal.tell_node-requires-clause-form
+tell_node-requires-clause-form g c = c.in-Ok.ensures.form
+
+pub tell_node-requires-clause-own : goal.tell_node-requires-clause-own
+tell_node-requires-clause-own g c =
+    let node = c.in-Some.node in
+    (its_machine c.nodes_have_their_machines.ensures c.args.ordered.now c.in-Ok.machines c.in-Ok.ensures c.args.name.now node.now (MatchOption-at_some _ _ node c.in-Some.is c.node_named.ensures)).0
+
+pub tell_node-requires-clause-told : goal.tell_node-requires-clause-told
+tell_node-requires-clause-told g c =
+    let node = c.in-Some.node in
+    (its_machine c.nodes_have_their_machines.ensures c.args.ordered.now c.in-Ok.machines c.in-Ok.ensures c.args.name.now node.now (MatchOption-at_some _ _ node c.in-Some.is c.node_named.ensures)).1
 
 pub returns-in-Ok-clause-outcome : goal.returns-in-Ok-clause-outcome
 returns-in-Ok-clause-outcome g c =

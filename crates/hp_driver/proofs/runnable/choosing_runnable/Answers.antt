@@ -4,7 +4,7 @@ use Rattle.hp_io.proofs.ToldLaws.{Grows-nil}
 use Rattle.hp_driver.specs.Command.{not_built_line, no_node_line}
 use Rattle.hp_driver.specs.Follows.{ChoosingRun, NodeRun}
 use Rattle.hp_driver.specs.Status.{code_of}
-use Rattle.hp_driver.proofs.ChoosingLaws.{run_failed, run_memory, run_not_built, run_no_node, choosing_ran}
+use Rattle.hp_driver.proofs.ChoosingLaws.{its_machine, run_failed, run_memory, run_not_built, run_no_node, choosing_ran}
 use Rattle.hp_driver.proofs.OutcomeLaws.{told_of, told_or_not}
 use Rattle.hp_driver.proofs.RunnableLaws.{ends_map}
 use Rattle.hp_driver.proofs.runnable.choosing_runnable.Goals as goal
@@ -15,6 +15,11 @@ returns-in_default-clause-told g c =
     let ordered = c.args.ordered.now in
     told_or_not (ChoosingRun name ordered []) (run_failed name ordered []) (run_memory name ordered) (g.E.Sink.took c.args.diag.now) (g.E.Sink.took c.report_no_node.new.diag) (no_node_line name) 1 (code_of c.report_no_node.result)
     c.report_no_node.ensures.reports (run_no_node name ordered (MatchOption-at_none _ _ c.in_default.is c.node_named.ensures))
+
+pub chosen_runnable-requires : goal.chosen_runnable-requires
+chosen_runnable-requires g c =
+    let node = c.in-Some.found in
+    (its_machine c.nodes_have_their_machines.ensures c.args.ordered.now c.in-Ok.machines c.in-Ok.ensures c.args.node.now node.now (MatchOption-at_some _ _ node c.in-Some.is c.node_named.ensures)).0
 
 pub returns-in-Ok-clause-told : goal.returns-in-Ok-clause-told
 returns-in-Ok-clause-told g c =
