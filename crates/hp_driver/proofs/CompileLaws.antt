@@ -110,5 +110,5 @@ contract_refused cause out words files file text w gives (IsNotCompiled.contract
     Outcome.contract_refused cause (IsOverSource.to_compile w) held (has_one files file program held some) differs refuses
 
 pub not_built : Uncompiled NotBuilt not_built_line 1
-not_built out words files file text w gives (IsNotCompiled.not_built {program = program} {ordered = ordered} found kept some) =
+not_built out words files file text w gives (IsNotCompiled.not_built {program = program} {ordered = ordered} found kept some lacks) =
     Outcome.not_built (AsksToChoose.to_compile w some) (held_by text files file gives program ordered found) kept
