@@ -6,7 +6,7 @@ use Rattle.hp_compile.specs.Judged.{IsJudged}
 use Rattle.hp_compile.specs.Refusals.{IsRefused}
 use Rattle.hp_compile.specs.declared.refusal.Refusal.{Refusal}
 use Rattle.hp_compile.specs.declared.refusal.Refusal.TheVariants as refusal
-use Rattle.hp_controlled.specs.Lacking.{HasNoChosenMachines}
+use Rattle.hp_controlled.specs.Lacking.{HasNoChosenMachines, SaysNotBuilt}
 use Rattle.hp_controlled.specs.Among.{FormLaw}
 use Rattle.hp_controlled.specs.Joining.{SameLaw}
 use Rattle.hp_controlled.specs.declared.error.ControlledErr.{ControlledErr}
@@ -78,6 +78,11 @@ module _ (text : List ℕ) (program ordered : List Item) (found : IsFound text p
 
     pub compiled_by : (o : Obc) → AreMachinesFor program ordered o → IsCompiled text o
     compiled_by o machines = record { program = program; ordered = ordered; found = found; kept = in_games law kept; machines = machines; runs = runs_of o machines; says = says_of o machines }
+
+-- where nodes choose, what is in the way is told with that
+pub says_where : {A : Type 0} (G : A → Type 0) (H P : Type 0) (r : Result A ControlledErr) → H → MatchResult r G (SaysNotBuilt P) → IfErr r (λ e. e ≡ controlled.NotBuilt → H × P)
+says_where G H P (Ok o) some h = tt
+says_where G H P (Err e) some h = λ q. (some, h q)
 
 -- a contract is not refused because its circuit is not built
 pub has_circuit : OutcomesLaw → (program ordered : List Item) → IsArrangedText program ordered → (cause : ContractErr) → Refuses ordered cause → HasCircuit (of_contract cause)
