@@ -14,5 +14,6 @@ pub mod Integers
 pub mod Ordered
 pub mod Listed
 pub mod PlantRuns
-pub mod Compared
-pub mod ComparedPrograms
+pub mod Callees
+pub mod HeldByName
+pub mod SeenPrograms

@@ -6,5 +6,5 @@ pub mod Greatest
 pub mod Plants
 pub mod Named
 pub mod Telling
-pub mod Comparing
-pub mod Compared
+pub mod ByName
+pub mod SeenByName

@@ -3,7 +3,7 @@
 //! The functions here do nothing: each is a law, which its contract states.
 #![tactic(auto)]
 
-ghost use Rattle.law_choices.specs.Seeing.Compared.{ComparedLaw};
+ghost use Rattle.law_choices.specs.Seeing.SeenByName.{SeenByNameLaw};
 ghost use Rattle.law_choices.specs.Seeing.Found.{FilledFoundLaw};
 ghost use Rattle.law_choices.specs.Seeing.Greatest.{SeenGreatestLaw};
 ghost use Rattle.law_choices.specs.Seeing.Held.{HeldCodesLaw};
@@ -118,9 +118,9 @@ pub fn contracts_that_are_seen_are_told()
     machine_choices_are_kept();
 }
 
-/// In these nodes, if nothing is free in a node but its inputs and comparisons of integers that have names, the equations hold values of the free places: of their types, and the reaction's own wherever an instant looks at them.
-pub fn named_comparisons_are_seen()
-    ensures { ComparedLaw }
+/// In these nodes, if nothing is free in a node but its inputs, and comparisons of integers and outputs of calls that have names, the equations hold values of the free places: of their types, and the reaction's own wherever an instant looks at them.
+pub fn named_places_are_seen()
+    ensures { SeenByNameLaw }
 {
     meanings_give_the_chosen_reactions();
     programs_have_one_meaning_under_each_choice();

@@ -26,7 +26,7 @@ use Rattle.law_wellmade.proofs.TimelyLemmas.KindLaws.{are_of}
 use Rattle.law_choices.specs.Playing.Greatest.{ChoosesGreatest, GreatestLaw}
 use Rattle.law_choices.specs.Playing.Telling.{ContractToldLaw}
 use Rattle.law_choices.specs.Runs.Chosen.{ChosenReaction}
-use Rattle.law_choices.specs.Seeing.Compared.{ComparedLaw}
+use Rattle.law_choices.specs.Seeing.SeenByName.{SeenByNameLaw}
 use Rattle.law_choices.specs.Seeing.Greatest.{SeenGreatestLaw}
 use Rattle.law_choices.specs.Seeing.Telling.{SeenToldLaw}
 use Rattle.law_choices.specs.Runs.Laws.{ChoosesValues, OfProgramLaw}
@@ -52,7 +52,7 @@ pub record SteeringLaws : Type 0 where
   pub instances : InKindLaw
   pub tells : TellsForLaw
   pub told : ContractToldLaw
-  pub compares : ComparedLaw
+  pub by_name : SeenByNameLaw
   pub seen : SeenGreatestLaw
   pub seen_told : SeenToldLaw
 

@@ -1,7 +1,7 @@
--- Nothing is free in the heater but its inputs, and a house that calls it has its greatest permitted values. The comparisons of the cooler have names, and it has its greatest permitted values in a store that calls it.
+-- Nothing is free in the heater but its inputs, and a house that calls it has its greatest permitted values. The comparisons of the cooler have names, and it has its greatest permitted values in a store that calls it. The output of the latch has a name in the pump, which has its greatest permitted values.
 use Rattle.std.proofs.Common.{inl, inr, refl, arith}
 use Rattle.law_controlled.specs.AtDepth.{SeesAll}
-use Rattle.law_controlled.specs.Worked.{CoolerLaw, HeaterLaw, HouseLaw, StoreLaw, cool_promise, cooler, cooler_call, heater, housing, its_call, promise, storing}
+use Rattle.law_controlled.specs.Worked.{CoolerLaw, HeaterLaw, HouseLaw, PumpLaw, StoreLaw, cool_promise, cooler, cooler_call, dry_promise, heater, housing, its_call, promise, pump, pumping, storing}
 
 pub heater_law : HeaterLaw
 heater_law = ((promise, refl), refl, refl)
@@ -20,3 +20,9 @@ cooler_sees = inr (inr refl)
 
 pub store_law : StoreLaw
 store_law = (cooler_sees, λ past now h t. (h.1 0 cooler_call (omega arith) t).0 cooler_sees)
+
+pump_sees : SeesAll pumping pump
+pump_sees = inr (inr refl)
+
+pub pump_law : PumpLaw
+pump_law = ((dry_promise, refl), refl, λ past now h. h.0 pump_sees)

@@ -1,4 +1,4 @@
--- Nodes with a controllable variable of which nothing is free but the inputs, and named comparisons of integers. A heater has three modes, one of which is chosen: it is off where it is hot, and never goes from full to off at once, if a warning comes before it gets hot. A house calls it. A cooler is told a temperature, and is off where that is low. A store calls it, and tells it less than is measured.
+-- Nodes with a controllable variable of which nothing is free but the inputs, named comparisons of integers, and named outputs of calls. A heater has three modes, one of which is chosen: it is off where it is hot, and never goes from full to off at once, if a warning comes before it gets hot. A house calls it. A cooler is told a temperature, and is off where that is low. A store calls it, and tells it less than is measured. A pump calls a latch with a contract, which tells whether the level was ever high, and does not run then.
 -- Source: own.
 use Rattle.std.specs.Prelude.{◌≡◌, codes, false, ℕ, pos, IsTrue, List, [], ◌∷◌, ◌++◌, None, Some, map, reverse}
 use Rattle.hp_base.specs.declared.span.Span.{Span}
@@ -7,7 +7,7 @@ use Rattle.hp_base.specs.declared.ty.Ty.{Ty}
 use Rattle.hp_base.specs.declared.ty.Ty.TheVariants as ty
 use Rattle.hp_tree.specs.declared.decl.Cons.TheVariants.{True}
 use Rattle.hp_tree.specs.declared.expr.Op1.TheVariants.{Not}
-use Rattle.hp_tree.specs.declared.expr.Op2.TheVariants.{And, Eq, Imp, Lt, Sub}
+use Rattle.hp_tree.specs.declared.expr.Op2.TheVariants.{And, Eq, Gt, Imp, Lt, Or, Sub}
 use Rattle.hp_tree.specs.declared.program.Item.{Item}
 use Rattle.hp_tree.specs.declared.program.Item.TheVariants.{NodeItem, TypeItem}
 use Rattle.hp_tree.specs.Blocks.{Block, Decl, Eqn, block, define, eqns_of}
@@ -21,7 +21,7 @@ use Rattle.hp_meaning.specs.Contract.ChosenRuns.{own_past}
 use Rattle.hp_meaning.specs.Contract.FreePlaces.{calls_of, instance_at}
 use Rattle.hp_meaning.specs.Contract.Guarantee.{HasContract}
 use Rattle.law_choices.specs.Playing.Inputs.{HasInputsAlone}
-use Rattle.law_choices.specs.Seeing.Comparing.{ComparesByName}
+use Rattle.law_choices.specs.Seeing.ByName.{SeesByName}
 use Rattle.law_controlled.specs.AtDepth.{InEach, IsGreatestAt, IsGreatestIfSeen, SeesAll}
 
 abbrev somewhere : Span
@@ -144,7 +144,7 @@ cooling = TypeItem mode ∷ NodeItem cooler ∷ []
 
 -- It has a contract, nothing is free in it but its input and these comparisons, and it calls nothing.
 abbrev pub CoolerLaw : Type 0
-CoolerLaw = HasContract cooler × ComparesByName cooling cooler × (calls_of cooler ≡ [])
+CoolerLaw = HasContract cooler × SeesByName cooling cooler × (calls_of cooler ≡ [])
 
 -- ---- a store that calls it
 
@@ -174,3 +174,60 @@ StoreLaw =
     SeesAll storing cooler
     × ((past : Past) (now : Instant) → InEach (IsGreatestIfSeen storing) (reverse storing) store.name past now → IsTrue (is_there (instance_at cooler_call now (Fresh ∷ [])))
     → IsGreatestAt storing cooler (own_past (cooler_call.place ++ (Instance ∷ [])) past now) (instance_at cooler_call now))
+
+-- ---- a pump that calls a latch
+
+-- where the level is high it is full, and no integers are compared to tell so
+abbrev pub full_promise : Contract
+full_promise = record {
+  span = somewhere;
+  body = block [] (eqns_of []);
+  assume = None;
+  enforce = Some (two somewhere Imp (read (codes "high")) (read (codes "full")));
+  controls = [];
+}
+
+abbrev pub latch : Node
+latch = record {
+  name = codes "latch";
+  inputs = declared (codes "high") ty.Bool ∷ [];
+  outputs = declared (codes "full") ty.Bool ∷ [];
+  contract = Some full_promise;
+  body = block [] (eqns_of (equals (codes "full") (two somewhere Or (read (codes "high")) (before (read (codes "full")))) ∷ []));
+  span = somewhere;
+}
+
+abbrev pub dry_promise : Contract
+dry_promise = record {
+  span = somewhere;
+  body = block [] (eqns_of []);
+  assume = None;
+  enforce = Some (one somewhere Not (two somewhere And (read (codes "full")) (read (codes "runs"))));
+  controls = declared (codes "on") ty.Bool ∷ [];
+}
+
+-- the level is compared under a name, and the output of the latch has one
+abbrev pub pump : Node
+pump = record {
+  name = codes "pump";
+  inputs = declared (codes "level") ty.Int ∷ [];
+  outputs = declared (codes "full") ty.Bool ∷ declared (codes "runs") ty.Bool ∷ [];
+  contract = Some dry_promise;
+  body = block (declared (codes "high") ty.Bool ∷ [])
+      (eqns_of (
+      equals (codes "high") (two somewhere Gt (read (codes "level")) (constant somewhere (const.I (pos 9))))
+      ∷ equals (codes "full") (call somewhere (codes "latch") false (more_exprs (read (codes "high")) no_expr))
+      ∷ equals (codes "runs") (read (codes "on"))
+      ∷ []
+      ));
+  span = somewhere;
+}
+
+abbrev pub pumping : List Item
+pumping = NodeItem latch ∷ NodeItem pump ∷ []
+
+-- It has a contract, and it sees all. So where each instance that sees all has the greatest permitted values, the pump has them in each of its runs, though its contract reads what it is told by the latch.
+abbrev pub PumpLaw : Type 0
+PumpLaw =
+    HasContract pump × SeesByName pumping pump
+    × ((past : Past) (now : Instant) → InEach (IsGreatestIfSeen pumping) (reverse pumping) pump.name past now → IsGreatestAt pumping pump past now)

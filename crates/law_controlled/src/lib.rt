@@ -1,4 +1,4 @@
-//! Laws: each line that the machines of a program say whose nodes choose the values of their controllable variables is one that the program allows; where nothing is free in a node but its inputs, and comparisons of integers that have names, it is one of a run of the greatest permitted values. `hp_driver` uses it for `run` and `compile`.
+//! Laws: each line that the machines of a program say whose nodes choose the values of their controllable variables is one that the program allows; where nothing is free in a node but its inputs, and comparisons of integers and outputs of calls that have names, it is one of a run of the greatest permitted values. `hp_driver` uses it for `run` and `compile`.
 //!
 //! The functions here do nothing: each is a law, which its contract states.
 #![tactic(auto)]
@@ -14,7 +14,7 @@ ghost use Rattle.law_controlled.specs.Parts.{MadePartLaw};
 ghost use Rattle.law_controlled.specs.Remaining.{RemainingLaw};
 ghost use Rattle.law_controlled.specs.Said.{GreatestSaidLaw, SaidLaw};
 ghost use Rattle.law_controlled.specs.Program.{ChoosingNamesLaw, MadeNamesLaw, MadeNodesLaw};
-ghost use Rattle.law_controlled.specs.Worked.{CoolerLaw, HeaterLaw, HouseLaw, StoreLaw};
+ghost use Rattle.law_controlled.specs.Worked.{CoolerLaw, HeaterLaw, HouseLaw, PumpLaw, StoreLaw};
 
 use hp_abstract::nodes_have_one_abstraction;
 use hp_form::regular::regular_equations_have_form;
@@ -46,7 +46,7 @@ use law_choices::playing::{
 };
 use law_choices::runs::chosen_values_make_one_reaction;
 use law_choices::seeing::{
-    contracts_that_are_seen_are_told, named_comparisons_are_seen,
+    contracts_that_are_seen_are_told, named_places_are_seen,
     nodes_that_see_values_choose_the_greatest,
 };
 use law_choices::undisturbed::controls_are_apart;
@@ -146,7 +146,7 @@ pub fn machines_of_texts_say_what_is_allowed()
     contracts_of_texts_can_be_observed();
 }
 
-/// And if nothing is free in such a node but its inputs, and comparisons of integers that have names, the controllable variables have the greatest permitted values in that reaction; so it keeps its contract. So it is of each instance in the reaction, at every depth, if nothing is free in its node but inputs and such comparisons. The machine of a contract says what the machine of its node says, with two truth values behind; if the node is such a node, and it calls nothing, these are the values of the assumption and of the guarantee in that reaction.
+/// And if nothing is free in such a node but its inputs, and comparisons of integers and outputs of calls that have names, the controllable variables have the greatest permitted values in that reaction; so it keeps its contract. So it is of each instance in the reaction, at every depth, if nothing is free in its node but inputs and such comparisons and outputs. The machine of a contract says what the machine of its node says, with two truth values behind; if the node is such a node, and it calls nothing, these are the values of the assumption and of the guarantee in that reaction.
 pub fn machines_of_texts_choose_the_greatest()
     ensures { GreatestSaidLaw }
 {
@@ -155,7 +155,7 @@ pub fn machines_of_texts_choose_the_greatest()
     instances_react_in_kind();
     a_node_tells_each_contract();
     contracts_are_told();
-    named_comparisons_are_seen();
+    named_places_are_seen();
     nodes_that_see_values_choose_the_greatest();
     contracts_that_are_seen_are_told();
     chosen_values_make_one_reaction();
@@ -246,4 +246,9 @@ pub fn a_worked_cooler()
 /// The cooler has the greatest permitted values in a store that calls it and tells it an integer, and keeps its contract there.
 pub fn a_worked_store()
     ensures { StoreLaw }
+{}
+
+/// In a pump that is told a level, and calls a latch, nothing is free but the input, a comparison and the output of the latch, which have names. So it has the greatest permitted values.
+pub fn a_worked_pump()
+    ensures { PumpLaw }
 {}

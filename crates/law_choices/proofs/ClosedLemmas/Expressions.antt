@@ -65,7 +65,7 @@ module _ (k : Known) where
       let rest = outputs_long os e in
       omega (arith, long, rest)
 
-  outputs_bare : (os : List Decl) (d : Sketch) → (with_outputs k os d).eqns ≡ d.eqns
+  pub outputs_bare : (os : List Decl) (d : Sketch) → (with_outputs k os d).eqns ≡ d.eqns
   outputs_bare [] d = refl
   outputs_bare (o ∷ os) d = outputs_bare os (with_new o.name (flat_type k.types o.ty) d)
 

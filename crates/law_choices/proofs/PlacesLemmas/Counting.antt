@@ -47,7 +47,7 @@ module _ {X : Type 0} where
     expr-leaves (merge s x ps) es = parts-leave ps es
     expr-leaves (call s f inlined xs) es = ap (drop 1) (all-leave xs es) ∙ drop-more (in_exprs xs) 1 es
 
-    all-leave : (xs : Exprs) → Leaves (walk_all xs) (in_exprs xs)
+    pub all-leave : (xs : Exprs) → Leaves (walk_all xs) (in_exprs xs)
     all-leave no_expr es = refl
     all-leave (more_exprs e xs) es = leaves-two (walk e) (walk_all xs) (in_expr e) (in_exprs xs) (expr-leaves e) (all-leave xs) es
 

@@ -185,7 +185,7 @@ module _ (outputs : List ℕ → List (List ℕ)) (k : Known) (knows : KnowsOutp
         adds-two d m.0 (sketch_parts k see at t (Some m.1) ps m.0).0 (spots outputs e (below Head here)) (spots_of_parts outputs ps (below Tail here))
         (adds-more d x.0 m.0 (spots outputs e (below Head here)) (expr-adds e see on (below Head here) d) (adds-part on o x)) (parts-add ps see at t (Some m.1) (below Tail here) m.0)
 
-    exprs-add : (es : Exprs) (see : Sight) (at : Site) (here : Prefix) (d : Sketch) → Adds d (sketch_exprs k see at es d).0 (spots_of_all outputs es here)
+    pub exprs-add : (es : Exprs) (see : Sight) (at : Site) (here : Prefix) (d : Sketch) → Adds d (sketch_exprs k see at es d).0 (spots_of_all outputs es here)
     exprs-add no_expr see at here d = adds-none d d refl
     exprs-add (more_exprs e es) see at here d =
         let x = sketch_expr k see at e d in

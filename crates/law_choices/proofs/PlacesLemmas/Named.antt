@@ -1,5 +1,5 @@
 -- What is made of a comparison that has a name is copied to the variable of the name.
-use Rattle.std.proofs.Common.{◌≡◌, inl, inr, ℕ, zero, suc, List, [], ◌∷◌, ◌++◌, map, refl, sym, ap, ap₂, subst, ◌∙◌, Option, None, Some}
+use Rattle.std.proofs.Common.{◌≡◌, inl, inr, ℕ, zero, suc, ◌+◌, List, [], ◌∷◌, ◌++◌, map, refl, sym, ap, ap₂, subst, ◌∙◌, Option, None, Some}
 use Rattle.std.specs.Prelude.{⊤, slice_get, Bool, true, false, if◌then◌else◌}
 use Rattle.std.specs.List.{AllByRecursion}
 use Rattle.std.proofs.lemmas.List.{append-nil, append_assoc}
@@ -7,8 +7,9 @@ use Rattle.hp_base.specs.declared.span.Span.{Span}
 use Rattle.hp_base.specs.declared.ty.Ty.{Ty}
 use Rattle.hp_base.specs.declared.value.Value.{Value}
 use Rattle.hp_tree.specs.declared.expr.Op2.{Op2}
-use Rattle.hp_tree.specs.Expressions.{Expr, two}
+use Rattle.hp_tree.specs.Expressions.{Expr, two, call, Exprs}
 use Rattle.hp_tree.specs.Blocks.{Decl, Block, block, Eqns, no_eqn, more_eqns, Eqn, define}
+use Rattle.hp_tree.specs.Instant.{Place}
 use Rattle.hp_tree.specs.Programs.{Node}
 use Rattle.hp_tree.specs.Meaning.{controls_of}
 use Rattle.hp_flat.specs.declared.equation.Atom.{Atom}
@@ -16,26 +17,29 @@ use Rattle.hp_flat.specs.declared.equation.Atom.TheVariants.{Variable}
 use Rattle.hp_typing.specs.Types.{type_of}
 use Rattle.law_judged.specs.Typed.Scopes.{Scope}
 use Rattle.hp_flat.specs.declared.node.FlatTy.{FlatTy}
-use Rattle.hp_flat.specs.Equations.{Clock, FlatEqn, Right, operator}
+use Rattle.hp_flat.specs.Equations.{Clock, FlatEqn, Right, called, operator}
 use Rattle.law_automata.specs.Lowered.Standing.{Along}
 use Rattle.law_equations.specs.Flattened.Flatten.{obc_two}
 use Rattle.law_equations.specs.Made.Blocks.{locals_of}
 use Rattle.law_equations.specs.Made.Laws.{unplaced}
-use Rattle.law_equations.specs.Made.Making.{Known, Sketch, Site, Sight, Seen, Body, base_site, bind, block_layer, copy_of, each_once, enter_path, flat_type, names_of_eqns, next, no_entry, nothing_made, over, path_for, path_of, remember_all, signed, sketch_block, sketch_eqn, sketch_eqns, sketch_expr, sketch_node, type_two, unknown, value_of}
+use Rattle.law_equations.specs.Made.Making.{Known, Sketch, Site, Sight, Seen, Body, atom_of, base_site, bind, bind_outputs, block_layer, called_at, copy_of, each_once, enter_path, flat_type, names_of_eqns, next, no_entry, nothing_made, numbers_from, others, output_left, outputs_of, over, path_for, path_of, remember_all, signed, sketch_block, sketch_eqn, sketch_eqns, sketch_expr, sketch_exprs, sketch_node, type_two, unknown, value_of}
 use Rattle.law_equations.specs.Meaning.Instants.{Instant}
-use Rattle.law_equations.proofs.FittingLemmas.Growth.{Grown, bind-grown, both, same, value-grown}
+use Rattle.law_equations.proofs.FittingLemmas.Growth.{Grown, bind-grown, bind-outputs-grown, both, same, value-grown}
 use Rattle.law_equations.proofs.FittingLemmas.ExpressionGrowth.{expr-grown}
 use Rattle.law_equations.proofs.FittingLemmas.BlockGrowth.{eqns-grown}
-use Rattle.law_wellmade.proofs.BegunLemmas.Keeping.{HasType}
+use Rattle.law_wellmade.proofs.BegunLemmas.Keeping.{HasType, Keeps}
 use Rattle.law_wellmade.proofs.BegunLemmas.Typing.{Grounded, SeesTypes, typed}
+use Rattle.law_wellmade.proofs.RegularLemmas.Expressions.{Outputs, called_typed, outputs_moved}
 use Rattle.law_equations.specs.Meaning.Reactions.{Answers, Holds}
 use Rattle.hp_watch.specs.Walk.{compares, is_event}
 use Rattle.law_choices.specs.Flat.Names.{body_sight, variable_of}
 use Rattle.law_choices.specs.Places.Laws.{AreMadeOf, IsEventOf, KnowsOutputs, events}
-use Rattle.law_choices.specs.Places.Spots.{Spot, spots, spots_of_eqn}
+use Rattle.law_choices.specs.Places.Spots.{Spot, spots, spots_of_all, spots_of_eqn}
 use Rattle.law_choices.specs.Places.Named.{AreNamed, nothing, quiet, named, CopyLaw, HasCopy, IsCopied, IsIn, NamedLaw}
+use Rattle.law_choices.specs.Seeing.ByName.{Naming, of_call, of_comparison}
+use Rattle.law_choices.proofs.ClosedLemmas.Expressions.{outputs_bare}
 use Rattle.law_choices.proofs.PlacesLemmas.Adding.{Adds, adds-lasts, adds-more, adds-path, adds-signed, compares-same, events-append}
-use Rattle.law_choices.proofs.PlacesLemmas.Events.{eqn-adds, expr-adds, heads_alike, layer-adds}
+use Rattle.law_choices.proofs.PlacesLemmas.Events.{eqn-adds, expr-adds, exprs-add, heads_alike, layer-adds}
 
 -- ---- lists
 
@@ -63,22 +67,24 @@ along-weaker R S w (e ∷ es) (y ∷ ys) h = (w e y h.0, along-weaker R S w es y
 more-copies : (es fs : List FlatEqn) → ((c : FlatEqn) → IsIn es c → IsIn fs c) → (e : FlatEqn) (t x : ℕ) → HasCopy es e t x → HasCopy fs e t x
 more-copies es fs w e t x h = record { copy = h.copy; is_in = w h.copy h.is_in; targets = h.targets; clock = h.clock; restart = h.restart; right = h.right }
 
--- ---- comparisons that have names
+-- ---- comparisons and calls that have names
 
--- a name, and the operator and the first operand of the comparison that it names
+-- what has a name, and where the places of its right side are in the node
 abbrev pub Label : Type 0
-Label = List ℕ × Op2 × Expr
+Label = Naming × (Place → Place)
 
 -- nothing is said of some events
 abbrev pub nones : {A : Type 0} → List A → List (Option Label)
 nones xs = map (λ x. None) xs
 
--- Of the events of some equations, in the order of making, some are comparisons that are right sides and have names.
+-- Of the events of some equations, in the order of making, some are comparisons and calls that are right sides and have names.
 pub data AreLabelled (outputs : List ℕ → List (List ℕ)) : Eqns → List (Option Label) → Type 0 where
   no_more : AreLabelled outputs no_eqn []
   other : (e : Eqn) (es : Eqns) (ls all : List (Option Label)) → all ≡ nones (spots_of_eqn outputs e (λ p. p)) ++ ls → AreLabelled outputs es ls → AreLabelled outputs (more_eqns e es) all
-  comparison : (s t u : Span) (y : List ℕ) (o : Op2) (a b c : Expr) (es : Eqns) (ls all : List (Option Label)) → compares o ≡ true → a ≡ c → all ≡ (nones (spots outputs a (λ p. p)) ++ (nones (spots outputs b (λ p. p)) ++ Some (y, o, c) ∷ [])) ++ ls
-      → AreLabelled outputs es ls → AreLabelled outputs (more_eqns (define s ((y, t) ∷ []) (two u o a b)) es) all
+  comparison : (s t u : Span) (y : List ℕ) (o : Op2) (a b c : Expr) (w : Place → Place) (es : Eqns) (ls all : List (Option Label)) → compares o ≡ true → a ≡ c
+      → all ≡ (nones (spots outputs a (λ p. p)) ++ (nones (spots outputs b (λ p. p)) ++ Some (of_comparison y o c, w) ∷ [])) ++ ls → AreLabelled outputs es ls → AreLabelled outputs (more_eqns (define s ((y, t) ∷ []) (two u o a b)) es) all
+  calling : (s u : Span) (ys : List (List ℕ × Span)) (f : List ℕ) (inlined : Bool) (args : Exprs) (w : Place → Place) (es : Eqns) (ls all : List (Option Label))
+      → all ≡ (nones (spots_of_all outputs args (λ p. p)) ++ Some (of_call ys f, w) ∷ []) ++ ls → AreLabelled outputs es ls → AreLabelled outputs (more_eqns (define s ys (call u f inlined args)) es) all
 
 -- ---- types of variables
 
@@ -91,6 +97,59 @@ at-front (x ∷ xs) ys (suc i) v h = at-front xs ys i v h
 grown-typed : (d e : Sketch) (x : ℕ) (t : FlatTy) → Grown d e → HasType d x t → HasType e x t
 grown-typed d e x t g h = (h.0, ap (λ vs. slice_get vs x) g.variables ∙ at-front d.variables g.more x h.0 h.1, h.2)
 
+grown-keeps : (d e : Sketch) → Grown d e → Keeps d e
+grown-keeps d e g = record { kept = λ x v h. ap (λ vs. slice_get vs x) g.variables ∙ at-front d.variables g.more x v h }
+
+-- ---- outputs of calls
+
+-- Variables in a row, one for each output, are copied to the variables of names.
+abbrev pub AreCopied : Sight → List FlatEqn → FlatEqn → List (List ℕ × Span) → ℕ → List Decl → Type 0
+AreCopied see es e [] t os = ⊤
+AreCopied see es e (y ∷ ys) t [] = ⊤
+AreCopied see es e (y ∷ ys) t (o ∷ os) = ((x : ℕ) → (see y.0).value ≡ Some x → HasCopy es e t x) × AreCopied see es e ys (t + 1) os
+
+are-more : (see : Sight) (es fs : List FlatEqn) → ((c : FlatEqn) → IsIn es c → IsIn fs c) → (e : FlatEqn) (ys : List (List ℕ × Span)) (t : ℕ) (os : List Decl) → AreCopied see es e ys t os → AreCopied see fs e ys t os
+are-more see es fs w e [] t os h = tt
+are-more see es fs w e (y ∷ ys) t [] h = tt
+are-more see es fs w e (y ∷ ys) t (o ∷ os) h = (λ x v. more-copies es fs w e t x (h.0 x v), are-more see es fs w e ys (t + 1) os h.1)
+
+-- what is bound to names, in equations that are no events
+pub record Bound (see : Sight) (d e : Sketch) (q : FlatEqn) (ys : List (List ℕ × Span)) (t : ℕ) (os : List Decl) : Type 0 where
+  pub more : List FlatEqn
+  pub eqns : e.eqns ≡ d.eqns ++ more
+  pub quiet : events more ≡ []
+  pub copied : AreCopied see more q ys t os
+
+one-bound : (at : Site) (v source : Option ℕ) (d : Sketch) → (more : List FlatEqn) × ((bind at v source d).eqns ≡ d.eqns ++ more) × (events more ≡ [])
+    × ((q : FlatEqn) → q.clock ≡ at.clock → q.restart ≡ at.restart → (t : ℕ) → source ≡ Some t → (x : ℕ) → v ≡ Some x → HasCopy more q t x)
+one-bound at None source d = ([], sym (append-nil d.eqns), refl, λ q c r t e x h. absurd cc)
+one-bound at (Some x) source d =
+    let copy : FlatEqn = record { targets = x ∷ []; clock = at.clock; right = copy_of (atom_of source); restart = at.restart; at = 0 } in (
+      copy ∷ [],
+      refl,
+      refl,
+      λ q c r t e y h.
+          let same : x ≡ y = cc in
+          record { copy = copy; is_in = inl refl; targets = ap (λ i. i ∷ []) same; clock = sym c; restart = sym r; right = ap (λ s. copy_of (atom_of s)) e },
+    )
+
+all-bound : (see : Sight) (at : Site) (q : FlatEqn) → q.clock ≡ at.clock → q.restart ≡ at.restart → (ys : List (List ℕ × Span)) (t : ℕ) (os : List Decl) (d : Sketch) → Bound see d (bind_outputs see at ys t os d) q ys t os
+all-bound see at q c r [] t os d = record { more = []; eqns = sym (append-nil d.eqns); quiet = refl; copied = tt }
+all-bound see at q c r (y ∷ ys) t os d =
+    let m = bind at (see y.0).value (output_left t os) d in
+    let one = one-bound at (see y.0).value (output_left t os) d in
+    let rest = all-bound see at q c r ys (t + 1) (others os) m in
+    record {
+      more = one.0 ++ rest.more;
+      eqns = rest.eqns ∙ ap (λ es. es ++ rest.more) one.1 ∙ append_assoc d.eqns one.0 rest.more;
+      quiet = events-append one.0 rest.more ∙ ap₂ (λ (es fs : List FlatEqn). es ++ fs) one.2 rest.quiet;
+      copied = by os one.0 rest.more (one.3 q c r t) rest.copied;
+    }
+  where
+    by : (os : List Decl) (es fs : List FlatEqn) → (output_left t os ≡ Some t → (x : ℕ) → (see y.0).value ≡ Some x → HasCopy es q t x) → AreCopied see fs q ys (t + 1) (others os) → AreCopied see (es ++ fs) q (y ∷ ys) t os
+    by [] es fs h k = tt
+    by (o ∷ os) es fs h k = (λ x v. more-copies es (es ++ fs) (in-left es fs) q t x (h refl x v), are-more see fs (es ++ fs) (in-right es fs) q ys (t + 1) os k)
+
 -- ---- from one sketch to another
 
 -- where names are seen so, a variable has the type of an expression
@@ -99,18 +158,31 @@ HasItsType k see d e x = (s : Scope) → Grounded k s → SeesTypes k s see → 
 
 module _ (k : Known) (see : Sight) (on : Clock) (ds : List Decl) (whole : Sketch) where
   -- an event of this operator whose target one of some equations copies to the variable of a name; it is on this clock, if nothing is written of that of the name; and its first operand is a variable that has its type in the whole
-  abbrev CopiedBy : List FlatEqn → FlatEqn → Label → Type 0
-  CopiedBy es e l =
-      (t : ℕ) × (e.targets ≡ t ∷ []) × ((x : ℕ) → (see l.0).value ≡ Some x → HasCopy es e t x) × (path_of ds l.0 ≡ [] → e.clock ≡ on)
-      × ((a : ℕ) × (b : Atom) × (e.right ≡ operator (obc_two l.1) (Variable a ∷ b ∷ [])) × HasItsType k see whole l.2 a)
+  abbrev ComparedBy : List FlatEqn → FlatEqn → List ℕ → Op2 → Expr → Type 0
+  ComparedBy es e y o operand =
+      (t : ℕ) × (e.targets ≡ t ∷ []) × ((x : ℕ) → (see y).value ≡ Some x → HasCopy es e t x) × (path_of ds y ≡ [] → e.clock ≡ on)
+      × ((a : ℕ) × (b : Atom) × (e.right ≡ operator (obc_two o) (Variable a ∷ b ∷ [])) × HasItsType k see whole operand a)
+
+  -- a call of this node, whose targets are variables in a row that have the types of its outputs in the whole, and are copied to the variables of names
+  abbrev CalledBy : List FlatEqn → FlatEqn → List (List ℕ × Span) → List ℕ → Type 0
+  CalledBy es e ys f =
+      (t : ℕ) × (e.targets ≡ numbers_from t (outputs_of (k.nodes f))) × ((args : List Atom) × (e.right ≡ called f args)) × Outputs k whole t (outputs_of (k.nodes f)) × AreCopied see es e ys t (outputs_of (k.nodes f))
+
+  abbrev NamedBy : List FlatEqn → FlatEqn → Naming → Type 0
+  NamedBy es e (of_comparison y o operand) = ComparedBy es e y o operand
+  NamedBy es e (of_call ys f) = CalledBy es e ys f
 
   abbrev LabelledBy : List FlatEqn → FlatEqn → Option Label → Type 0
   LabelledBy es e None = ⊤
-  LabelledBy es e (Some l) = CopiedBy es e l
+  LabelledBy es e (Some l) = NamedBy es e l.0
 
   copied-more : (es fs : List FlatEqn) → ((c : FlatEqn) → IsIn es c → IsIn fs c) → (e : FlatEqn) (l : Option Label) → LabelledBy es e l → LabelledBy fs e l
   copied-more es fs w e None h = tt
-  copied-more es fs w e (Some l) h = (h.0, h.1, λ x v. more-copies es fs w e h.0 x (h.2 x v), h.3, h.4)
+  copied-more es fs w e (Some l) h = by l.0 h
+    where
+      by : (n : Naming) → NamedBy es e n → NamedBy fs e n
+      by (of_comparison y o operand) h = (h.0, h.1, λ x v. more-copies es fs w e h.0 x (h.2 x v), h.3, h.4)
+      by (of_call ys f) h = (h.0, h.1, h.2, h.3, are-more see es fs w e ys h.0 (outputs_of (k.nodes f)) h.4)
 
   -- more equations stand behind, whose events are copied so
   abbrev Copies : Sketch → Sketch → List (Option Label) → Type 0
@@ -141,9 +213,9 @@ module _ (k : Known) (see : Sight) (on : Clock) (ds : List Decl) (whole : Sketch
     part-copies e at d = copies-none d (sketch_expr k see at e d).0 (spots outputs e (λ p. p)) (expr-adds outputs k knows e see at (λ p. p) d)
 
     -- the equation of a comparison, and that of its name
-    event-copies : (at : Site) (y : List ℕ) (o : Op2) (e : Expr) (a b : ℕ) (d : Sketch) → compares o ≡ true → (path_of ds y ≡ [] → at.clock ≡ on) → HasItsType k see whole e a
-        → (let z = value_of at (type_two o) (operator (obc_two o) (Variable a ∷ Variable b ∷ [])) d in Copies d (bind at (see y).value (Some z.1) z.0) (Some (y, o, e) ∷ []))
-    event-copies at y o operand a b d c based typed_so = by (see y).value refl
+    event-copies : (at : Site) (y : List ℕ) (o : Op2) (e : Expr) (right_of : Place → Place) (a b : ℕ) (d : Sketch) → compares o ≡ true → (path_of ds y ≡ [] → at.clock ≡ on) → HasItsType k see whole e a
+        → (let z = value_of at (type_two o) (operator (obc_two o) (Variable a ∷ Variable b ∷ [])) d in Copies d (bind at (see y).value (Some z.1) z.0) (Some (of_comparison y o e, right_of) ∷ []))
+    event-copies at y o operand right_of a b d c based typed_so = by (see y).value refl
       where
         right : Right
         right = operator (obc_two o) (Variable a ∷ Variable b ∷ [])
@@ -152,12 +224,12 @@ module _ (k : Known) (see : Sight) (on : Clock) (ds : List Decl) (whole : Sketch
         is = compares-same o ∙ c
 
         by : (v : Option ℕ) → (see y).value ≡ v
-            → (let z = value_of at (type_two o) (operator (obc_two o) (Variable a ∷ Variable b ∷ [])) d in Copies d (bind at v (Some z.1) z.0) (Some (y, o, operand) ∷ []))
+            → (let z = value_of at (type_two o) (operator (obc_two o) (Variable a ∷ Variable b ∷ [])) d in Copies d (bind at v (Some z.1) z.0) (Some (of_comparison y o operand, right_of) ∷ []))
         by None h =
             let e : FlatEqn = record { targets = next d ∷ []; clock = at.clock; right = operator (obc_two o) (Variable a ∷ Variable b ∷ []); restart = at.restart; at = 0 } in (
               e ∷ [],
               refl,
-              subst (λ (f : Bool). Along (LabelledBy (e ∷ [])) (if f then e ∷ [] else []) (Some (y, o, operand) ∷ [])) (sym is)
+              subst (λ (f : Bool). Along (LabelledBy (e ∷ [])) (if f then e ∷ [] else []) (Some (of_comparison y o operand, right_of) ∷ [])) (sym is)
                   ((next d, refl, λ x v. absurd (let n : None ≡ Some x = sym h ∙ v in cc), based, (a, Variable b, refl, typed_so)), tt),
             )
         by (Some w) h =
@@ -165,7 +237,7 @@ module _ (k : Known) (see : Sight) (on : Clock) (ds : List Decl) (whole : Sketch
             let copy : FlatEqn = record { targets = w ∷ []; clock = at.clock; right = copy_of (Variable (next d)); restart = at.restart; at = 0 } in (
               e ∷ copy ∷ [],
               append_assoc d.eqns (e ∷ []) (copy ∷ []),
-              subst (λ (f : Bool). Along (LabelledBy (e ∷ copy ∷ [])) (if f then e ∷ [] else []) (Some (y, o, operand) ∷ [])) (sym is) (
+              subst (λ (f : Bool). Along (LabelledBy (e ∷ copy ∷ [])) (if f then e ∷ [] else []) (Some (of_comparison y o operand, right_of) ∷ [])) (sym is) (
                 (
                   next d,
                   refl,
@@ -179,6 +251,22 @@ module _ (k : Known) (see : Sight) (on : Clock) (ds : List Decl) (whole : Sketch
               ),
             )
 
+    -- the equation of a call, and those of its names
+    call-copies : (at : Site) (ys : List (List ℕ × Span)) (f : List ℕ) (args : List Atom) (w : Place → Place) (d : Sketch)
+        → (let c = called_at k at f args (outputs_of (k.nodes f)) d in Grown c.0 whole → Copies d (bind_outputs see at ys c.1 (outputs_of (k.nodes f)) c.0) (Some (of_call ys f, w) ∷ []))
+    call-copies at ys f args w d g =
+        let os = outputs_of (k.nodes f) in
+        let c = called_at k at f args os d in
+        let e : FlatEqn = record { targets = numbers_from (next d) os; clock = at.clock; right = called f args; restart = at.restart; at = 0 } in
+        let b = all-bound see at e refl refl ys (next d) os c.0 in
+        let bare : c.0.eqns ≡ d.eqns ++ e ∷ [] = ap (λ es. es ++ e ∷ []) (outputs_bare k os d) in
+        let typed_so : Outputs k whole (next d) os = outputs_moved [] k os (next d) c.0 whole (grown-keeps c.0 whole g) (called_typed [] k at f args os d) in (
+          e ∷ b.more,
+          b.eqns ∙ ap (λ es. es ++ b.more) bare ∙ append_assoc d.eqns (e ∷ []) b.more,
+          subst (λ es. Along (LabelledBy (e ∷ b.more)) (e ∷ es) (Some (of_call ys f, w) ∷ [])) (sym b.quiet)
+              ((next d, refl, (args, refl), typed_so, are-more see b.more (e ∷ b.more) (λ z i. inr i) e ys (next d) os b.copied), tt),
+        )
+
     eqns-copies : (es : Eqns) (ls : List (Option Label)) → AreLabelled outputs es ls → (at : Site) → at.clock ≡ on → (d : Sketch) → Grown (sketch_eqns k see at ds es d) whole → Copies d (sketch_eqns k see at ds es d) ls
     eqns-copies every labels no_more at here d g = ([], sym (append-nil d.eqns), tt)
     eqns-copies every labels (other e es ls all q r) at here d g =
@@ -186,7 +274,7 @@ module _ (k : Known) (see : Sight) (on : Clock) (ds : List Decl) (whole : Sketch
         let ss = spots_of_eqn outputs e (λ p. p) in
         subst (Copies d (sketch_eqns k see at ds es x)) (sym q)
         (copies-two d x (sketch_eqns k see at ds es x) (nones ss) ls (copies-none d x ss (eqn-adds outputs k knows e see at ds (λ p. p) d)) (eqns-copies es ls r at here x g))
-    eqns-copies every labels (comparison s t u y o a b operand es ls all c same q r) at here d g =
+    eqns-copies every labels (comparison s t u y o a b operand w es ls all c same q r) at here d g =
         let e = two u o a b in
         let p = enter_path k see (path_for ds ((y, t) ∷ []) e) at d in
         let i = sketch_expr k see p.0 a p.1 in
@@ -195,7 +283,7 @@ module _ (k : Known) (see : Sight) (on : Clock) (ds : List Decl) (whole : Sketch
         let f = bind p.0 (see y).value (Some z.1) z.0 in
         let first = nones (spots outputs a (λ p. p)) in
         let second = nones (spots outputs b (λ p. p)) in
-        let own : List (Option Label) = Some (y, o, operand) ∷ [] in
+        let own : List (Option Label) = Some (of_comparison y o operand, w) ∷ [] in
         let based : path_of ds y ≡ [] → (p.0).clock ≡ on = λ q. ap (λ path. ((enter_path k see path at d).0).clock) q ∙ here in
         let behind : Grown i.0 whole =
         both i.0 j.0 whole (expr-grown k b see p.0 i.0)
@@ -205,8 +293,22 @@ module _ (k : Known) (see : Sight) (on : Clock) (ds : List Decl) (whole : Sketch
         subst (Copies d (sketch_eqns k see at ds es f)) (sym q)
         (copies-two d f (sketch_eqns k see at ds es f) (first ++ (second ++ own)) ls
         (copies-two d p.1 f [] (first ++ (second ++ own)) (copies-none d p.1 [] (adds-path k see (path_for ds ((y, t) ∷ []) e) at d))
-        (copies-two p.1 i.0 f first (second ++ own) (part-copies a p.0 p.1) (copies-two i.0 j.0 f second own (part-copies b p.0 i.0) (event-copies p.0 y o operand i.1 j.1 j.0 c based first_typed))))
+        (copies-two p.1 i.0 f first (second ++ own) (part-copies a p.0 p.1) (copies-two i.0 j.0 f second own (part-copies b p.0 i.0) (event-copies p.0 y o operand w i.1 j.1 j.0 c based first_typed))))
         (eqns-copies es ls r at here f g))
+    eqns-copies every labels (calling s u ys f inlined args w es ls all q r) at here d g =
+        let os = outputs_of (k.nodes f) in
+        let p = enter_path k see (path_for ds ys (call u f inlined args)) at d in
+        let i = sketch_exprs k see p.0 args p.1 in
+        let c = called_at k p.0 f i.1 os i.0 in
+        let m = bind_outputs see p.0 ys c.1 os c.0 in
+        let operands = nones (spots_of_all outputs args (λ p. p)) in
+        let own : List (Option Label) = Some (of_call ys f, w) ∷ [] in
+        let behind : Grown c.0 whole = both c.0 m whole (bind-outputs-grown see p.0 ys c.1 os c.0) (both m (sketch_eqns k see at ds es m) whole (eqns-grown k es ds see at m) g) in
+        subst (Copies d (sketch_eqns k see at ds es m)) (sym q)
+        (copies-two d m (sketch_eqns k see at ds es m) (operands ++ own) ls
+        (copies-two d p.1 m [] (operands ++ own) (copies-none d p.1 [] (adds-path k see (path_for ds ys (call u f inlined args)) at d))
+        (copies-two p.1 i.0 m operands own (copies-none p.1 i.0 (spots_of_all outputs args (λ p. p)) (exprs-add outputs k knows args see p.0 (λ p. p) p.1)) (call-copies p.0 ys f i.1 w i.0 behind)))
+        (eqns-copies es ls r at here m g))
 
 -- ---- a node
 
@@ -282,16 +384,29 @@ events-alike {Y = Y} R S w (e ∷ es) (x ∷ xs) ys h k =
 -- ---- the laws
 
 -- An event of this operator is copied to the variable of its name, and is on the base clock, if the name is; its first operand is a variable that has its type.
-pub record IsLabelled (k : Known) (n : Node) (es : List FlatEqn) (e : FlatEqn) (l : Label) : Type 0 where
+pub record IsCompared (k : Known) (n : Node) (es : List FlatEqn) (e : FlatEqn) (y : List ℕ) (o : Op2) (operand : Expr) : Type 0 where
   pub first : ℕ
   pub second : Atom
-  pub right : e.right ≡ operator (obc_two l.1) (Variable first ∷ second ∷ [])
-  pub typed : HasItsType k (body_sight k n) (sketch_node k n) l.2 first
-  pub copied : IsCopied k n es e l.0
+  pub right : e.right ≡ operator (obc_two o) (Variable first ∷ second ∷ [])
+  pub typed : HasItsType k (body_sight k n) (sketch_node k n) operand first
+  pub copied : IsCopied k n es e y
+
+-- The targets of a call are variables in a row that have the types of the outputs, and are copied to the variables of names.
+pub record IsCalled (k : Known) (n : Node) (es : List FlatEqn) (e : FlatEqn) (ys : List (List ℕ × Span)) (f : List ℕ) : Type 0 where
+  pub args : List Atom
+  pub right : e.right ≡ called f args
+  pub first : ℕ
+  pub targets : e.targets ≡ numbers_from first (outputs_of (k.nodes f))
+  pub typed : Outputs k (sketch_node k n) first (outputs_of (k.nodes f))
+  pub copied : AreCopied (body_sight k n) es e ys first (outputs_of (k.nodes f))
+
+abbrev pub IsNamedAs : Known → Node → List FlatEqn → FlatEqn → Naming → Type 0
+IsNamedAs k n es e (of_comparison y o operand) = IsCompared k n es e y o operand
+IsNamedAs k n es e (of_call ys f) = IsCalled k n es e ys f
 
 abbrev pub MayBeLabelled : Known → Node → List FlatEqn → FlatEqn → Option Label → Type 0
 MayBeLabelled k n es e None = ⊤
-MayBeLabelled k n es e (Some l) = IsLabelled k n es e l
+MayBeLabelled k n es e (Some l) = IsNamedAs k n es e l.0
 
 -- So it is of the events that are made of a node, in turn.
 pub labelled_law : (outputs : List ℕ → List (List ℕ)) (k : Known) (n : Node) (ds : List Decl) (body : Eqns) (ls : List (Option Label)) (es : List FlatEqn) → KnowsOutputs outputs k → AreMadeOf k n es → n.body ≡ block ds body → AreLabelled outputs body ls
@@ -303,41 +418,71 @@ labelled_law outputs k n ds body ls es knows are e labelled =
     let all = subst (λ zs. Along (LabelledBy k see [] ds (sketch_node k n) zs) (events zs) ls) (sym h.1) h.2 in
     events-alike (LabelledBy k see [] ds (sketch_node k n) xs) (MayBeLabelled k n es) (λ e' x l s c. each see xs are (λ y. refl) (λ a v t. t) e' x l s c) es xs ls are all
   where
-    each : (see : Sight) (xs : List FlatEqn) → map unplaced es ≡ map unplaced xs → ((y : List ℕ) → variable_of k n y ≡ (see y).value)
-        → ((a : Expr) (v : ℕ) → HasItsType k see (sketch_node k n) a v → HasItsType k (body_sight k n) (sketch_node k n) a v) → (e' x : FlatEqn) (l : Option Label) → unplaced e' ≡ unplaced x
-        → LabelledBy k see [] ds (sketch_node k n) xs x l → MayBeLabelled k n es e' l
-    each see xs same at types e' x None s c = tt
-    each see xs same at types e' x (Some l) s c =
+    -- copies of outputs, wherever they stand
+    outputs-alike : (see : Sight) (xs : List FlatEqn) → map unplaced es ≡ map unplaced xs → ((y : List ℕ) → variable_of k n y ≡ (see y).value) → (e' x : FlatEqn) → unplaced e' ≡ unplaced x → (ys : List (List ℕ × Span)) (t : ℕ) (os : List Decl)
+        → AreCopied see xs x ys t os → AreCopied (body_sight k n) es e' ys t os
+    outputs-alike see xs same at e' x s [] t os c = tt
+    outputs-alike see xs same at e' x s (y ∷ ys) t [] c = tt
+    outputs-alike see xs same at e' x s (y ∷ ys) t (o ∷ os) c = (λ v u. copy-alike es xs same e' x s t v (c.0 v (sym (at y.0) ∙ u)), outputs-alike see xs same at e' x s ys (t + 1) os c.1)
+
+    each-naming : (see : Sight) (xs : List FlatEqn) → map unplaced es ≡ map unplaced xs → ((y : List ℕ) → variable_of k n y ≡ (see y).value)
+        → ((a : Expr) (v : ℕ) → HasItsType k see (sketch_node k n) a v → HasItsType k (body_sight k n) (sketch_node k n) a v) → (e' x : FlatEqn) (l : Naming) → unplaced e' ≡ unplaced x
+        → NamedBy k see [] ds (sketch_node k n) xs x l → IsNamedAs k n es e' l
+    each-naming see xs same at types e' x (of_call ys f) s c =
+        let right = c.2 in
+        record {
+          args = right.0;
+          right = ap (λ (d : FlatEqn). d.right) s ∙ right.1;
+          first = c.0;
+          targets = ap (λ (d : FlatEqn). d.targets) s ∙ c.1;
+          typed = c.3;
+          copied = outputs-alike see xs same at e' x s ys c.0 (outputs_of (k.nodes f)) c.4;
+        }
+    each-naming see xs same at types e' x (of_comparison y o operand) s c =
         let right = c.4 in
         record {
           first = right.0;
           second = right.1;
           right = ap (λ (d : FlatEqn). d.right) s ∙ right.2;
-          typed = types l.2 right.0 right.3;
+          typed = types operand right.0 right.3;
           copied = record {
             target = c.0;
             targets = ap (λ (d : FlatEqn). d.targets) s ∙ c.1;
-            copied = λ v u. copy-alike es xs same e' x s c.0 v (c.2 v (sym (at l.0) ∙ u));
-            based = λ q. ap (λ (d : FlatEqn). d.clock) s ∙ c.3 (sym (ap (λ (b : Block). path_of (locals_of b) l.0) e) ∙ q);
+            copied = λ v u. copy-alike es xs same e' x s c.0 v (c.2 v (sym (at y) ∙ u));
+            based = λ q. ap (λ (d : FlatEqn). d.clock) s ∙ c.3 (sym (ap (λ (b : Block). path_of (locals_of b) y) e) ∙ q);
           };
         }
 
+    each : (see : Sight) (xs : List FlatEqn) → map unplaced es ≡ map unplaced xs → ((y : List ℕ) → variable_of k n y ≡ (see y).value)
+        → ((a : Expr) (v : ℕ) → HasItsType k see (sketch_node k n) a v → HasItsType k (body_sight k n) (sketch_node k n) a v) → (e' x : FlatEqn) (l : Option Label) → unplaced e' ≡ unplaced x
+        → LabelledBy k see [] ds (sketch_node k n) xs x l → MayBeLabelled k n es e' l
+    each see xs same at types e' x None s c = tt
+    each see xs same at types e' x (Some l) s c = each-naming see xs same at types e' x l.0 s c
+
+-- the labels of comparisons by their names, operators and first operands
+abbrev Comparison : Type 0
+Comparison = List ℕ × Op2 × Expr
+
+abbrev labels_of : List Comparison → List (Option Label)
+labels_of cs = map (λ (c : Comparison). Some (of_comparison c.0 c.1 c.2, λ p. p)) cs
+
 -- where each comparison has a name, and nothing is called, these are all events
-all-labelled : (outputs : List ℕ → List (List ℕ)) (es : Eqns) (ys : List (List ℕ)) → AreNamed outputs es ys → (ls : List Label) × (map (λ (l : Label). l.0) ls ≡ ys) × AreLabelled outputs es (map (λ l. Some l) ls)
+all-labelled : (outputs : List ℕ → List (List ℕ)) (es : Eqns) (ys : List (List ℕ)) → AreNamed outputs es ys → (cs : List Comparison) × (map (λ (c : Comparison). c.0) cs ≡ ys) × AreLabelled outputs es (labels_of cs)
 all-labelled outputs every names nothing = ([], refl, no_more)
 all-labelled outputs every names (quiet e es ys q r) =
     let x = all-labelled outputs es ys r in
-    let ls : List (Option Label) = map (λ l. Some l) x.0 in
+    let ls = labels_of x.0 in
     (x.0, x.1, other e es ls ls (sym (ap (λ (ss : List Spot). nones ss ++ ls) (q (λ p. p)))) x.2)
 all-labelled outputs every names (named s t u y o a b es ys c qa qb r) =
     let x = all-labelled outputs es ys r in
-    let ls : List (Option Label) = map (λ l. Some l) x.0 in (
+    let ls = labels_of x.0 in
+    let own : Option Label = Some (of_comparison y o a, λ p. p) in (
       (y, o, a) ∷ x.0,
       ap (λ zs. y ∷ zs) x.1,
-      comparison s t u y o a b a es ls (Some (y, o, a) ∷ ls) c refl (sym (ap₂ (λ (ss rs : List Spot). (nones ss ++ (nones rs ++ Some (y, o, a) ∷ [])) ++ ls) (qa (λ p. p)) (qb (λ p. p)))) x.2,
+      comparison s t u y o a b a (λ p. p) es ls (own ∷ ls) c refl (sym (ap₂ (λ (ss rs : List Spot). (nones ss ++ (nones rs ++ own ∷ [])) ++ ls) (qa (λ p. p)) (qb (λ p. p)))) x.2,
     )
 
-names-alone : (k : Known) (n : Node) (es fs : List FlatEqn) (ls : List Label) → Along (MayBeLabelled k n es) fs (map (λ l. Some l) ls) → Along (IsCopied k n es) fs (map (λ (l : Label). l.0) ls)
+names-alone : (k : Known) (n : Node) (es fs : List FlatEqn) (cs : List Comparison) → Along (MayBeLabelled k n es) fs (labels_of cs) → Along (IsCopied k n es) fs (map (λ (c : Comparison). c.0) cs)
 names-alone k n es [] [] h = tt
 names-alone k n es [] (l ∷ ls) h = absurd h
 names-alone k n es (f ∷ fs) [] h = absurd h
@@ -346,7 +491,7 @@ names-alone k n es (f ∷ fs) (l ∷ ls) h = (h.0.copied, names-alone k n es fs 
 pub named_law : NamedLaw
 named_law outputs k n ds body ys es knows are e is_named =
     let x = all-labelled outputs body ys is_named in
-    subst (Along (IsCopied k n es) (events es)) x.1 (names-alone k n es (events es) x.0 (labelled_law outputs k n ds body (map (λ l. Some l) x.0) es knows are e x.2))
+    subst (Along (IsCopied k n es) (events es)) x.1 (names-alone k n es (events es) x.0 (labelled_law outputs k n ds body (labels_of x.0) es knows are e x.2))
 
 holds-in : (answers : Answers) (past : List Instant) (now : Instant) (es : List FlatEqn) (c : FlatEqn) → AllByRecursion (Holds answers past now) es → IsIn es c → Holds answers past now c
 holds-in answers past now [] c h i = absurd i

@@ -72,7 +72,7 @@ module _ {X Y : Type 0} (P : X → Y → Type 0) where
     expr-goes (merge s x ps) xs ys h = parts-go ps xs ys h
     expr-goes (call s f inlined es) xs ys h = goes-front (walk_all es xs) (walk_all es ys) (all-go es xs ys h)
 
-    all-go : (es : Exprs) → Goes (walk_all es) (walk_all es)
+    pub all-go : (es : Exprs) → Goes (walk_all es) (walk_all es)
     all-go no_expr xs ys h = (tt, h)
     all-go (more_exprs e es) xs ys h = goes-two (walk e) (walk_all es) (walk e) (walk_all es) (expr-goes e) (all-go es) xs ys h
 

@@ -39,6 +39,7 @@ use Rattle.law_choices.specs.Chosen.Laws.{is_seen}
 use Rattle.law_choices.specs.Seeing.Values.{AreOwn}
 use Rattle.law_choices.proofs.ChosenLemmas.Chosen.{bool_same, other_same}
 use Rattle.law_choices.proofs.ChosenLemmas.Seen.{seen_marks, seen_output, declared, as_node, made, early_fits, early_given}
+use Rattle.law_choices.proofs.SeeingLemmas.Labels.{both-true}
 
 -- ---- places
 
@@ -181,10 +182,6 @@ module _ (program after : List Item) (ranks : List (List ℕ)) (o : IsInOrder pr
   taken-free : (b : Bool) (q : Place) → (b ≡ true → values q ≡ x.free q) → taken b q ≡ x.free q
   taken-free true q k = k refl
   taken-free false q k = refl
-
-  both-true : (a b : Bool) → (a && b) ≡ true → (a ≡ true) × (b ≡ true)
-  both-true true b e = (refl, e)
-  both-true false b e = absurd (cc)
 
   mixed-free : (q : Place) → (IsFree places q → root q ≡ values q → no_number (values q) ≡ true → values q ≡ x.free q) → mixed q ≡ x.free q
   mixed-free (Inputs ∷ q) k = refl

@@ -1,9 +1,12 @@
 -- In a ready program what is an integer in the tree is one by the judgement of types; so the first operands of comparisons of integers that have names are. Each such name has a variable that is defined on one clock alone.
 use Rattle.std.proofs.Common.{◌≡◌, ℕ, Bool, true, false, if◌then◌else◌, List, [], ◌∷◌, ◌++◌, map, reverse, Option, None, Some, refl, sym, ap, subst, ◌∙◌}
-use Rattle.std.specs.Prelude.{option_map}
+use Rattle.std.specs.Prelude.{⊤, ◌||◌, option_map}
 use Rattle.std.specs.List.{AllByRecursion}
 use Rattle.std.proofs.lemmas.List.{append-nil, map-append}
+use Rattle.std.proofs.lemmas.Slice.Eq.{bytes_eq-Decides}
+use Rattle.std.specs.Str.{bytes_eq}
 use Rattle.hp_base.specs.Known.Known.{lookup}
+use Rattle.hp_base.specs.declared.span.Span.{Span}
 use Rattle.hp_base.specs.declared.ty.Const.TheVariants as const
 use Rattle.hp_base.specs.declared.ty.Ty.{Ty}
 use Rattle.hp_base.specs.declared.ty.Ty.TheVariants as ty
@@ -16,9 +19,12 @@ use Rattle.hp_tree.specs.Blocks.{Block, block, Decl, Eqns, define, eqns_of, more
 use Rattle.hp_tree.specs.Expressions.{Expr, constant, variable, last_of, one, two, choose, pre, fby, arrow, when_is, merge, call, Parts, no_part, more_parts}
 use Rattle.hp_tree.specs.ExpressionTypes as tree
 use Rattle.hp_tree.specs.ExpressionTypes.{typed_in, type_with, type_of_two}
-use Rattle.hp_tree.specs.Meaning.{controls_of, node_among, types_of}
+use Rattle.hp_tree.specs.Instant.{Place, Tail}
+use Rattle.hp_tree.specs.Meaning.{controls_of, is_among, node_among, types_of}
 use Rattle.hp_tree.specs.Operators.{place_in}
 use Rattle.hp_tree.specs.Programs.{TypeDecl, Node}
+use Rattle.hp_meaning.specs.Causal.Sources.{below}
+use Rattle.hp_meaning.specs.Contract.FreePlaces.{declared_outputs}
 use Rattle.hp_meaning.specs.Contract.Slots.{is_int}
 use Rattle.hp_typing.specs.Scopes.{inside_node, with_variables}
 use Rattle.hp_typing.specs.Types.{type_of, types_in, type_of_one, answer, input_type, merge_type}
@@ -31,7 +37,7 @@ use Rattle.law_values.specs.Valued.Values.{scope_behind}
 use Rattle.law_values.proofs.ValuedLemmas.Typed.{some_is, one_typed, two_typed, if_typed, pair_typed, when_typed, call_typed, merge_typed}
 use Rattle.hp_automata.specs.Lowering.{Enumerations, Types, declaring, enumerations, lowered_eqn, lowered_eqns, lowered_item, lowered_node, lowered_program, same_name}
 use Rattle.hp_automata.specs.Lowering as lowering
-use Rattle.hp_automata.specs.Renaming.{renamed, renamed_decls}
+use Rattle.hp_automata.specs.Renaming.{renamed, renamed_decls, renamed_exprs, renamed_left}
 use Rattle.hp_expand.specs.Numbering.{replaced}
 use Rattle.law_automata.specs.Lowered.Removable.{IsRemovable}
 use Rattle.law_automata.specs.Readied.Laws.{IsWhole}
@@ -45,7 +51,7 @@ use Rattle.law_automata.proofs.ReadiedLemmas.SoundPrograms.{ready_sound_law}
 use Rattle.law_automata.proofs.ReadiedLemmas.Whole.{whole_law}
 use Rattle.law_equations.specs.Answered.Answering.{filled_nodes}
 use Rattle.law_equations.specs.Made.Laws.{around_body}
-use Rattle.law_equations.specs.Made.Making.{Body, Known, base_site, each_once, names_of_eqns, over, sketch_block, sketch_node, unknown}
+use Rattle.law_equations.specs.Made.Making.{Body, Known, base_site, each_once, names_of_eqns, outputs_of, over, sketch_block, sketch_node, unknown}
 use Rattle.law_equations.specs.Made.Types.{obc_types_of}
 use Rattle.hp_complete.specs.Declaring.{known_of}
 use Rattle.hp_complete.proofs.KnownLaws.{nodes-known}
@@ -61,14 +67,25 @@ use Rattle.law_wellmade.proofs.TestedLemmas.FittedLaws.{differ_law}
 use Rattle.law_wellmade.proofs.TestedLemmas.TestedPrograms.{tested_law}
 use Rattle.law_wellmade.specs.Timely.Tested.{AreTested}
 use Rattle.law_choices.specs.Flat.Names.{body_sight, variable_of}
-use Rattle.law_choices.specs.Seeing.Comparing.{Comparison, is_integer, outputs_by, types_around}
+use Rattle.law_choices.specs.Seeing.ByName.{Naming, is_integer, of_call, of_comparison, outputs_in, types_around}
 use Rattle.law_choices.proofs.ClosedLemmas.ClosedLaws.{each_other}
 use Rattle.law_choices.proofs.FlatLemmas.Among.{each_at, tested_at}
 use Rattle.law_choices.proofs.ObservedLemmas.Said.{decls_same}
 use Rattle.law_choices.proofs.OnClocksLemmas.Programs.{some_of}
 use Rattle.law_choices.proofs.OnClocksLemmas.WellMade.{ready_knows}
-use Rattle.law_choices.proofs.SeeingLemmas.Labels.{Names, comparison, no_more, other}
-use Rattle.law_choices.proofs.SeeingLemmas.Sole.{HasOneClock, IsSole, another, its_equation, node-sole}
+use Rattle.law_choices.proofs.PlacesLemmas.Named.{Label}
+use Rattle.law_choices.proofs.SeeingLemmas.Labels.{Names, OfNames, calling, comparison, left-itself, names-weaker, no_more, other}
+use Rattle.law_choices.proofs.SeeingLemmas.Sole.{HasOneClock, IsSole, another, its_call, its_equation, node-sole, or-right}
+
+-- ---- what compares
+
+-- the first operand of a comparison is judged an integer
+abbrev pub ComparesIntsBy : Scope → Naming → Type 0
+ComparesIntsBy s (of_comparison y o a) = type_of s a ≡ Some ty.Int
+ComparesIntsBy s (of_call ys f) = ⊤
+
+abbrev pub ComparesInts : Scope → Label → Type 0
+ComparesInts s l = ComparesIntsBy s l.0
 
 -- ---- types
 
@@ -140,40 +157,59 @@ module _ (types : List TypeDecl) (among : List ℕ → Option Node) (s : Scope) 
 
   -- so are the first operands of the comparisons of integers of a block
   module _ (enums : Enumerations) (own : Types) (is_known : List ℕ → Bool) where
-    abbrev pub AreInts : List Comparison → Type 0
-    AreInts cs = AllByRecursion (λ (c : Comparison). type_of s c.2 ≡ Some ty.Int) cs
-
-    pub all-ints : (es : Eqns) (cs : List Comparison) → Names (λ e. is_int (tree.type_of types outs e names)) is_known es cs → EqnsSound types among s lasts (eqns_of (lowered_eqns enums same_name own 0 es)) → AreInts cs
-    all-ints every all no_more ok = tt
-    all-ints every all (other e es cs q h) ok = all-ints es cs h ok.1
-    all-ints every all (comparison s' t u y o a b es cs p int q h) ok =
+    pub all-ints : (w : Place → Place) (es : Eqns) (cs : List Label) → Names (λ e. is_int (tree.type_of types outs e names)) is_known outs w es cs → EqnsSound types among s lasts (eqns_of (lowered_eqns enums same_name own 0 es))
+        → AllByRecursion (ComparesInts s) cs
+    all-ints v every all (no_more w) ok = tt
+    all-ints v every all (other w e es cs q h) ok = all-ints (below Tail w) es cs h ok.1
+    all-ints v every all (calling w s' u ys f inlined args es cs q h) ok = (tt, all-ints (below Tail w) es cs h ok.1)
+    all-ints v every all (comparison w s' t u y o a b es cs p int q h) ok =
         let right = ok.0 in
         let q = two_typed o (type_of s (renamed same_name a)) (type_of s (renamed same_name b)) right.1.0 right.1.1.0 in
         let same : renamed same_name a ≡ a = itself a in
         let judged : type_of s a ≡ Some q.0 = sym (ap (type_of s) same) ∙ q.2 in
         let is : q.0 ≡ ty.Int = int-read a q.0 (subst (ExprSound types among s lasts) same right.0.0) judged int in
-        (judged ∙ ap Some is, all-ints es cs h ok.1)
+        (judged ∙ ap Some is, all-ints (below Tail w) es cs h ok.1)
+
+-- each of some names on the left of an equation
+all-among : (P : List ℕ → Type 0) (ys : List (List ℕ × Span)) → ((y : List ℕ) → is_among ys y ≡ true → P y) → AllByRecursion (λ (y : List ℕ × Span). P y.0) ys
+all-among P [] f = tt
+all-among P (y ∷ ys) f = (f y.0 (ap (λ b. b || is_among ys y.0) ((bytes_eq-Decides y.0 y.0).1 refl)), all-among P ys (λ x h. f x (or-right (bytes_eq y.0 x) (is_among ys x) h)))
 
 -- their names have one equation each
-names-sole : (integer : Expr → Bool) (is_known : List ℕ → Bool) (enums : Enumerations) (own : Types) (es : Eqns) (cs : List Comparison) → Names integer is_known es cs → AllByRecursion (λ (c : Comparison). IsSole c.0 (eqns_of (lowered_eqns enums same_name own 0 es))) cs
-names-sole integer is_known enums own every all no_more = tt
-names-sole integer is_known enums own every all (other e es cs q h) =
+names-sole : (integer : Expr → Bool) (is_known : List ℕ → Bool) (outs : List ℕ → List Decl) (enums : Enumerations) (own : Types) (w : Place → Place) (es : Eqns) (cs : List Label) → Names integer is_known outs w es cs
+    → AllByRecursion (OfNames (λ y. IsSole y (eqns_of (lowered_eqns enums same_name own 0 es)))) cs
+names-sole integer is_known outs enums own v every all (no_more w) = tt
+names-sole integer is_known outs enums own v every all (other w e es cs q h) =
     let rest = eqns_of (lowered_eqns enums same_name own 0 es) in
-    each_other (λ (c : Comparison). IsSole c.0 rest) (λ (c : Comparison). IsSole c.0 (more_eqns (lowered_eqn enums same_name own 0 e) rest)) (λ c g. another (lowered_eqn enums same_name own 0 e) rest g) cs (names-sole integer is_known enums own es cs h)
-names-sole integer is_known enums own every all (comparison s t u y o a b es cs p int q h) =
+    let first = lowered_eqn enums same_name own 0 e in
+    each_other (OfNames (λ y. IsSole y rest)) (OfNames (λ y. IsSole y (more_eqns first rest))) (names-weaker (λ y. IsSole y rest) (λ y. IsSole y (more_eqns first rest)) (λ y g. another first rest g)) cs
+    (names-sole integer is_known outs enums own (below Tail w) es cs h)
+names-sole integer is_known outs enums own v every all (comparison w s t u y o a b es cs p int q h) =
     let rest = eqns_of (lowered_eqns enums same_name own 0 es) in
-    let e = define s ((y, t) ∷ []) (two u o (renamed same_name a) (renamed same_name b)) in
-    (its_equation s t u o (renamed same_name a) (renamed same_name b) rest, each_other (λ (c : Comparison). IsSole c.0 rest) (λ (c : Comparison). IsSole c.0 (more_eqns e rest)) (λ c g. another e rest g) cs (names-sole integer is_known enums own es cs h))
+    let first = define s ((y, t) ∷ []) (two u o (renamed same_name a) (renamed same_name b)) in (
+      its_equation s t u o (renamed same_name a) (renamed same_name b) rest,
+      each_other (OfNames (λ y. IsSole y rest)) (OfNames (λ y. IsSole y (more_eqns first rest))) (names-weaker (λ y. IsSole y rest) (λ y. IsSole y (more_eqns first rest)) (λ y g. another first rest g)) cs
+          (names-sole integer is_known outs enums own (below Tail w) es cs h),
+    )
+names-sole integer is_known outs enums own v every all (calling w s u ys f inlined args es cs q h) =
+    let rest = eqns_of (lowered_eqns enums same_name own 0 es) in
+    let first = lowered_eqn enums same_name own 0 (define s ys (call u f inlined args)) in (
+      all-among (λ y. IsSole y (more_eqns first rest)) ys
+          (λ y among. its_call s u (renamed_left same_name ys) f inlined (renamed_exprs same_name args) rest (ap (λ zs. is_among zs y) (left-itself ys) ∙ among)),
+      each_other (OfNames (λ y. IsSole y rest)) (OfNames (λ y. IsSole y (more_eqns first rest))) (names-weaker (λ y. IsSole y rest) (λ y. IsSole y (more_eqns first rest)) (λ y g. another first rest g)) cs
+          (names-sole integer is_known outs enums own (below Tail w) es cs h),
+    )
 
 -- ---- a node of a ready program
 
--- The scope of the outermost block of a node without automata, in which names have the types that their variables have; and each name of a comparison has a variable that is defined on one clock.
-pub record IsScoped (k : Known) (low : Node) (cs : List Comparison) : Type 0 where
+-- The scope of the outermost block of a node without automata, in which names have the types that their variables have; and each name of a comparison or of an output has a variable that is defined on one clock. The outputs of nodes are known.
+pub record IsScoped (k : Known) (low : Node) (outs : List ℕ → List Decl) (cs : List Label) : Type 0 where
   pub types : Scope
   pub ground : Grounded k types
   pub sees : SeesTypes k types (body_sight k low)
-  pub ints : AllByRecursion (λ (c : Comparison). type_of types c.2 ≡ Some ty.Int) cs
-  pub sole : AllByRecursion (λ (c : Comparison). (x : ℕ) → variable_of k low c.0 ≡ Some x → HasOneClock x (sketch_node k low).eqns) cs
+  pub ints : AllByRecursion (ComparesInts types) cs
+  pub sole : AllByRecursion (OfNames (λ y. (x : ℕ) → variable_of k low y ≡ Some x → HasOneClock x (sketch_node k low).eqns)) cs
+  pub outputs : (f : List ℕ) → outputs_of (k.nodes f) ≡ outs f
 
 module _ (program after : List Item) (r : IsReady program after) (removable : IsRemovable after) (form : TypesForm (obc_types_of program)) where
   abbrev enums : Enumerations
@@ -189,27 +225,34 @@ module _ (program after : List Item) (r : IsReady program after) (removable : Is
   types = types_of after
 
   abbrev outs : List ℕ → List Decl
-  outs f = outputs_by (node_among (reverse after) f)
+  outs f = outputs_in after f
 
   has_constructors : HaveConstructors program
   has_constructors = some_constructors program (some_of (types_of program) form.counts)
 
   -- the outputs of nodes stay
-  outs-same : (o : Option Node) → outputs_by (option_map (lowered_node enums) o) ≡ outputs_by o
+  outs-same : (o : Option Node) → declared_outputs (option_map (lowered_node enums) o) ≡ declared_outputs o
   outs-same None = refl
   outs-same (Some n) = refl
 
+  known-outputs : (o : Option Node) → outputs_of o ≡ declared_outputs o
+  known-outputs None = refl
+  known-outputs (Some n) = refl
+
+  outs-known : (f : List ℕ) → declared_outputs (k.nodes f) ≡ outs f
+  outs-known f =
+      ap declared_outputs (nodes-known low_program f) ∙ ap (λ xs. declared_outputs (node_among xs f)) (map_reverse (lowered_item enums) after) ∙ ap declared_outputs (lowered_among enums (reverse after) f)
+      ∙ outs-same (node_among (reverse after) f)
+
   outs-are : (s : Scope) → Grounded k s → (f : List ℕ) (n : Node) → lookup s.nodes f ≡ Some n → outs f ≡ n.outputs
-  outs-are s ground f n h =
-      sym (outs-same (node_among (reverse after) f)) ∙ sym (ap outputs_by (lowered_among enums (reverse after) f)) ∙ sym (ap (λ xs. outputs_by (node_among xs f)) (map_reverse (lowered_item enums) after))
-      ∙ sym (ap outputs_by (nodes-known low_program f)) ∙ ap outputs_by (ground.nodes f n h)
+  outs-are s ground f n h = sym (outs-known f) ∙ ap declared_outputs (ground.nodes f n h)
 
   low-stands : (earlier : List Item) (n : Node) → Stands after earlier n → (later : List Item) × (reverse low_program ≡ later ++ NodeItem (lowered_node enums n) ∷ map (lowered_item enums) earlier)
   low-stands earlier n e = (map (lowered_item enums) e.0, map_reverse (lowered_item enums) after ∙ ap (map (lowered_item enums)) e.1 ∙ map-append (lowered_item enums) e.0 (NodeItem n ∷ earlier))
 
-  pub scoped : (earlier : List Item) (n : Node) → Stands after earlier n → (ds : List Decl) (es : Eqns) → n.body ≡ block ds es → (is_known : List ℕ → Bool) (cs : List Comparison) → Names (is_integer after (typed_in ds (types_around n))) is_known es cs
-      → IsScoped k (lowered_node enums n) cs
-  scoped earlier n e ds es is_body is_known cs h =
+  pub scoped : (earlier : List Item) (n : Node) → Stands after earlier n → (ds : List Decl) (es : Eqns) → n.body ≡ block ds es → (is_known : List ℕ → Bool) (w : Place → Place) (cs : List Label) → Names (is_integer after (typed_in ds (types_around n))) is_known outs w es cs
+      → IsScoped k (lowered_node enums n) outs cs
+  scoped earlier n e ds es is_body is_known w cs h =
       let low = lowered_node enums n in
       let before = map (lowered_item enums) earlier in
       let at = low-stands earlier n e in
@@ -239,15 +282,16 @@ module _ (program after : List Item) (r : IsReady program after) (removable : Is
       let low_types = types_of low_program in
       let low_tested = subst (λ ts. AreTested ts (reverse low_program)) (sym (types_low enums after)) (tested_law program after r removable has_constructors) in
       let tested = tested_at low_types at.0 low before (subst (AreTested low_types) at.1 low_tested) in
-      let sole_name : (c : Comparison) → IsSole c.0 body_eqns → (x : ℕ) → variable_of k low c.0 ≡ Some x → HasOneClock x (sketch_node k low).eqns =
-      (λ c q. node-sole low_types (differ_law program after r) (filled_nodes low_program).outputs k (ready_knows program after r removable form) base low ds body_eqns is_low whole.plain tested c.0 q) in
+      let sole_name : (y : List ℕ) → IsSole y body_eqns → (x : ℕ) → variable_of k low y ≡ Some x → HasOneClock x (sketch_node k low).eqns =
+      (λ y q. node-sole low_types (differ_law program after r) (filled_nodes low_program).outputs k (ready_knows program after r removable form) base low ds body_eqns is_low whole.plain tested y q) in
       record {
         types = s;
         ground = ground;
         sees = sees;
-        ints = all-ints types among s (lasts_in ds lasts) (typed_in ds (types_around n)) agrees outs (outs-are s ground) enums own is_known es cs h block_ok.1.1;
-        sole = each_other (λ (c : Comparison). IsSole c.0 body_eqns) (λ (c : Comparison). (x : ℕ) → variable_of k low c.0 ≡ Some x → HasOneClock x (sketch_node k low).eqns) sole_name cs
-            (names-sole (is_integer after (typed_in ds (types_around n))) is_known enums own es cs h);
+        ints = all-ints types among s (lasts_in ds lasts) (typed_in ds (types_around n)) agrees outs (outs-are s ground) enums own is_known w es cs h block_ok.1.1;
+        sole = each_other (OfNames (λ y. IsSole y body_eqns)) (OfNames (λ y. (x : ℕ) → variable_of k low y ≡ Some x → HasOneClock x (sketch_node k low).eqns))
+            (names-weaker (λ y. IsSole y body_eqns) (λ y. (x : ℕ) → variable_of k low y ≡ Some x → HasOneClock x (sketch_node k low).eqns) sole_name) cs (names-sole (is_integer after (typed_in ds (types_around n))) is_known outs enums own w es cs h);
+        outputs = λ f. known-outputs (k.nodes f) ∙ outs-known f;
       }
     where
       low-body : (n : Node) (ds : List Decl) (es : Eqns) → n.body ≡ block ds es → (lowered_node enums n).body ≡ block ds (eqns_of (lowered_eqns enums same_name (declaring (lowering.types_of n) ds) 0 es))

@@ -93,7 +93,7 @@ module _ {X : Type 0} where
     expr-local (merge s x ps) = parts-local ps
     expr-local (call s f inlined es) = local-front (walk_all es) (in_exprs es) (all-local es)
 
-    all-local : (es : Exprs) → Local (walk_all es) (in_exprs es)
+    pub all-local : (es : Exprs) → Local (walk_all es) (in_exprs es)
     all-local no_expr = nothing-taken (λ es. ([], es)) (λ xs. refl)
     all-local (more_exprs e es) = local-two (walk e) (walk_all es) (in_expr e) (in_exprs es) (expr-local e) (all-local es)
 

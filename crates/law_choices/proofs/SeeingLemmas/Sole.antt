@@ -1,12 +1,12 @@
 -- A name that one equation of a node's body defines has a variable that is defined on one clock alone.
-use Rattle.std.proofs.Common.{◌≡◌, ◌⊎◌, inl, inr, ℕ, ◌<◌, ◌≤◌, Bool, true, false, ◌&&◌, ◌||◌, List, [], ◌∷◌, map, None, Some, Option, refl, sym, ap, subst, ◌∙◌, arith}
+use Rattle.std.proofs.Common.{◌≡◌, ◌⊎◌, inl, inr, ℕ, ◌+◌, ◌<◌, ◌≤◌, Bool, true, false, ◌&&◌, ◌||◌, List, [], ◌∷◌, map, None, Some, Option, refl, sym, ap, subst, ◌∙◌, arith}
 use Rattle.std.specs.List.{AllByRecursion}
 use Rattle.std.proofs.lemmas.Slice.Eq.{bytes_eq-Decides}
 use Rattle.hp_base.specs.declared.span.Span.{Span}
 use Rattle.hp_tree.specs.declared.expr.Op2.{Op2}
 use Rattle.hp_tree.specs.Blocks.{Decl, Block, block, Eqns, no_eqn, more_eqns, Eqn, define}
-use Rattle.hp_tree.specs.Expressions.{Expr, two}
-use Rattle.hp_tree.specs.Meaning.{controls_of, defines, some_defines}
+use Rattle.hp_tree.specs.Expressions.{Expr, Exprs, call, two}
+use Rattle.hp_tree.specs.Meaning.{controls_of, defines, is_among, some_defines}
 use Rattle.hp_tree.specs.Programs.{Node, TypeDecl}
 use Rattle.hp_flat.specs.Equations.{Clock, FlatEqn}
 use Rattle.hp_typing.specs.Scopes.{with_variables}
@@ -14,14 +14,14 @@ use Rattle.law_judged.specs.Typed.Scopes.{Scope}
 use Rattle.law_values.specs.Valued.Judged.{body_scope}
 use Rattle.law_equations.specs.Made.Blocks.{ArePlain, IsPlain, OnePlain}
 use Rattle.law_equations.specs.Made.Laws.{around_body, unplaced}
-use Rattle.law_equations.specs.Made.Making.{Body, Known, Seen, Sight, Site, Sketch, atom_of, base_site, bind, block_layer, copy_of, declared, each_once, enter_path, flat_type, names_of_eqns, next, no_entry, nothing_made, over, own_names, path_for, put, signature, signed, sketch_block, sketch_eqn, sketch_eqns, sketch_expr, sketch_node, unknown, with_variable}
+use Rattle.law_equations.specs.Made.Making.{Body, Known, Seen, Sight, Site, Sketch, atom_of, base_site, bind, bind_outputs, block_layer, called_at, copy_of, declared, each_once, enter_path, flat_type, names_of_eqns, next, no_entry, nothing_made, others, output_left, outputs_of, over, own_names, path_for, put, signature, signed, sketch_block, sketch_eqn, sketch_eqns, sketch_expr, sketch_exprs, sketch_node, unknown, with_variable}
 use Rattle.law_equations.specs.Made.Standing.{Knows}
 use Rattle.law_equations.specs.Meaning.Instants.{Instant, holds}
 use Rattle.law_equations.specs.Meaning.Reactions.{has, is_set}
 use Rattle.law_wellmade.specs.Timely.Tested.{BlockTested, ConstructorsDiffer, EqnTested, EqnsTested, NodeTested}
 use Rattle.law_wellmade.proofs.PartedLemmas.Adding.{Adds, Defines, IsNew, Nothing, both, each-other}
 use Rattle.law_wellmade.proofs.PartedLemmas.Blocks.{Named, eqns-add}
-use Rattle.law_wellmade.proofs.PartedLemmas.Expressions.{expr-adds, path-adds}
+use Rattle.law_wellmade.proofs.PartedLemmas.Expressions.{called-adds, expr-adds, exprs-add, path-adds}
 use Rattle.law_wellmade.proofs.PartedLemmas.Owning.{Owned, declared-value, nothing-owned, owned-declared, owned-later, owned-signed, owning-names, remembering}
 use Rattle.law_choices.specs.Flat.Names.{variable_of}
 use Rattle.law_choices.specs.Places.Named.{IsIn}
@@ -90,18 +90,29 @@ still-on May d e x c a never h =
 
 -- ---- a block
 
--- an equation of two operands defines the name, and nothing else
+-- an equation of two operands defines the name, and nothing else; or one that calls a node defines it, and others
 pub data IsSole (y : List ℕ) : Eqns → Type 0 where
+  its_call : (s u : Span) (ys : List (List ℕ × Span)) (f : List ℕ) (inlined : Bool) (args : Exprs) (es : Eqns) → is_among ys y ≡ true → IsSole y (more_eqns (define s ys (call u f inlined args)) es)
   its_equation : (s t u : Span) (o : Op2) (a b : Expr) (es : Eqns) → IsSole y (more_eqns (define s ((y, t) ∷ []) (two u o a b)) es)
   another : (e : Eqn) (es : Eqns) → IsSole y es → IsSole y (more_eqns e es)
 
+pub or-right : (p q : Bool) → q ≡ true → (p || q) ≡ true
+or-right true q h = refl
+or-right false q h = h
+
 sole-defines : (y : List ℕ) (es : Eqns) → IsSole y es → some_defines es y ≡ true
 sole-defines y every (its_equation s t u o a b es) = ap (λ f. (f || false) || some_defines es y) ((bytes_eq-Decides y y).1 refl)
+sole-defines y every (its_call s u ys f inlined args es among) = ap (λ b. b || some_defines es y) among
 sole-defines y every (another e es r) = or-right (defines e y) (some_defines es y) (sole-defines y es r)
+
+-- what is bound to names is on the clock of the site
+bound-on : (see : Sight) (at : Site) (ys : List (List ℕ × Span)) (t : ℕ) (os : List Decl) (x : ℕ) (d : Sketch) → IsOn x at.clock d.eqns → IsOn x at.clock (bind_outputs see at ys t os d).eqns
+bound-on see at [] t os x d h = h
+bound-on see at (y ∷ ys) t os x d h = bound-on see at ys (t + 1) (others os) x (bind at (see y.0).value (output_left t os) d) (by (see y.0).value)
   where
-    or-right : (p q : Bool) → q ≡ true → (p || q) ≡ true
-    or-right true q h = refl
-    or-right false q h = h
+    by : (v : Option ℕ) → IsOn x at.clock (bind at v (output_left t os) d).eqns
+    by None = h
+    by (Some z) = each-both (λ (q : FlatEqn). has q.targets x ≡ true → q.clock ≡ at.clock) d.eqns (record { targets = z ∷ []; clock = at.clock; right = copy_of (atom_of (output_left t os)); restart = at.restart; at = 0 } ∷ []) h ((λ u. refl), tt)
 
 or-none : (b : Bool) → (b || false) ≡ true → b ≡ true
 or-none true h = refl
@@ -142,6 +153,25 @@ module _ (types : List TypeDecl) (differ : ConstructorsDiffer types) (outputs : 
         let bound : IsOn x clock (bind q.0 (Some x) (Some i.1) i.0).eqns = each-both (λ (r : FlatEqn). has r.targets x ≡ true → r.clock ≡ clock) i.0.eqns (copy ∷ []) (undefined-on x clock i.0.eqns free) ((λ t. refl), tt) in
         let on : IsOn x clock m.eqns = subst (λ v. IsOn x clock (bind q.0 v (Some i.1) i.0).eqns) (sym is) bound in
         let other : some_defines es y ≡ true → ⊥ = (λ t. absurd (let q : true ≡ false = sym t ∙ p.0 y (ap (λ f. f || false) ((bytes_eq-Decides y y).1 refl)) in cc)) in
+        (clock, behind clock es m p.1.1 h.1 (owned-later see (next d) (next m) grown w) other on)
+      where
+        new : (e : Sketch) (c : Clock) → IsNew d e x ⊎ Nothing x c → ⊥
+        new e c (inl n) = let l = n.0 in let u = w.there y x (inl is) in absurd (omega (arith, l, u))
+        new e c (inr n) = n
+    sole every (its_call s' u ys f inlined args es among) d p h w none =
+        let e = call u f inlined args in
+        let os = outputs_of (k.nodes f) in
+        let q = enter_path k see (path_for ds ys e) at d in
+        let i = sketch_exprs k see q.0 args q.1 in
+        let c = called_at k q.0 f i.1 os i.0 in
+        let m = sketch_eqn k see at ds (define s' ys e) d in
+        let grown = (one-adds (define s' ys e) d p.1.0 h.0 w).grown in
+        let parts =
+        both d q.1 c.0 (path-adds types differ outputs k knows see (path_for ds ys e) at d) (both q.1 i.0 c.0 (exprs-add types differ outputs k knows s args see q.0 q.1 h.0.1) (called-adds types differ outputs k knows q.0 f i.1 os i.0)) in
+        let clock : Clock = (q.0).clock in
+        let free : Undefined x c.0.eqns = still Nothing d c.0 x parts (λ z n. new c.0 z n) none in
+        let on : IsOn x clock m.eqns = bound-on see q.0 ys c.1 os x c.0 (undefined-on x clock c.0.eqns free) in
+        let other : some_defines es y ≡ true → ⊥ = (λ t. absurd (let r : true ≡ false = sym t ∙ p.0 y among in cc)) in
         (clock, behind clock es m p.1.1 h.1 (owned-later see (next d) (next m) grown w) other on)
       where
         new : (e : Sketch) (c : Clock) → IsNew d e x ⊎ Nothing x c → ⊥

@@ -1,4 +1,4 @@
--- Of a node whose comparisons have names, the equations that choose hold values of the free places.
+-- Of a node whose comparisons and calls have names, the equations that choose hold values of the free places.
 -- Source: own.
 use Rattle.std.specs.Prelude.{◌≡◌, ℕ, List, reverse, Some}
 use Rattle.std.specs.List.{AllByRecursion}
@@ -15,13 +15,13 @@ use Rattle.hp_watch.specs.Watching.{Observing}
 use Rattle.law_choices.specs.InTurn.Laws.{IsAllowed, IsChoosing}
 use Rattle.law_choices.specs.InTurn.Nodes.{Made}
 use Rattle.law_choices.specs.Runs.Chosen.{ChosenReaction}
-use Rattle.law_choices.specs.Seeing.Comparing.{ComparesByName}
+use Rattle.law_choices.specs.Seeing.ByName.{SeesByName}
 use Rattle.law_choices.specs.Seeing.Held.{SeesOwn}
 
 -- They hold those of each reaction of the node, over inputs of its kinds, in which the values are those that the nodes that choose have.
-abbrev pub ComparedLaw : Type 0
-ComparedLaw =
+abbrev pub SeenByNameLaw : Type 0
+SeenByNameLaw =
     (program after : List Item) (ranks : List (List ℕ)) (observers : Observing) (ms : List Made) → IsInOrder program after ranks → IsChoosing program after observers ms
-    → (allowed : IsAllowed after ms) (f : List ℕ) (n : Node) (inputs : List (List Value)) (past : Past) → node_among (reverse after) f ≡ Some n → ComparesByName after n
+    → (allowed : IsAllowed after ms) (f : List ℕ) (n : Node) (inputs : List (List Value)) (past : Past) → node_among (reverse after) f ≡ Some n → SeesByName after n
     → AllByRecursion (AreOfKinds (kinds_of_decls (types_of after) n.inputs)) inputs → ChosenReaction (allowed.allowed).choices after f inputs past
     → SeesOwn (obc_types (types_of after)) observers after ms n (allowed.one).answers inputs past

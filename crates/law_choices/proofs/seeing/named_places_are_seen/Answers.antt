@@ -1,9 +1,9 @@
-use Rattle.law_choices.proofs.SeeingLemmas.ComparedPrograms.{compared_law}
-use Rattle.law_choices.proofs.seeing.named_comparisons_are_seen.Goals as goal
+use Rattle.law_choices.proofs.SeeingLemmas.SeenPrograms.{seen_by_name_law}
+use Rattle.law_choices.proofs.seeing.named_places_are_seen.Goals as goal
 
 pub returns : goal.returns
 returns c =
-    compared_law (record {
+    seen_by_name_law (record {
       greatest = record {
         turn = record {
           nodes = record {

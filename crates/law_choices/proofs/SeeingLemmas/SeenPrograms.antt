@@ -1,5 +1,5 @@
--- In a program of nodes that choose, the equations of a node whose comparisons have names hold values of its free places throughout each reaction.
-use Rattle.std.proofs.Common.{◌≡◌, ℕ, ◌+◌, ◌<◌, ◌≤◌, List, [], ◌∷◌, length, map, reverse, Some, refl, sym, ap, ap₂, subst, ◌∙◌, arith}
+-- In a program of nodes that choose, the equations of a node whose comparisons and calls have names hold values of its free places throughout each reaction.
+use Rattle.std.proofs.Common.{◌≡◌, ℕ, ◌+◌, ◌<◌, ◌≤◌, List, [], ◌∷◌, ◌++◌, length, map, reverse, Some, refl, sym, ap, ap₂, subst, ◌∙◌, arith}
 use Rattle.std.specs.Prelude.{Bool, true, false}
 use Rattle.std.specs.List.{AllByRecursion, range_with_len}
 use Rattle.hp_base.specs.Kinds.{AreOfKinds}
@@ -13,10 +13,12 @@ use Rattle.hp_tree.specs.Expressions.{Expr}
 use Rattle.hp_tree.specs.ExpressionTypes.{typed_in}
 use Rattle.hp_tree.specs.Programs.{Node, TypeDecl}
 use Rattle.hp_tree.specs.Operators.{constant_of, real}
-use Rattle.hp_tree.specs.Instant.{Body, Controls, Given, Instant, Named, Past, Place, at, part, since}
-use Rattle.hp_tree.specs.Meaning.{Names, Nodes, absent, controls_of, given_to, input_of, lasts, node_among, scope, types_of}
+use Rattle.hp_tree.specs.Instant.{Body, Controls, Equations, Given, Instant, Named, Past, Place, at, part, since}
+use Rattle.hp_tree.specs.Meaning.{Names, Nodes, absent, controls_of, given_to, input_of, lasts, names_of, node_among, scope, types_of}
 use Rattle.hp_tree.specs.Values.{AreOf}
 use Rattle.hp_meaning.specs.Causal.OneReaction.{SamePasts}
+use Rattle.hp_meaning.specs.Causal.Points.{Placed, controls as points_of_controls, points, points_of, points_of_contract}
+use Rattle.hp_meaning.specs.Causal.Sources.{below}
 use Rattle.hp_meaning.specs.Contract.Guarantee.{Through, Typed}
 use Rattle.hp_meaning.specs.Contract.Slots.{slots_of_node}
 use Rattle.law_judged.specs.Named.Scoped.{EachNode}
@@ -30,6 +32,7 @@ use Rattle.law_equations.specs.Meaning.Instants as flows
 use Rattle.law_equations.specs.Meaning.Kinding.{Callees, IsPossible, kinds_at}
 use Rattle.law_equations.specs.Meaning.Reactions.{Answers, Holds, Reaction, inputs_of, is_set}
 use Rattle.hp_complete.specs.Declaring.{known_of}
+use Rattle.law_games.proofs.ForcedLemmas.EachCall.{EachCall, all_each, rest_each}
 use Rattle.law_games.proofs.GuaranteedLemmas.Apart.{ready_apart}
 use Rattle.law_history.proofs.StreamsLemmas.NamesApart.{each_found, name_found}
 use Rattle.law_wellmade.specs.Timely.Kinds as timely
@@ -48,8 +51,8 @@ use Rattle.law_choices.specs.InTurn.Nodes.{Contracted, loops}
 use Rattle.law_choices.specs.OnClocks.WellMade.{callees_of}
 use Rattle.law_choices.specs.Playing.Mirrored.{early_flags}
 use Rattle.law_choices.specs.Runs.Chosen.{ChosenReaction, chosen_given, chosen_nodes}
-use Rattle.law_choices.specs.Seeing.Compared.{ComparedLaw}
-use Rattle.law_choices.specs.Seeing.Comparing.{Comparison, ComparesByName, is_integer, types_around}
+use Rattle.law_choices.specs.Seeing.SeenByName.{SeenByNameLaw}
+use Rattle.law_choices.specs.Seeing.ByName.{SeesByName, is_integer, outputs_in, types_around}
 use Rattle.law_choices.specs.Seeing.Held.{HoldThroughout, HoldsValues}
 use Rattle.law_choices.specs.Streams.Names.{AreUnder, IsOnlyReaction, KeepsNamesOf, NamesLaw, variable_in}
 use Rattle.law_choices.proofs.AnsweredLemmas.OneLoop.{rows_chosen}
@@ -62,16 +65,19 @@ use Rattle.law_choices.proofs.PlayingLemmas.Asking.{controls, survey, survey_typ
 use Rattle.law_choices.proofs.PlayingLemmas.ControlBits.{of-long}
 use Rattle.law_choices.proofs.PlayingLemmas.Holding.{Does, Runs, inputs-held, runs-of}
 use Rattle.law_choices.proofs.PlayingLemmas.Programs.{FoundMade, GreatestLaws, differ, find-of, its-choice, kinds-in, typed-here}
-use Rattle.law_choices.proofs.SeeingLemmas.Compared.{holds}
-use Rattle.law_choices.proofs.SeeingLemmas.Defined.{block-named}
+use Rattle.law_choices.proofs.PlacesLemmas.Named.{Label}
+use Rattle.law_choices.proofs.SeeingLemmas.Callees.{callees-are, output-kinds}
+use Rattle.law_choices.proofs.SeeingLemmas.HeldByName.{holds}
+use Rattle.law_choices.proofs.SeeingLemmas.Defined.{CallsAre, GivesTyped, block-named}
 use Rattle.law_choices.proofs.SeeingLemmas.Integers.{IsScoped, scoped}
 use Rattle.law_choices.proofs.SeeingLemmas.Labels.{Names as NamesOf, sorted-all}
+use Rattle.law_choices.proofs.SeeingLemmas.Listed.{SameKind}
 use Rattle.law_choices.proofs.SeeingLemmas.PlantRuns.{first-same, first_of, in_first, plant-runs}
 use Rattle.law_choices.proofs.StreamsLemmas.Alike.{only_law}
 use Rattle.law_choices.proofs.StreamsLemmas.Streams.{in_turn}
 
 -- the laws that are joined here
-pub record ComparedLaws : Type 0 where
+pub record ByNameLaws : Type 0 where
   pub greatest : GreatestLaws
   pub meaning : ReadyLaw
   pub names : NamesLaw
@@ -102,10 +108,11 @@ rows-of types ds (row ∷ rows) differ h = (are_of types ds row differ h.0, rows
 module _ (nodes : NodeLaws) (types : List ObcType) (all : Callees) (observers : Observing) (after earlier : List Item) (n : Node) (c : Contracted) (g : Ground types all observers n c) (enums : Enumerations)
     (made : AreMadeOf (known_of (lowered_program after)) (lowered_node enums n) c.plant.eqns)
     (laid : c.plant.variables ≡ (sketch_node (known_of (lowered_program after)) (lowered_node enums n)).variables)
-    (scopes : (ds : List Decl) (es : Eqns) → n.body ≡ block ds es → (cs : List Comparison) → NamesOf (is_integer after (typed_in ds (types_around n))) (is_body_name n) es cs → IsScoped (known_of (lowered_program after)) (lowered_node enums n) cs)
+    (scopes : (ds : List Decl) (es : Eqns) → n.body ≡ block ds es → (cs : List Label) → NamesOf (is_integer after (typed_in ds (types_around n))) (is_body_name n) (outputs_in after) (below Equations (below Body (λ p. p))) es cs
+    → IsScoped (known_of (lowered_program after)) (lowered_node enums n) (outputs_in after) cs)
     (early : Place → Bool) (flags : (g.is).is_early ≡ early_flags early (slots_of_node after n))
-    (kinds : kinds_at types c.plant (range_with_len 0 (length n.inputs)) ≡ timely.kinds_of_decls (types_of after) n.inputs) (compares : ComparesByName after n) (ok : BlockOk none_known 0 n.body)
-    (choices : Choices) (answers : Answers) where
+    (kinds : kinds_at types c.plant (range_with_len 0 (length n.inputs)) ≡ timely.kinds_of_decls (types_of after) n.inputs) (out_kinds : (f : List ℕ) → AllByRecursion (λ (d : Decl). SameKind types (types_of after) (known_of (lowered_program after)) d.ty) (outputs_in after f))
+    (differ : ConstructorsDiffer (types_of after)) (sees : SeesByName after n) (ok : BlockOk none_known 0 n.body) (choices : Choices) (answers : Answers) (callees : CallsAre (chosen_nodes choices (types_of after) real earlier) (outputs_in after)) where
   abbrev decls : List TypeDecl
   decls = types_of after
 
@@ -140,6 +147,13 @@ module _ (nodes : NodeLaws) (types : List ObcType) (all : Callees) (observers : 
   few-inputs : length n.inputs < length c.plant.variables + 1
   few-inputs = let w = ((g.of_node).based).well in let i = w.within in let few = i.inputs in let e = g.inputs in omega (arith, few, e)
 
+  -- where a call of the body is there, its outputs are of their types
+  calls-typed : (now : Instant) → Typed after n now → EachCall (GivesTyped decls (outputs_in after) now) (points_of (names_of n.outputs) n.body (λ p. Body ∷ p))
+  calls-typed now is_typed =
+      let P : Placed → Type 0 = GivesTyped decls (outputs_in after) now in
+      rest_each P (points_of_contract n.contract (λ p. p)) (points_of (names_of n.outputs) n.body (λ p. Body ∷ p))
+      (rest_each P (points_of_controls (controls_of n.contract) (λ p. Controls ∷ p)) (points_of_contract n.contract (λ p. p) ++ points_of (names_of n.outputs) n.body (λ p. Body ∷ p)) (all_each P (points n) (is_typed.free).outputs))
+
   -- one instant
   now-holds : (row : List Value) (older : Past) (free now : Instant) (i : flows.Instant) (js : List flows.Instant) → AreOf decls n.inputs row → Does choices decls earlier n row older free now → Typed after n now → IsPossible types chosen i
       → map i (inputs_of chosen) ≡ row → AllByRecursion (Holds answers js (first_of nodes types all observers n c g i)) c.plant.eqns
@@ -150,8 +164,8 @@ module _ (nodes : NodeLaws) (types : List ObcType) (all : Callees) (observers : 
       by (block ds es) is_body =
           let known : List ℕ → Bool = is_body_name n in
           let integer : Expr → Bool = is_integer after (typed_in ds (types_around n)) in
-          let sorted = sorted-all integer known es in
-          let cs = sorted.comparisons in
+          let sorted = sorted-all integer known (outputs_in after) (below Equations (below Body (λ p. p))) es in
+          let cs = sorted.labels in
           let N : Nodes = chosen_nodes choices decls real earlier in
           let given : Given = chosen_given (choices n.name) n row (record { past = older; free = free }) in
           let chosen_values = given_to decls real N (controls_of n.contract) (part Controls given.free) in
@@ -162,10 +176,11 @@ module _ (nodes : NodeLaws) (types : List ObcType) (all : Callees) (observers : 
           subst (λ (b : Block). (q : Place) → now (Body ∷ q) ≡ scope decls real N b false out last inner (part Body now) q) is_body (λ q. does (Body ∷ q)) in
           let own_ok = (subst (BlockOk none_known 0) is_body ok).1 in
           let star = (is_typed.values).no_mark in
-          let its = block-named known decls N ds now star integer es cs sorted.names none_known 0 own_ok false out last inner are in
-          holds nodes types all observers after n c g k enums made laid early flags kinds compares ok ds es is_body cs sorted.names (scopes ds es is_body cs sorted.names) answers js (first_of nodes types all observers n c g i) i (λ x l. first-same nodes types all observers n c g i x l) eqs others
-          (survey_typed nodes types all observers n c g i possible) N now star (λ y d. let v = names y d in (v.0, v.1, v.2.0)) its row of (inputs-held choices decls earlier n row older free now (of-long decls n.inputs row of) does)
-          (ap (λ m. map i (range_with_len 0 m)) (sym chosen-inputs) ∙ first) few-inputs
+          let its = block-named known decls N ds now star (outputs_in after) callees integer es cs sorted.names none_known 0 own_ok false out last inner are (names_of n.outputs)
+          (subst (λ (b : Block). EachCall (GivesTyped decls (outputs_in after) now) (points_of (names_of n.outputs) b (λ p. Body ∷ p))) is_body (calls-typed now is_typed)) in
+          holds nodes types all observers after n c g k enums made laid early flags kinds out_kinds differ sees ds es is_body cs sorted.names (scopes ds es is_body cs sorted.names) answers js (first_of nodes types all observers n c g i) i
+          (λ x l. first-same nodes types all observers n c g i x l) eqs others (survey_typed nodes types all observers n c g i possible) now (λ y d. let v = names y d in (v.0, v.1, v.2.0)) its row of
+          (inputs-held choices decls earlier n row older free now (of-long decls n.inputs row of) does) (ap (λ m. map i (range_with_len 0 m)) (sym chosen-inputs) ∙ first) few-inputs
 
   all-hold : (rows : List (List Value)) (instants : List flows.Instant) (past : Past) → AllByRecursion (AreOf decls n.inputs) rows → Reaction answers chosen rows instants → AllByRecursion (IsPossible types chosen) instants → Runs choices decls earlier n rows past
       → Through (λ older now. Typed after n now) past → Reaction answers c.plant (rows_with chosen.inputs count rows instants) (firsts instants) → NamesHave past (firsts instants) → HoldThroughout types after n (survey nodes types all observers n c g) instants past
@@ -181,8 +196,8 @@ module _ (nodes : NodeLaws) (types : List ObcType) (all : Callees) (observers : 
 
 -- ---- a program
 
-pub compared_law : ComparedLaws → ComparedLaw
-compared_law laws program after ranks observers ms order h allowed f n rows past e compares kinds reaction earlier stands c x among instants r =
+pub seen_by_name_law : ByNameLaws → SeenByNameLaw
+seen_by_name_law laws program after ranks observers ms order h allowed f n rows past e sees kinds reaction earlier stands c x among instants r =
     let turn = laws.greatest.turn in
     let nodes = (laws.greatest.choice).nodes in
     let types = obc_types (types_of after) in
@@ -239,7 +254,9 @@ compared_law laws program after ranks observers ms order h allowed f n rows past
     let have : (y : List ℕ) → is_body_name n y ≡ true → (v : ℕ) × (variable_in after n y ≡ Some v) × AreUnder (values_of y past) (values_at v js) = (λ y d.
     let v = keeps.names y d in
     (v.variable, v.is_its, subst (λ is. AreUnder (values_of y past) (values_at v.variable is)) (sym same_js) (subst (λ vs. AreUnder vs (values_at v.variable keeps.instants)) (sym (values-same y past before.past same_past)) v.under))) in
-    let scopes : (ds : List Decl) (es : Eqns) → n.body ≡ block ds es → (cs : List Comparison) → NamesOf (is_integer after (typed_in ds (types_around n))) (is_body_name n) es cs → IsScoped (known_of low) (lowered_node (enumerations [] after) n) cs =
-    (λ ds es is_body cs k. scoped program after h.ready h.removable h.form earlier n stands ds es is_body (is_body_name n) cs k) in
+    let scopes : (ds : List Decl) (es : Eqns) → n.body ≡ block ds es → (cs : List Label) → NamesOf (is_integer after (typed_in ds (types_around n))) (is_body_name n) (outputs_in after) (below Equations (below Body (λ p. p))) es cs
+    → IsScoped (known_of low) (lowered_node (enumerations [] after) n) (outputs_in after) cs =
+    (λ ds es is_body cs k. scoped program after h.ready h.removable h.form earlier n stands ds es is_body (is_body_name n) (below Equations (below Body (λ p. p))) cs k) in
     let body = each_found NodeOk (reverse after) n.name n (each_reverse NodeOk after (each-removable after h.removable)) own in
-    all-hold nodes types all observers after earlier n c g (enumerations [] after) (its.equations).eqns (its.equations).variables scopes (x.mirrors).is_early x.flags kinds_in compares body.body choices answers rows instants past of r possible runs typed plant have
+    all-hold nodes types all observers after earlier n c g (enumerations [] after) (its.equations).eqns (its.equations).variables scopes (x.mirrors).is_early x.flags kinds_in (output-kinds program after h.ready h.form) (differ laws.greatest program after ranks observers ms order h allowed) sees
+    body.body choices answers (callees-are choices decls real program after ranks order earlier n stands) rows instants past of r possible runs typed plant have
