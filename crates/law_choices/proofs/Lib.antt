@@ -15,10 +15,11 @@ pub mod OnceLemmas
 pub mod PlacesLemmas
 mod AnsweredLemmas
 mod PartLemmas
-mod AddingLemmas
+pub mod AddingLemmas
 mod CodedLemmas
 pub mod InTurnLemmas
 mod InstancesLemmas
 pub mod ObservedLemmas
 pub mod PlayingLemmas
 mod SeeingLemmas
+pub mod BroughtLemmas

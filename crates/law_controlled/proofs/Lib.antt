@@ -2,6 +2,7 @@ pub mod AddedLaws
 pub mod AlikeLaws
 pub mod AllowedLaws
 pub mod BareLaws
+pub mod BroughtLaws
 pub mod CircleLaws
 pub mod ControlLaws
 pub mod DepthLaws

@@ -1,6 +1,6 @@
 -- Most causes are in the way of no accepted program whose contracts are kept.
 use Rattle.std.proofs.Common.{◌≡◌, inl, inr, ℕ, Bool, true, false, ◌||◌, ◌+◌, ◌≤◌, List, [], ◌∷◌, ◌++◌, length, map, drop, reverse, Option, None, Some, refl, sym, ap, ap₂, subst, ◌∙◌, arith}
-use Rattle.std.specs.Prelude.{All, IsTrue, is_some, option_map}
+use Rattle.std.specs.Prelude.{All, IsTrue, is_some, option_map, sum}
 use Rattle.std.specs.List.{AllByRecursion}
 use Rattle.std.specs.Str.{bytes_eq}
 use Rattle.std.proofs.lemmas.List.{length-map}
@@ -18,6 +18,7 @@ use Rattle.hp_tables.specs.Declarations.Tables.{numbered}
 use Rattle.hp_meaning.specs.Causal.RanksOfPoints.{AllRanksLaw}
 use Rattle.hp_meaning.specs.Causal.Sources.{below}
 use Rattle.hp_meaning.specs.Contract.Forgetting.{ContractsCallNothing}
+use Rattle.hp_meaning.specs.Contract.Slots.{slots_of_node}
 use Rattle.law_judged.specs.Named.Scoped.{EachNode}
 use Rattle.hp_clocks.specs.Answers.{IsClocked}
 use Rattle.hp_clocks.specs.Writing.{AreWritten}
@@ -30,11 +31,11 @@ use Rattle.hp_automata.specs.Lowering.{Enumerations, Types, enumerations, lowere
 use Rattle.law_automata.specs.Lowered.Laws.{RanksLaw}
 use Rattle.hp_flat.specs.Nodes.{FlatNode}
 use Rattle.law_equations.specs.Meaning.Kinding.{Callees, EqnKinds}
-use Rattle.law_equations.specs.Made.Making.{Known, outputs_of}
+use Rattle.law_equations.specs.Made.Making.{Known, flat_type, outputs_of}
 use Rattle.law_equations.specs.Made.Types.{obc_type_of, obc_types, obc_types_of}
 use Rattle.hp_complete.specs.Declaring.{known_of}
 use Rattle.hp_complete.specs.Made.{AreMadeOf, IsMadeOf}
-use Rattle.hp_complete.specs.Signatures.{AreFlat, IsFlat, IsSigned, places_of, variables_of}
+use Rattle.hp_complete.specs.Signatures.{AreFlat, IsFlat, IsSigned, places_of, type_names, variables_of}
 use Rattle.hp_form.specs.Regular.Regular.{EqnsRegular}
 use Rattle.law_wellmade.specs.Acyclic.Laws.{NoCircleLaw}
 use Rattle.law_wellmade.specs.Lettered.Laws.{TextNamesLaw}
@@ -42,14 +43,17 @@ use Rattle.law_wellmade.specs.Lettered.Names.{NodeSpelled, IsSourceName}
 use Rattle.law_wellmade.specs.Regular.Laws.{RegularLaw}
 use Rattle.law_wellmade.specs.Timely.Tested.{AreTested}
 use Rattle.law_wellmade.proofs.BegunLemmas.Items.{names_of_types, types_low}
+use Rattle.hp_circuit.specs.declared.given.Given.{Given}
 use Rattle.hp_abstract.specs.declared.abstracted.Abstraction.{Abstraction}
 use Rattle.hp_abstract.specs.Abstractions.{IsAbstractionOf}
 use Rattle.hp_watch.specs.Observing.{observers}
-use Rattle.hp_watch.specs.Watching.{Observed, Observing}
+use Rattle.hp_watch.specs.declared.watching.Free.{Free}
+use Rattle.hp_watch.specs.Adding.{type_at}
+use Rattle.hp_watch.specs.Watching.{Observed, Observing, surveyed, unwatched, walked}
 use Rattle.hp_controller.specs.declared.decoding.Control.{Control}
 use Rattle.hp_verdicts.specs.Decided.{AreKept, IsKept, KeptItem}
 use Rattle.law_games.specs.ReadyGames.Laws.{IsInOrder, ReadyContractsLaw, Stands, TextOrderLaw}
-use Rattle.law_games.specs.Mirror.Mirrored.{controls_among, widths_at}
+use Rattle.law_games.specs.Mirror.Mirrored.{controls_among, early_among, late_among, widths_at}
 use Rattle.law_drawing.specs.Mirrors.Drawn.{DrawnMirrorsLaw, DrawnSafeLaw}
 use Rattle.law_drawing.proofs.MirrorsLemmas.Reading.{node_reads}
 use Rattle.law_history.proofs.StreamsLemmas.Asked.{Splits, split_first, split_next}
@@ -63,6 +67,12 @@ use Rattle.law_choices.specs.Observed.Laws.{CanBeObservedLaw, TestedObserversLaw
 use Rattle.law_choices.specs.OnClocks.WellMade.{calls_of}
 use Rattle.law_choices.specs.Observed.Texts.{ObservableTextsLaw}
 use Rattle.law_choices.specs.Places.Laws.{CountLaw}
+use Rattle.law_choices.specs.Playing.Drawn.{DrawnFlagsLaw}
+use Rattle.law_choices.specs.Playing.Mirrored.{early_flags}
+use Rattle.law_choices.proofs.BroughtLemmas.Brought.{free_types}
+use Rattle.law_choices.proofs.BroughtLemmas.Placed.{AreIn, types_in}
+use Rattle.law_choices.proofs.BroughtLemmas.Widths.{early-wide, early_width, flags-long, late-wide, late_width, watched-width}
+use Rattle.law_choices.proofs.InTurnLemmas.Observed.{types_watched}
 use Rattle.law_choices.proofs.InTurnLemmas.Programs.{TurnLaws}
 use Rattle.law_choices.proofs.ObservedLemmas.Programs.{observers_in_order}
 use Rattle.law_choices.proofs.OnClocksLemmas.OneMeaning.{AreTurned, IsTurned, ready_nodes}
@@ -75,15 +85,16 @@ use Rattle.hp_controlled.specs.Choosing.IsOwn.{that_stays, that_chooses}
 use Rattle.hp_controlled.specs.Compiled.{AreEquationsOf, AreObserved, contracts_of}
 use Rattle.hp_controlled.specs.Lacking.{ChoosesNot, FitContracts, HasCircularEquations, HasNoChosenMachines, LacksCompiled, LacksMachines, LacksNodes, LacksObservers, OneLacksMachines}
 use Rattle.hp_controlled.specs.Lacking.OneLacksMachines.{none_left, here, behind_a_node, behind_a_type}
-use Rattle.law_controlled.specs.Remaining.{Hinders, IsHindered, Remaining, RemainingLaw, SeesAsMany}
-use Rattle.law_controlled.specs.Remaining.Hinders.{unseen, circular}
+use Rattle.law_controlled.specs.Remaining.{Hinders, IsHindered, Remaining, RemainingLaw}
+use Rattle.law_controlled.specs.Remaining.Hinders.{circular}
 use Rattle.law_controlled.specs.Remaining.Remaining.{one_hindered, formless}
+use Rattle.law_controlled.proofs.BroughtLaws.{survey-in, survey-types}
 use Rattle.law_controlled.proofs.CircleLaws.{no_circle}
 use Rattle.law_controlled.proofs.FitLaws.{contracts_fit}
 use Rattle.law_controlled.proofs.KeptLaws.{not_refused, safe_on_each}
 use Rattle.law_controlled.proofs.MadeLaws.{is_contracted, it}
 use Rattle.law_controlled.proofs.RegularPartLaws.{kinds_regular, part_regular}
-use Rattle.law_controlled.proofs.SightLaws.{NamedIn, has_observer, node_controls, suits}
+use Rattle.law_controlled.proofs.SightLaws.{NamedIn, SeesAsMany, has_observer, node_controls, suits}
 use Rattle.law_controlled.proofs.WellMadeLaws.{all as said_with, chosen_well}
 
 -- the laws that are joined here
@@ -97,6 +108,7 @@ pub record RemainingLaws : Type 0 where
   pub order : TextOrderLaw
   pub safe : DrawnSafeLaw
   pub mirrors : DrawnMirrorsLaw
+  pub flags : DrawnFlagsLaw
   pub contracts : ReadyContractsLaw
   pub observable : ObservableTextsLaw
   pub sign : SignLaw
@@ -238,11 +250,33 @@ module _ (after : List Item) (k : Known) (enums : Enumerations) (places : List �
         are_named = h.are_named;
       }) lacks
 
+  module _ (l : Lacking) where
+    lower : controls_of (option_map (lowered_contract enums (lowering.types_of l.node)) l.node.contract) ≡ controls_of l.node.contract
+    lower = controls_low enums (lowering.types_of l.node) l.node.contract
+
+    pub signed : IsSigned places l.node l.plant
+    signed =
+        let flat = l.flat in
+        let own = flat.signed in
+        record {
+          name = own.name;
+          inputs = own.inputs ∙ ap (λ cs. length (l.node.inputs ++ cs)) lower;
+          first = own.first ∙ ap (λ cs. variables_of places (l.node.inputs ++ cs)) lower;
+          outputs = own.outputs;
+        }
+
+    -- the free places that are surveyed of it have the types of its slots
+    abbrev pub HasTypes : Observed → Type 0
+    HasTypes own =
+        let s = surveyed seen own (length l.node.inputs) (walked l.node l.plant) l.plant in
+        (types_in s.node s.free ≡ map (flat_type places) (free_types (slots_of_node after l.node))) × AreIn s.node s.free
+
   module _ (laws : RemainingLaws) (program : List Item) (ranks : List (List ℕ)) (order : IsInOrder program after ranks) (form : TypesForm types) (are : (x : List ℕ) → places x ≡ numbered 0 (map (λ (d : TypeDecl). d.name) decls) x)
       (same : types_of after ≡ decls) (seen_are : AreObserved after seen) (l : Lacking)
       (wells :
       (c : Contracted) → IsContracted types seen l.node c → (names : List (List ℕ)) → IsTurned types k names (lowered_node enums l.node) c.plant → IsMadeOf k (lowered_node enums l.node) c.plant → IsReadyMade types (calls_of types k) c.plant
-      → ((f : List ℕ) → has_name names f ≡ true → is_new f ≡ false) → is_new c.plant.name ≡ false → (all : Callees) × AllByRecursion (EqnKinds types all c.chosen.node.variables) c.chosen.node.eqns) where
+      → ((f : List ℕ) → has_name names f ≡ true → is_new f ≡ false) → is_new c.plant.name ≡ false → (all : Callees) × AllByRecursion (EqnKinds types all c.chosen.node.variables) c.chosen.node.eqns)
+      (has_types : (c : Contract) → l.node.contract ≡ Some c → (own : Observed) → seen l.plant.name ≡ Some own → HasTypes l own) where
     abbrev Left : Type 0
     Left = Hinders after types seen l.node l.plant
 
@@ -256,20 +290,6 @@ module _ (after : List Item) (k : Known) (enums : Enumerations) (places : List �
         let made = l.made in
         let own = has_observer (known_of (lowered_program (observers after))) (enumerations [] (observers after)) l.node.name after seen_are.nodes equations.made (l.named some) [] in
         (own.0, ap seen made.name ∙ ap (λ (os : Observing). os l.node.name) seen_are.are ∙ own.1)
-
-    lower : controls_of (option_map (lowered_contract enums (lowering.types_of l.node)) l.node.contract) ≡ controls_of l.node.contract
-    lower = controls_low enums (lowering.types_of l.node) l.node.contract
-
-    signed : IsSigned places l.node l.plant
-    signed =
-        let flat = l.flat in
-        let own = flat.signed in
-        record {
-          name = own.name;
-          inputs = own.inputs ∙ ap (λ cs. length (l.node.inputs ++ cs)) lower;
-          first = own.first ∙ ap (λ cs. variables_of places (l.node.inputs ++ cs)) lower;
-          outputs = own.outputs;
-        }
 
     -- the machine has the bits of controllable variables
     widths : (a : Abstraction) → IsAbstractionOf after l.node a → a.machine.widths ≡ widths_at decls (controls_among (control_row l.node))
@@ -285,14 +305,42 @@ module _ (after : List Item) (k : Known) (enums : Enumerations) (places : List �
         let reads = node_reads program after ranks order l.earlier l.node l.stands in
         let long = length-map decls obc_type_of in
         let number = form.number in
-        let controls = node_controls decls form.counts (omega (arith, number, long)) places are l.node l.plant signed reads.controls firsts.controls (below Controls self) in
-        suits types seen l.node l.plant a own (made.inputs ∙ ap (λ cs. length l.node.inputs + length cs) lower)
+        let controls = node_controls decls form.counts (omega (arith, number, long)) places are l.node l.plant (signed l) reads.controls firsts.controls (below Controls self) in
+        suits types seen l.node l.plant a own (made.inputs ∙ ap (λ cs. length l.node.inputs + length cs) (lower l))
         (subst (λ ws. (cs : List Control) × AreControls types (drop (length l.node.inputs) l.plant.variables) ws cs × (length ws ≡ length (controls_of l.node.contract))) (sym (widths a is)) controls)
         (sym (laws.count (λ f. map (λ (d : Decl). d.name) (outputs_of (k.nodes f))) k enums l.node l.plant.eqns (λ f. refl) made.eqns)) has all
 
+    -- as many places and bits are seen as its machine is told of
+    sees-all : (a : Abstraction) → IsAbstractionOf after l.node a → (own : Observed) → HasTypes l own → SeesAsMany types seen l.node l.plant a own
+    sees-all a is own t =
+        let F = laws.flags program after ranks order l.earlier l.node l.stands is.drawn a.machine is.is_drawn is.is_machine in
+        let M = F.mirrors in
+        let slots = slots_of_node after l.node in
+        let early = λ (g : Given). g.is_early in
+        let flags : map early a.given.items ≡ early_flags M.is_early slots = ap (map early) is.given ∙ F.flags in
+        let s = surveyed seen own (length l.node.inputs) (walked l.node l.plant) l.plant in
+        let long = length-map decls obc_type_of in
+        let number = form.number in
+        let many : length decls ≤ 1000 = omega (arith, number, long) in
+        let bits = watched-width types s.free (map early a.given.items) (unwatched s.node) t.1 in
+        let none : (x : ℕ) → 0 + x ≡ x = λ x. omega arith in
+        record {
+          places = sym (length-map s.free (λ (f : Free). type_at s.node f.variable)) ∙ ap length t.0 ∙ length-map (free_types slots) (flat_type places) ∙ sym (flags-long decls form.counts many M.is_early slots) ∙ ap length (sym flags) ∙ length-map a.given.items early;
+          early = bits.0 ∙ none (early_width types (types_in s.node s.free) (map early a.given.items)) ∙ ap₂ (early_width types) t.0 flags ∙ early-wide decls form.counts many places are M.is_early slots ∙ ap (λ ds. sum (widths_at ds (early_among M.is_early slots))) (sym same) ∙ sym M.early_are;
+          late = bits.1 ∙ none (late_width types (types_in s.node s.free) (map early a.given.items)) ∙ ap₂ (late_width types) t.0 flags ∙ late-wide decls form.counts many places are M.is_early slots ∙ ap (λ ds. sum (widths_at ds (late_among M.is_early slots))) (sym same) ∙ sym M.late_are;
+        }
+
+    -- so it suits
+    all-suit : (a : Abstraction) → IsTrue (is_some l.node.contract) → IsAbstractionOf after l.node a → Suits types seen l.node l.plant a
+    all-suit a some is = by l.node.contract refl some
+      where
+        by : (o : Option Contract) → l.node.contract ≡ o → IsTrue (is_some o) → Suits types seen l.node l.plant a
+        by None e h = absurd (let no : false ≡ true = h in cc)
+        by (Some c) e h = let own = observer some in all_suits a is own.0 own.1 (sees-all a is own.0 (has_types c e own.0 own.1))
+
     chooses_not : (a : Abstraction) → IsTrue (is_some l.node.contract) → IsAbstractionOf after l.node a → ChoosesNot types seen l.node l.plant a → Left
     chooses_not a some is (ChoosesNot.long_name long) = absurd (omega (arith, long, short))
-    chooses_not a some is (ChoosesNot.unsuited none) = let own = observer some in unseen a own.0 some is own.1 (λ all. none (all_suits a is own.0 own.1 all))
+    chooses_not a some is (ChoosesNot.unsuited none) = absurd (none (all-suit a some is))
     chooses_not a some is (ChoosesNot.circular s circle) = circular a some is s circle
 
     no_nodes : IsTrue (is_some l.node.contract) → IsKept after l.node → LacksNodes after types seen l.node l.plant → Left
@@ -392,6 +440,14 @@ module _ (laws : RemainingLaws) (program after : List Item) (ranks : List (List 
       let seen = lowered_program (observers after) in
       contracts_fit laws.count (λ f. map (λ (d : Decl). d.name) (outputs_of ((known_of seen).nodes f))) (known_of seen) (enumerations [] (observers after)) (λ f. refl) after ns equations.made
 
+  -- observers have the types of the program
+  same_places : places_of (lowered_program (observers after)) ≡ places_of low
+  same_places =
+      let watched = lowered_program (observers after) in
+      let names : type_names watched ≡ type_names low =
+      names_of_types watched ∙ ap (λ ds. map (λ (d : TypeDecl). d.name) ds) (types_watched after ∙ sym (types_low (enumerations [] after) after)) ∙ sym (names_of_types low) in
+      ap (λ ns. numbered 0 ns) names
+
   left : HasNoChosenMachines after → Remaining after
   left (HasNoChosenMachines.not_compiled (LacksCompiled.circular_nodes circle)) = absurd (not_circular circle)
   left (HasNoChosenMachines.not_compiled (LacksCompiled.no_observers (LacksObservers.circular_contracts circle))) = absurd (not_circular_contracts circle)
@@ -420,7 +476,10 @@ module _ (laws : RemainingLaws) (program after : List Item) (ranks : List (List 
       (λ x. ap (λ names. numbered 0 names x) (names_of_types low ∙ ap (λ ds. map (λ (d : TypeDecl). d.name) ds) (types_low (enumerations [] after) after))) refl are l
       (λ c is names t made ready signed plain.
       let well = chosen_well laws.turn laws.made laws.observer program after q b.unsigned can_be seen are l.node c is names t made ready signed plain in
-      (said_with laws.turn laws.made laws.observer program after q b.unsigned can_be seen are l.node c is, well.kinds)))
+      (said_with laws.turn laws.made laws.observer program after q b.unsigned can_be seen are l.node c is, well.kinds))
+      (λ c has own its.
+      (survey-types program after q.ready q.removable q.form q.short b.calls b.observable seen are same_places l.earlier l.node l.stands c has l.plant l.made (signed after (known_of low) (enumerations [] after) (places_of low) (types_of after) seen l) own its,
+      survey-in program after q.ready q.removable q.form q.short b.calls b.observable seen are same_places l.earlier l.node l.stands c has l.plant l.made (signed after (known_of low) (enumerations [] after) (places_of low) (types_of after) seen l) own its)))
   left (HasNoChosenMachines.formless ms are none) = formless ms are none
 
 pub remaining_law : RemainingLaws → RemainingLaw

@@ -44,7 +44,6 @@ use Rattle.hp_controller.specs.declared.decoding.ControlKind.TheVariants.{Truth,
 use Rattle.law_choices.proofs.PlayingLemmas.Inputs.{row_of_slots, slot_of}
 use Rattle.hp_controlled.specs.Choosing.{AreControls, Suits, constructor_kind}
 use Rattle.hp_controlled.specs.Compiled.{contract_if, contracts_of, name_if, names_with_contracts, numbered_of, observed_all}
-use Rattle.law_controlled.specs.Remaining.{SeesAsMany}
 use Rattle.law_controlled.proofs.ObserverLaws.{at_length}
 
 -- ---- declared types
@@ -177,6 +176,12 @@ module _ (k : Known) (enums : Enumerations) (f : List ℕ) where
               (x.0, ap₂ (λ os j. numbered_of os (numbered j (names_with_contracts items) f)) (sym (append_assoc before (observed c g ∷ []) (observed_all (contracts_of items) gs))) (sym (length-append before (observed c g ∷ []))) ∙ x.1)
 
 -- ---- what suits
+
+-- As many places and bits are seen of a node that has this observer as its machine is told of.
+pub record SeesAsMany (types : List ObcType) (observers : Observing) (node : Node) (n : FlatNode) (a : Abstraction) (own : Observed) : Type 0 where
+  pub places : length (surveyed observers own (length node.inputs) (walked node n) n).free ≡ length a.given.items
+  pub early : length (watched_by types (map (λ (g : Given). g.is_early) a.given.items) (surveyed observers own (length node.inputs) (walked node n) n)).early ≡ a.machine.early
+  pub late : length (watched_by types (map (λ (g : Given). g.is_early) a.given.items) (surveyed observers own (length node.inputs) (walked node n) n)).late ≡ a.machine.late
 
 module _ (types : List ObcType) (seen : Observing) (node : Node) (n : FlatNode) (a : Abstraction) (own : Observed) where
   pub suits : n.inputs ≡ length node.inputs + length (controls_of node.contract) → ((cs : List Control) × AreControls types (drop (length node.inputs) n.variables) a.machine.widths cs × (length a.machine.widths ≡ length (controls_of node.contract)))

@@ -1,6 +1,6 @@
 -- What may be in the way of the machines of a program whose nodes choose, where its contracts are kept. Of no program has any of it been seen.
 -- Source: own.
-use Rattle.std.specs.Prelude.{◌≡◌, ℕ, List, length, map, Some, IsTrue, is_some}
+use Rattle.std.specs.Prelude.{ℕ, List, IsTrue, is_some}
 use Rattle.hp_lexer.specs.Lexing.{AreTokensOf}
 use Rattle.hp_lexer.specs.declared.token.Token.{Token}
 use Rattle.hp_parser.specs.Lexemes.{lexemes}
@@ -20,25 +20,17 @@ use Rattle.hp_expand.specs.Refusals.{IsFormed}
 use Rattle.hp_expand.specs.Numbering.{replaced}
 use Rattle.hp_flat.specs.Nodes.{FlatNode}
 use Rattle.law_equations.specs.Made.Types.{obc_types_of}
-use Rattle.hp_circuit.specs.declared.given.Given.{Given}
 use Rattle.hp_abstract.specs.declared.abstracted.Abstraction.{Abstraction}
 use Rattle.hp_abstract.specs.Abstractions.{IsAbstractionOf}
-use Rattle.hp_watch.specs.Watching.{Observed, Observing, surveyed, walked, watched_by}
+use Rattle.hp_watch.specs.Watching.{Observing}
 use Rattle.hp_verdicts.specs.Decided.{AreKept}
 use Rattle.law_games.specs.ReadyGames.Laws.{Stands}
 use Rattle.hp_controlled.specs.Choosing.{Suits, telling}
 use Rattle.hp_controlled.specs.Compiled.{AreCompiled, AreEquationsOf, AreObserved}
 use Rattle.hp_controlled.specs.Lacking.{HasCircularEqns, HasNoChosenMachines}
 
--- As many places and bits are seen of a node that has this observer as its machine is told of.
-pub record SeesAsMany (types : List ObcType) (observers : Observing) (node : Node) (n : FlatNode) (a : Abstraction) (own : Observed) : Type 0 where
-  pub places : length (surveyed observers own (length node.inputs) (walked node n) n).free ≡ length a.given.items
-  pub early : length (watched_by types (map (λ (g : Given). g.is_early) a.given.items) (surveyed observers own (length node.inputs) (walked node n) n)).early ≡ a.machine.early
-  pub late : length (watched_by types (map (λ (g : Given). g.is_early) a.given.items) (surveyed observers own (length node.inputs) (walked node n) n)).late ≡ a.machine.late
-
--- Of a node with a contract, of which these are the clocked equations: not as many places or bits are seen of it as its machine is told of; or equations of the node that chooses read each other in a circle.
+-- Of a node with a contract, of which these are the clocked equations: equations of the node that chooses read each other in a circle.
 pub data Hinders (program : List Item) (types : List ObcType) (observers : Observing) (node : Node) (n : FlatNode) : Type 0 where
-  unseen : (a : Abstraction) (own : Observed) → IsTrue (is_some node.contract) → IsAbstractionOf program node a → observers n.name ≡ Some own → (SeesAsMany types observers node n a own → ⊥) → Hinders program types observers node n
   circular : (a : Abstraction) → IsTrue (is_some node.contract) → IsAbstractionOf program node a → (s : Suits types observers node n a) → HasCircularEqns (telling node.name s.watched a s.controls).node → Hinders program types observers node n
 
 -- A node of the program, of which these are the clocked equations, where something is in the way.

@@ -225,6 +225,7 @@ pub fn few_causes_are_left()
     well_built_observers_suit();
     programs_of_texts_are_in_order();
     drawn_nodes_are_mirrored();
+    drawn_machines_mirror();
     drawn_games_are_kept();
 }
 

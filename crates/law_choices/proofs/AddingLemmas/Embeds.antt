@@ -22,7 +22,8 @@ use Rattle.law_equations.specs.Meaning.Solving.{NoOther, IsExclusive}
 use Rattle.hp_watch.specs.declared.embedding.Shift.{Shift}
 use Rattle.hp_watch.specs.declared.watching.Free.{Free}
 use Rattle.hp_watch.specs.Watching.{clock_by, clock_of, moved_number, moved_free}
-use Rattle.hp_watch.specs.Adding.{type_at, added_variable, with_variable, with_eqn, operator_eqn}
+use Rattle.hp_watch.specs.Adding.{type_at, type_of, added_variable, with_variable, with_eqn, operator_eqn}
+use Rattle.hp_watch.specs.Growing.{Grows}
 use Rattle.hp_watch.specs.Embedding.{Site, moved_all, moved_clock, moved_atom, moved_right, moved_eqn, with_variables, with_inputs, with_moved, with_room, embedded, shift_of}
 use Rattle.law_choices.specs.Adding.Adding.{IsWellBuilt, IsNewIn}
 use Rattle.law_choices.specs.Adding.Keeping.{IsBased, Keeps}
@@ -102,6 +103,42 @@ renamed-values : (types : List ObcType) (from : ℕ) (vs : List Variable) → Al
 unfolding renamed
 renamed-values types from [] h = tt
 renamed-values types from (v ∷ vs) h = (h.0, renamed-values types (from + 1) vs h.1)
+
+renamed-type : (from : ℕ) (vs : List Variable) (x : ℕ) → type_of (slice_get (renamed from vs) x) ≡ type_of (slice_get vs x)
+unfolding renamed
+renamed-type from [] x = refl
+renamed-type from (v ∷ vs) zero = refl
+renamed-type from (v ∷ vs) (suc x) = renamed-type (from + 1) vs x
+
+-- ---- an observer in a node
+
+module _ (observer : FlatNode) (site : Site) (n : FlatNode) where
+  embedded-behind : Behind n (embedded observer site n) (renamed (length n.variables) observer.variables) (input_eqns site.clock (length n.variables) site.inputs ++ map (moved_eqn site (length n.variables)) observer.eqns)
+  embedded-behind =
+      let V = length n.variables in
+      let vs = renamed V observer.variables in
+      let named = with_variables observer.variables n in
+      let inputs = input_eqns site.clock V site.inputs in
+      moved-behind site V observer.eqns n (with_room observer site n) vs inputs (inputs-behind site.clock site.inputs n named vs [] V (variables-behind observer.variables n n [] [] V refl (nothing-behind n)))
+
+  -- the node stays
+  pub embedded-grows : Grows n (embedded observer site n)
+  embedded-grows = grows-behind n (embedded observer site n) (renamed (length n.variables) observer.variables) (input_eqns site.clock (length n.variables) site.inputs ++ map (moved_eqn site (length n.variables)) observer.eqns) embedded-behind
+
+  -- and a variable of the observer has its type there
+  pub embedded-type : (x : ℕ) → x < length observer.variables → (type_at (embedded observer site n) (x + length n.variables) ≡ type_at observer x) × (x + length n.variables < length (embedded observer site n).variables)
+  embedded-type x l =
+      let vs = renamed (length n.variables) observer.variables in
+      let e = ap length (embedded-behind).variables in
+      let a = length-append n.variables vs in
+      let b = renamed-length (length n.variables) observer.variables in (
+        ap (λ us. type_of (slice_get us (x + length n.variables))) (embedded-behind).variables ∙ ap type_of (get-behind n.variables vs x) ∙ renamed-type (length n.variables) observer.variables x,
+        omega (arith, e, a, b, l),
+      )
+    where
+      get-behind : (us vs : List Variable) (i : ℕ) → slice_get (us ++ vs) (i + length us) ≡ slice_get vs i
+      get-behind [] vs i = let e : i + 0 ≡ i = omega arith in ap (slice_get vs) e
+      get-behind (u ∷ us) vs i = let q : i + suc (length us) ≡ suc (i + length us) = omega arith in ap (slice_get (u ∷ us ++ vs)) q ∙ get-behind us vs i
 
 -- ---- the inputs
 

@@ -62,7 +62,7 @@ same-width (p ∷ ps) w tries count r l e = by (nat_le count p) refl tries e (λ
         let here : w + suc (least_width ps count) ≡ suc w + least_width ps count = omega arith in
         here ∙ again i (subst (λ j. count ≤ pow2 j) (sym there) l) (omega (arith, e)) ∙ ap (λ b. if b then w else width_from i (suc w) count) (sym q ∙ at)
 
-widths : (count : ℕ) → count ≤ 256 → width_of count ≡ width count
+pub widths : (count : ℕ) → count ≤ 256 → width_of count ≡ width count
 widths count l =
     let none : width_of count ≡ 0 + least_width powers count = omega arith in
     none ∙ same-width powers 0 count count (refl, (refl, (refl, (refl, (refl, (refl, (refl, (refl, tt)))))))) l (omega arith)

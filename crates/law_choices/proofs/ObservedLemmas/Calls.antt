@@ -209,8 +209,9 @@ told_none (Some e) s h = h
 lines_none : (b : Block) (more : List Decl) (lines : List Eqn) → BlockCallsNothing b → Rows lines → BlockCallsNothing (with_lines b more lines)
 lines_none (block ds es) more lines h k = behind_eqns es lines h k
 
--- the observer of a contract that calls nothing
+-- the observer of a contract that calls nothing calls nothing without automata
+pub observer_alone : (enums : Enumerations) (n : Node) (c : Contract) → BlockCallsNothing c.body × ToldCallsNothing c.assume × ToldCallsNothing c.enforce → BlockCallsNothing (lowered_node enums (observer_of n c)).body
+observer_alone enums n c h = node_low enums (observer_of n c) (lines_none c.body n.outputs (lines_of n c) h.0 (told_none c.assume c.span h.1, (told_none c.enforce c.span h.2, handed_rows 0 n.outputs)))
+
 pub observer_none : (enums : Enumerations) (n : Node) (c : Contract) → BlockCallsNothing c.body × ToldCallsNothing c.assume × ToldCallsNothing c.enforce → CallsNone (lowered_node enums (observer_of n c))
-observer_none enums n c h =
-    none_in (λ f here. IsTrue (has_name [] f)) (lowered_node enums (observer_of n c)).body in_body
-    (node_low enums (observer_of n c) (lines_none c.body n.outputs (lines_of n c) h.0 (told_none c.assume c.span h.1, (told_none c.enforce c.span h.2, handed_rows 0 n.outputs))))
+observer_none enums n c h = none_in (λ f here. IsTrue (has_name [] f)) (lowered_node enums (observer_of n c)).body in_body (observer_alone enums n c h)

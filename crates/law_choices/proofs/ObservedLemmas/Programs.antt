@@ -98,7 +98,7 @@ module _ (enums : Enumerations) where
   abbrev SameNames : List Item → List Item → Type 0
   SameNames done there = (f : List ℕ) → has_node there f ≡ has_node done f
 
-  with_automata : (items done there : List Item) → SameNames done there → AreApart there → AreApart (onto (map (lowered_item enums) items) done) → AreApart (onto items there)
+  pub with_automata : (items done there : List Item) → SameNames done there → AreApart there → AreApart (onto (map (lowered_item enums) items) done) → AreApart (onto items there)
   with_automata [] done there same a h = a
   with_automata (TypeItem t ∷ items) done there same a h = with_automata items (TypeItem t ∷ done) (TypeItem t ∷ there) same a h
   with_automata (NodeItem n ∷ items) done there same a h =
@@ -118,14 +118,14 @@ each_alone after nothing names (NodeItem n ∷ items) fresh = (contracts-none af
 -- ---- the observers are sound, and their tests typed
 
 -- what is known of each node that stands there, the last one first
-record IsSeen (types : List TypeDecl) (enums : Enumerations) (items : List Item) : Type 0 where
-  known : EachNode (IsKnown types) items
-  old : EachNode (NodeNames IsOld) items
-  sound : SoundBehind types items
-  constants : ConstantsAre types items
-  has : ConstantsBehind enums items
+pub record IsSeen (types : List TypeDecl) (enums : Enumerations) (items : List Item) : Type 0 where
+  pub known : EachNode (IsKnown types) items
+  pub old : EachNode (NodeNames IsOld) items
+  pub sound : SoundBehind types items
+  pub constants : ConstantsAre types items
+  pub has : ConstantsBehind enums items
 
-ready_seen : (program after : List Item) → IsReady program after → TypesHaveConstructors (types_of program) → EachNode (IsKnown (types_of after)) after → IsSeen (types_of after) (enumerations [] after) (reverse after)
+pub ready_seen : (program after : List Item) → IsReady program after → TypesHaveConstructors (types_of program) → EachNode (IsKnown (types_of after)) after → IsSeen (types_of after) (enumerations [] after) (reverse after)
 ready_seen program after r full known =
     let types = types_of after in
     let has_types = typed program r.named r.typed r.merges in
@@ -176,7 +176,7 @@ tested_observers program after ranks o known apart =
 -- ---- the law
 
 -- what is known of each node of a ready program
-ready_known : (program after : List Item) → IsReady program after → IsRemovable after → TypesHaveConstructors (types_of program) → EachNode NodeShort after → ContractsCallNothing after → EachNode IsObservable after → AreApart (reverse (lowered_program after)) → EachNode (IsKnown (types_of after)) after
+pub ready_known : (program after : List Item) → IsReady program after → IsRemovable after → TypesHaveConstructors (types_of program) → EachNode NodeShort after → ContractsCallNothing after → EachNode IsObservable after → AreApart (reverse (lowered_program after)) → EachNode (IsKnown (types_of after)) after
 ready_known program after r ok full short nothing observable apart =
     let types = types_of after in
     let enums = enumerations [] after in

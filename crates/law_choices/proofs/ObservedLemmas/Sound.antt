@@ -79,7 +79,7 @@ last_append (d ∷ ds) es x (inl h) =
     (or_cases (bytes_eq d.name x && is_some d.last) (last_among ds x) h)
 last_append (d ∷ ds) es x (inr h) = or_right (bytes_eq d.name x && is_some d.last) (last_among (ds ++ es) x) (last_append ds es x (inr h))
 
-scoped_front : (seen own : Names) (es : Eqns) (more : List Eqn) → EqnsScoped seen own (eqns_of (list_of_eqns es ++ more)) → EqnsScoped seen own es
+pub scoped_front : (seen own : Names) (es : Eqns) (more : List Eqn) → EqnsScoped seen own (eqns_of (list_of_eqns es ++ more)) → EqnsScoped seen own es
 scoped_front seen own no_eqn more h = tt
 scoped_front seen own (more_eqns e es) more h = (h.0, scoped_front seen own es more h.1)
 
@@ -334,6 +334,20 @@ module _ (types : List TypeDecl) (among before : List ℕ → Option Node) (s r 
     sound_front : (more : List Eqn) (qs : Eqns) → EqnsSound types before new lasts_new (eqns_of (list_of_eqns qs ++ more)) → EqnsSound types before new lasts_new qs
     sound_front more no_eqn k = tt
     sound_front more (more_eqns q qs) k = (k.0, sound_front more qs k.1)
+
+    -- ---- the scope of the contract within that of its observer
+
+    pub old_names : (x : List ℕ) → KeptName old new x x
+    old_names = place.names
+
+    pub old_grows : Grows types before old new
+    old_grows = place.grows
+
+    pub old_scope : old ≡ to types among none [] (with_variables (inside_node s n) ds)
+    old_scope = same_scope
+
+    pub front_sound : EqnsSound types before new lasts_new eqns → EqnsSound types before new lasts_new es
+    front_sound k = sound_front (lines_of n c) es k
 
     body_fits : Grounds types r → AllBase n.outputs → EqnsCallNothing es → BlockDrawable (inside_node s n) (block ds es) → BlockApart (block ds es) → ConditionApart c.assume → ConditionApart c.enforce → BlockSound types among (inside_node s n) (lasts_in n.outputs no_lasts) (block ds es)
         → BlockSound types before outer (lasts_in told no_lasts) (block locals eqns) → BlockFits types outer (block locals eqns)

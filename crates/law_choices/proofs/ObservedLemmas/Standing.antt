@@ -54,7 +54,7 @@ ConstantsAre types [] = ⊤
 ConstantsAre types (TypeItem t ∷ earlier) = ConstantsAre types earlier
 ConstantsAre types (NodeItem n ∷ earlier) = ((c : Const) → ConstantIs types (scope_behind earlier) c) × ConstantsAre types earlier
 
-constant_there : (types : List TypeDecl) (s r : Scope) → r.constructors ≡ s.constructors → (c : Const) → ConstantIs types s c → ConstantIs types r c
+pub constant_there : (types : List TypeDecl) (s r : Scope) → r.constructors ≡ s.constructors → (c : Const) → ConstantIs types s c → ConstantIs types r c
 constant_there types s r e (const.B b) f = f
 constant_there types s r e (const.I n) f = f
 constant_there types s r e (const.E c) f = λ t h. f t (ap (λ z. enum_of (lookup z c)) (sym e) ∙ h)
@@ -91,7 +91,7 @@ constants_are types nodes program after clocked sound = constants_onto types [] 
 
 -- ---- what is known where observers stand
 
-no_variables : (items : List Item) (x : List ℕ) → lookup (scope_behind items).variables x ≡ None
+pub no_variables : (items : List Item) (x : List ℕ) → lookup (scope_behind items).variables x ≡ None
 no_variables [] x = refl
 no_variables (TypeItem t ∷ items) x = no_variables items x
 no_variables (NodeItem n ∷ items) x = no_variables items x
@@ -105,7 +105,7 @@ none_named (NodeItem n ∷ items) f h = by (bytes_eq n.name f) h (none_named ite
     by true k r = absurd cc
     by false k r = r k
 
-nodes_known : (items : List Item) → AreApart items → (f : List ℕ) → lookup (scope_behind items).nodes f ≡ node_among items f
+pub nodes_known : (items : List Item) → AreApart items → (f : List ℕ) → lookup (scope_behind items).nodes f ≡ node_among items f
 nodes_known [] a f = refl
 nodes_known (TypeItem t ∷ items) a f = nodes_known items a f
 nodes_known (NodeItem n ∷ items) a f = node_more (scope_behind items) n (node_among items) (nodes_known items a.1 n.name ∙ none_named items n.name a.0) (nodes_known items a.1) f
@@ -116,7 +116,7 @@ module _ (types : List TypeDecl) (enums : Enumerations) where
   abbrev low : List Item → List Item
   low items = map (lowered_item enums) items
 
-  conses_same : (items : List Item) → (scope_behind (low (observers items))).constructors ≡ (scope_behind items).constructors
+  pub conses_same : (items : List Item) → (scope_behind (low (observers items))).constructors ≡ (scope_behind items).constructors
   conses_same [] = refl
   conses_same (TypeItem t ∷ items) = ap (λ z. with_constructors z t.name t.cons) (conses_same items)
   conses_same (NodeItem n ∷ items) = by n.contract (conses_same items)
@@ -125,7 +125,7 @@ module _ (types : List TypeDecl) (enums : Enumerations) where
       by None e = e
       by (Some c) e = e
 
-  has_constant : (s r : Scope) → r.constructors ≡ s.constructors → (u : Ty) → HasConstant enums s u → HasConstant enums r u
+  pub has_constant : (s r : Scope) → r.constructors ≡ s.constructors → (u : Ty) → HasConstant enums s u → HasConstant enums r u
   has_constant s r e ty.Bool h = refl
   has_constant s r e ty.Int h = refl
   has_constant s r e (ty.Enum x) h = ap (λ z. enum_of (lookup z (first_constructor (lookup enums x)))) e ∙ h
@@ -146,10 +146,10 @@ module _ (types : List TypeDecl) (enums : Enumerations) where
     body_types : (b : Block) (more : List Decl) (lines : List Eqn) → BlockTypes P b → DeclTypes P more → EqnsTypes P (eqns_of lines) → BlockTypes P (with_lines b more lines)
     body_types (block ds es) more lines h d k = (both_types ds more h.0 d, types_behind es lines h.1 k)
 
-    observer_types : (n : Node) (c : Contract) → n.contract ≡ Some c → P ty.Bool → NodeTypes P n → NodeTypes P (observer_of n c)
+    pub observer_types : (n : Node) (c : Contract) → n.contract ≡ Some c → P ty.Bool → NodeTypes P n → NodeTypes P (observer_of n c)
     observer_types n c e bool h = ((bool, (bool, tt)), (tt, body_types c.body n.outputs (lines_of n c) (subst (ContractTypes P) e h.1.0) h.0 (tt, (tt, handed_types 0 n.outputs))))
 
-  around_old : (n : Node) (c : Contract) → NodeNames IsOld n → length n.outputs < 1000000 → AroundOld (observer_of n c)
+  pub around_old : (n : Node) (c : Contract) → NodeNames IsOld n → length n.outputs < 1000000 → AroundOld (observer_of n c)
   around_old n c old few x h = told (or_cases (declares (outputs_at c.span) x) (declares (n.inputs ++ inputs_for 0 n.outputs) x || false) h)
     where
       mine : IsTrue (declares n.inputs x) ⊎ IsTrue (declares (inputs_for 0 n.outputs) x) → IsOld x
@@ -161,7 +161,7 @@ module _ (types : List TypeDecl) (enums : Enumerations) where
       told (inl k) = ⊎_elim (λ q. subst IsOld (same_bytes assumed x q) assumed_old) (λ q. subst IsOld (same_bytes enforced x (or_none (bytes_eq enforced x) q)) enforced_old) (or_cases (bytes_eq assumed x) (bytes_eq enforced x || false) k)
       told (inr k) = mine (or_cases (declares n.inputs x) (declares (inputs_for 0 n.outputs) x) (sym (declares_append n.inputs (inputs_for 0 n.outputs) x) ∙ or_none (declares (n.inputs ++ inputs_for 0 n.outputs) x) k))
 
-  one_sound : (n : Node) (c : Contract) (earlier : List Item) → n.contract ≡ Some c → IsKnown types n → NodeNames IsOld n → NodeSound types (node_among earlier) (scope_behind earlier) n → ((k : Const) → ConstantIs types (scope_behind earlier) k)
+  pub one_sound : (n : Node) (c : Contract) (earlier : List Item) → n.contract ≡ Some c → IsKnown types n → NodeNames IsOld n → NodeSound types (node_among earlier) (scope_behind earlier) n → ((k : Const) → ConstantIs types (scope_behind earlier) k)
       → NodeTypes (HasConstant enums (scope_behind earlier)) n → AreApart (low (observers earlier)) → NodeSound types (node_among (low (observers earlier))) (scope_behind (low (observers earlier))) (lowered_node enums (observer_of n c))
   one_sound n c earlier e k old h constants has apart =
       let o = k.observable in

@@ -22,21 +22,21 @@ made-append (x ∷ xs) ys = ap (λ zs. x.1 ∷ zs) (made-append xs ys)
 -- ---- one part behind another
 
 -- A walk over a part takes the events that are made of it, and finds those that stand in it.
-abbrev pub Takes : (List Spot → Walked Spot) → List Spot → List Spot → Type 0
-Takes walked events places = (rest : List Spot) → walked (events ++ rest) ≡ (places, rest)
+abbrev pub Takes : {X : Type 0} → (List X → Walked X) → List X → List X → Type 0
+Takes {X = X} walked events places = (rest : List X) → walked (events ++ rest) ≡ (places, rest)
 
-pub takes-two : (v w : List Spot → Walked Spot) (A B P Q : List Spot) → Takes v A P → Takes w B Q → Takes (λ es. let x = v es in behind x.0 (w x.1)) (A ++ B) (P ++ Q)
-takes-two v w A B P Q h k rest =
+pub takes-two : {X : Type 0} (v w : List X → Walked X) (A B P Q : List X) → Takes v A P → Takes w B Q → Takes (λ es. let x = v es in behind x.0 (w x.1)) (A ++ B) (P ++ Q)
+takes-two {X = X} v w A B P Q h k rest =
     ap (λ es. let x = v es in behind x.0 (w x.1)) (append_assoc A B rest)
-    ∙ ap (λ (x : Walked Spot). behind x.0 (w x.1)) (h (B ++ rest))
-    ∙ ap (λ (y : Walked Spot). behind P y) (k rest)
+    ∙ ap (λ (x : Walked X). behind x.0 (w x.1)) (h (B ++ rest))
+    ∙ ap (λ (y : Walked X). behind P y) (k rest)
 
 -- the next event stands before those of its operands
-takes-front : (v : List Spot → Walked Spot) (A P : List Spot) (s : Spot) → Takes v A P → Takes (λ es. in_front (v es)) (A ++ s ∷ []) (s ∷ P)
+pub takes-front : {X : Type 0} (v : List X → Walked X) (A P : List X) (s : X) → Takes v A P → Takes (λ es. in_front (v es)) (A ++ s ∷ []) (s ∷ P)
 takes-front v A P s h rest = ap (λ es. in_front (v es)) (append_assoc A (s ∷ []) rest) ∙ ap in_front (h (s ∷ rest))
 
 -- a comparison of two operands
-takes-compared : (c : Bool) (v : List Spot → Walked Spot) (A P : List Spot) (s : Spot) → Takes v A P → Takes (λ es. if c then in_front (v es) else v es) (A ++ (if c then s ∷ [] else [])) ((if c then s ∷ [] else []) ++ P)
+pub takes-compared : {X : Type 0} (c : Bool) (v : List X → Walked X) (A P : List X) (s : X) → Takes v A P → Takes (λ es. if c then in_front (v es) else v es) (A ++ (if c then s ∷ [] else [])) ((if c then s ∷ [] else []) ++ P)
 takes-compared true v A P s h rest = takes-front v A P s h rest
 takes-compared false v A P s h rest = ap (λ xs. v (xs ++ rest)) (append-nil A) ∙ h rest
 
@@ -45,7 +45,7 @@ compared-made true s t = refl
 compared-made false s t = refl
 
 -- the same found
-pub found-as : (v : List Spot → Walked Spot) (A P Q : List Spot) → P ≡ Q → Takes v A P → Takes v A Q
+pub found-as : {X : Type 0} (v : List X → Walked X) (A P Q : List X) → P ≡ Q → Takes v A P → Takes v A Q
 found-as v A P Q e h rest = h rest ∙ ap (λ ps. (ps, rest)) e
 
 module _ (outputs : List ℕ → List (List ℕ)) (to : List ℕ → List ℕ) where

@@ -8,7 +8,7 @@ use Rattle.law_automata.specs.Lowered.Standing.{Along}
 use Rattle.hp_watch.specs.Walk.{compares, Walked, in_front, walk, walk_all, walk_parts, walk_conditions, walk_block, walk_eqns, walk_eqn, walk_arms, walk_states}
 
 module _ {X Y : Type 0} (P : X → Y → Type 0) where
-  along-both : (xs vs : List X) (ys ws : List Y) → Along P xs ys → Along P vs ws → Along P (xs ++ vs) (ys ++ ws)
+  pub along-both : (xs vs : List X) (ys ws : List Y) → Along P xs ys → Along P vs ws → Along P (xs ++ vs) (ys ++ ws)
   along-both [] vs [] ws h k = k
   along-both [] vs (y ∷ ys) ws h k = absurd h
   along-both (x ∷ xs) vs [] ws h k = absurd h

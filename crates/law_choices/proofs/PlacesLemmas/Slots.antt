@@ -60,7 +60,7 @@ among-both ss ts fs gs h k =
     (subst (IsPartOf (free_in ss ++ free_in ts)) (sym (places-append fs gs)) (part-both (free_in ss) (free_in ts) (own_places fs) (own_places gs) h k))
 
 -- a comparison, if it is one of integers
-same-comparison : (o : Op2) → is_comparison o ≡ compares o
+pub same-comparison : (o : Op2) → is_comparison o ≡ compares o
 same-comparison op.And = refl
 same-comparison op.Or = refl
 same-comparison op.Xor = refl
@@ -92,7 +92,7 @@ abbrev free_of : (Place → Ty → Slot) → Place → Ty → List Slot
 free_of kind p ty.Int = []
 free_of kind p t = kind p t ∷ []
 
-abbrev outputs_slots : List Decl → (Place → Place) → List Slot
+abbrev pub outputs_slots : List Decl → (Place → Place) → List Slot
 outputs_slots [] w = []
 outputs_slots (d ∷ ds) w = free_of free (w (Named d.name ∷ [])) d.ty ++ outputs_slots ds w
 
@@ -109,7 +109,7 @@ outputs-part (d ∷ ds) w =
     (part-both (free_in (free_of free (w (Instance ∷ Named d.name ∷ [])) d.ty)) (free_in (outputs_slots ds (below Instance w))) (w (Instance ∷ Named d.name ∷ []) ∷ [])
     (map (λ (o : List ℕ). w (Instance ∷ Named o ∷ [])) (map (λ (d : Decl). d.name) ds)) (output-part (w (Instance ∷ Named d.name ∷ [])) d.ty) (outputs-part ds w))
 
-abbrev lasts_slots : List TypeDecl → List Decl → (Place → Place) → List Slot
+abbrev pub lasts_slots : List TypeDecl → List Decl → (Place → Place) → List Slot
 lasts_slots types [] w = []
 lasts_slots types (d ∷ ds) w = (elim d.last [ None ↦ [] | Some c ↦ register (w (Named d.name ∷ [])) (shape_of types d.ty) ∷ [] ]) ++ lasts_slots types ds w
 

@@ -21,28 +21,28 @@ use Rattle.law_choices.proofs.PlacesLemmas.Expressions.{made, made-append, Takes
 use Rattle.law_choices.proofs.PlacesLemmas.Rows.{behind-map, R, rows-append, kept-none, frame-none, idle-none, conditions-take, state-rows, body-rows}
 
 -- what is found before stands behind
-takes-before : (v w : List Spot → Walked Spot) (A B P Q : List Spot) → Takes v A P → Takes w B Q → Takes (λ es. let x = v es in before x.0 (w x.1)) (A ++ B) (Q ++ P)
-takes-before v w A B P Q h k rest =
+pub takes-before : {X : Type 0} (v w : List X → Walked X) (A B P Q : List X) → Takes v A P → Takes w B Q → Takes (λ es. let x = v es in before x.0 (w x.1)) (A ++ B) (Q ++ P)
+takes-before {X = X} v w A B P Q h k rest =
     ap (λ es. let x = v es in before x.0 (w x.1)) (append_assoc A B rest)
-    ∙ ap (λ (x : Walked Spot). before x.0 (w x.1)) (h (B ++ rest))
-    ∙ ap (λ (y : Walked Spot). before P y) (k rest)
+    ∙ ap (λ (x : Walked X). before x.0 (w x.1)) (h (B ++ rest))
+    ∙ ap (λ (y : Walked X). before P y) (k rest)
 
 -- the same events
-taken-as : (v : List Spot → Walked Spot) (A B P : List Spot) → B ≡ A → Takes v A P → Takes v B P
+pub taken-as : {X : Type 0} (v : List X → Walked X) (A B P : List X) → B ≡ A → Takes v A P → Takes v B P
 taken-as v A B P e h rest = ap (λ xs. v (xs ++ rest)) e ∙ h rest
 
 -- the conditions, the body and the states behind a state
-state-takes : (strong weak body rest : List Spot → Walked Spot) (S W B M P Q U V : List Spot) (five : Spot × Spot × Spot × Spot × Spot) → Takes strong S U → Takes weak W Q → Takes body B P → Takes rest M V
+pub state-takes : {X : Type 0} (strong weak body rest : List X → Walked X) (S W B M P Q U V : List X) (five : X × X × X × X × X) → Takes strong S U → Takes weak W Q → Takes body B P → Takes rest M V
     → Takes (λ es. let s = strong es in let w = weak (drop 5 s.1) in let b = body w.1 in later (b.0 ++ w.0 ++ s.0) (rest b.1))
     (S ++ (five.0 ∷ five.1 ∷ five.2 ∷ five.3 ∷ five.4 ∷ ((W ++ B) ++ M))) (P ++ (Q ++ (U ++ V)))
-state-takes strong weak body rest S W B M P Q U V five hs hw hb hm more =
+state-takes {X = X} strong weak body rest S W B M P Q U V five hs hw hb hm more =
     ap (λ es. let s = strong es in let w = weak (drop 5 s.1) in let b = body w.1 in later (b.0 ++ w.0 ++ s.0) (rest b.1))
     (append_assoc S (five.0 ∷ five.1 ∷ five.2 ∷ five.3 ∷ five.4 ∷ ((W ++ B) ++ M)) more
     ∙ ap (λ es. S ++ (five.0 ∷ five.1 ∷ five.2 ∷ five.3 ∷ five.4 ∷ es)) (append_assoc (W ++ B) M more ∙ append_assoc W B (M ++ more)))
-    ∙ ap (λ (s : Walked Spot). let w = weak (drop 5 s.1) in let b = body w.1 in later (b.0 ++ w.0 ++ s.0) (rest b.1)) (hs (five.0 ∷ five.1 ∷ five.2 ∷ five.3 ∷ five.4 ∷ (W ++ (B ++ (M ++ more)))))
-    ∙ ap (λ (w : Walked Spot). let b = body w.1 in later (b.0 ++ w.0 ++ U) (rest b.1)) (hw (B ++ (M ++ more)))
-    ∙ ap (λ (b : Walked Spot). later (b.0 ++ Q ++ U) (rest b.1)) (hb (M ++ more))
-    ∙ ap (λ (m : Walked Spot). later (P ++ Q ++ U) m) (hm more)
+    ∙ ap (λ (s : Walked X). let w = weak (drop 5 s.1) in let b = body w.1 in later (b.0 ++ w.0 ++ s.0) (rest b.1)) (hs (five.0 ∷ five.1 ∷ five.2 ∷ five.3 ∷ five.4 ∷ (W ++ (B ++ (M ++ more)))))
+    ∙ ap (λ (w : Walked X). let b = body w.1 in later (b.0 ++ w.0 ++ U) (rest b.1)) (hw (B ++ (M ++ more)))
+    ∙ ap (λ (b : Walked X). later (b.0 ++ Q ++ U) (rest b.1)) (hb (M ++ more))
+    ∙ ap (λ (m : Walked X). later (P ++ Q ++ U) m) (hm more)
     ∙ ap (λ ps. (ps, more)) (append_assoc (P ++ Q) U V ∙ append_assoc P Q (U ++ V))
 
 -- what is found in a state

@@ -1,5 +1,5 @@
 -- In a ready program what is an integer in the tree is one by the judgement of types; so the first operands of comparisons of integers that have names are. Each such name has a variable that is defined on one clock alone.
-use Rattle.std.proofs.Common.{◌≡◌, ℕ, Bool, true, false, if◌then◌else◌, List, [], ◌∷◌, ◌++◌, map, reverse, Option, None, Some, refl, sym, ap, subst, ◌∙◌}
+use Rattle.std.proofs.Common.{◌≡◌, ℕ, Bool, true, List, [], ◌∷◌, ◌++◌, map, reverse, Option, None, Some, refl, sym, ap, subst, ◌∙◌}
 use Rattle.std.specs.Prelude.{⊤, ◌||◌, option_map}
 use Rattle.std.specs.List.{AllByRecursion}
 use Rattle.std.proofs.lemmas.List.{append-nil, map-append}
@@ -7,34 +7,29 @@ use Rattle.std.proofs.lemmas.Slice.Eq.{bytes_eq-Decides}
 use Rattle.std.specs.Str.{bytes_eq}
 use Rattle.hp_base.specs.Known.Known.{lookup}
 use Rattle.hp_base.specs.declared.span.Span.{Span}
-use Rattle.hp_base.specs.declared.ty.Const.TheVariants as const
 use Rattle.hp_base.specs.declared.ty.Ty.{Ty}
 use Rattle.hp_base.specs.declared.ty.Ty.TheVariants as ty
 use Rattle.hp_obc.specs.Form.{TypesForm}
-use Rattle.hp_tree.specs.declared.expr.Op2.{Op2}
-use Rattle.hp_tree.specs.declared.expr.Op2.TheVariants as op
 use Rattle.hp_tree.specs.declared.program.Item.{Item}
 use Rattle.hp_tree.specs.declared.program.Item.TheVariants.{NodeItem}
 use Rattle.hp_tree.specs.Blocks.{Block, block, Decl, Eqns, define, eqns_of, more_eqns}
-use Rattle.hp_tree.specs.Expressions.{Expr, constant, variable, last_of, one, two, choose, pre, fby, arrow, when_is, merge, call, Parts, no_part, more_parts}
+use Rattle.hp_tree.specs.Expressions.{Expr, two, call}
 use Rattle.hp_tree.specs.ExpressionTypes as tree
-use Rattle.hp_tree.specs.ExpressionTypes.{typed_in, type_with, type_of_two}
+use Rattle.hp_tree.specs.ExpressionTypes.{typed_in}
 use Rattle.hp_tree.specs.Instant.{Place, Tail}
 use Rattle.hp_tree.specs.Meaning.{controls_of, is_among, node_among, types_of}
-use Rattle.hp_tree.specs.Operators.{place_in}
 use Rattle.hp_tree.specs.Programs.{TypeDecl, Node}
 use Rattle.hp_meaning.specs.Causal.Sources.{below}
 use Rattle.hp_meaning.specs.Contract.FreePlaces.{declared_outputs}
 use Rattle.hp_meaning.specs.Contract.Slots.{is_int}
 use Rattle.hp_typing.specs.Scopes.{inside_node, with_variables}
-use Rattle.hp_typing.specs.Types.{type_of, types_in, type_of_one, answer, input_type, merge_type}
+use Rattle.hp_typing.specs.Types.{type_of}
 use Rattle.law_judged.specs.Named.Scoped.{EachNode}
 use Rattle.law_judged.specs.Typed.Scopes.{Scope}
 use Rattle.law_values.specs.Accepted.Laws.{IsReady}
-use Rattle.law_values.specs.Valued.Fitting.{first_output}
-use Rattle.law_values.specs.Valued.Judged.{Lasts, BlockSound, EqnsSound, ExprSound, NodeSound, PartsSound, body_scope, lasts_in, no_lasts}
+use Rattle.law_values.specs.Valued.Judged.{Lasts, BlockSound, EqnsSound, ExprSound, NodeSound, body_scope, lasts_in, no_lasts}
 use Rattle.law_values.specs.Valued.Values.{scope_behind}
-use Rattle.law_values.proofs.ValuedLemmas.Typed.{some_is, one_typed, two_typed, if_typed, pair_typed, when_typed, call_typed, merge_typed}
+use Rattle.law_values.proofs.ValuedLemmas.Typed.{two_typed}
 use Rattle.hp_automata.specs.Lowering.{Enumerations, Types, declaring, enumerations, lowered_eqn, lowered_eqns, lowered_item, lowered_node, lowered_program, same_name}
 use Rattle.hp_automata.specs.Lowering as lowering
 use Rattle.hp_automata.specs.Renaming.{renamed, renamed_decls, renamed_exprs, renamed_left}
@@ -69,6 +64,7 @@ use Rattle.law_wellmade.specs.Timely.Tested.{AreTested}
 use Rattle.law_choices.specs.Flat.Names.{body_sight, variable_of}
 use Rattle.law_choices.specs.Seeing.ByName.{Naming, is_integer, of_call, of_comparison, outputs_in, types_around}
 use Rattle.law_choices.proofs.ClosedLemmas.ClosedLaws.{each_other}
+use Rattle.law_choices.proofs.BroughtLemmas.Integers.{int-same}
 use Rattle.law_choices.proofs.FlatLemmas.Among.{each_at, tested_at}
 use Rattle.law_choices.proofs.ObservedLemmas.Said.{decls_same}
 use Rattle.law_choices.proofs.OnClocksLemmas.Programs.{some_of}
@@ -94,66 +90,10 @@ int-type ty.Int h = refl
 int-type ty.Bool h = absurd cc
 int-type (ty.Enum x) h = absurd cc
 
-int-answer : (o : Op2) → is_int (type_of_two o) ≡ true → answer o ≡ ty.Int
-int-answer op.Add h = refl
-int-answer op.Sub h = refl
-int-answer op.Mul h = refl
-int-answer op.Div h = refl
-int-answer op.Rem h = refl
-int-answer op.And h = absurd cc
-int-answer op.Or h = absurd cc
-int-answer op.Xor h = absurd cc
-int-answer op.Imp h = absurd cc
-int-answer op.Eq h = absurd cc
-int-answer op.Ne h = absurd cc
-int-answer op.Lt h = absurd cc
-int-answer op.Le h = absurd cc
-int-answer op.Gt h = absurd cc
-int-answer op.Ge h = absurd cc
-
--- a constructor is no integer
-not-int : (types : List TypeDecl) (c : List ℕ) → is_int (type_with types c) ≡ true → ⊥
-not-int [] c h = absurd cc
-not-int (d ∷ types) c h = by (tree.some_place (place_in 0 d.cons c)) h (not-int types c)
-  where
-    by : (b : Bool) → is_int (if b then ty.Enum d.name else type_with types c) ≡ true → (is_int (type_with types c) ≡ true → ⊥) → ⊥
-    by true h f = absurd cc
-    by false h f = f h
-
 -- Where names have the types of the scope, and `outs` has the outputs of nodes, what is an integer in the tree is judged one.
 module _ (types : List TypeDecl) (among : List ℕ → Option Node) (s : Scope) (lasts : Lasts) (names : tree.Scope) (known : Agrees s names) (outs : List ℕ → List Decl) (outs_are : (f : List ℕ) (n : Node) → lookup s.nodes f ≡ Some n → outs f ≡ n.outputs) where
-  abbrev IsInt : Expr → Type 0
-  IsInt e = is_int (tree.type_of types outs e names) ≡ true
-
-  first-int : (ds : List Decl) (t : Ty) → input_type ds ≡ Some t → is_int (tree.first_type types outs ds) ≡ true → t ≡ ty.Int
-  first-int [] t e h = absurd cc
-  first-int (d ∷ ds) t e h = sym (some_is d.ty t e) ∙ int-type d.ty h
-
-  mutual
-    pub int-read : (e : Expr) (t : Ty) → ExprSound types among s lasts e → type_of s e ≡ Some t → IsInt e → t ≡ ty.Int
-    int-read (constant a (const.B b)) t ok h i = absurd cc
-    int-read (constant a (const.I n)) t ok h i = sym (some_is ty.Int t h)
-    int-read (constant a (const.E c)) t ok h i = absurd (not-int types c i)
-    int-read (variable a x) t ok h i = sym (known x t h) ∙ int-type (names x) i
-    int-read (last_of a x) t ok h i = sym (known x t h) ∙ int-type (names x) i
-    int-read (one a o b) t ok h i =
-        let q = one_typed (type_of_one o) (type_of s b) t h in
-        sym q.1 ∙ int-read b (type_of_one o) ok q.0 i
-    int-read (two a o b c) t ok h i = sym (two_typed o (type_of s b) (type_of s c) t h).4 ∙ int-answer o i
-    int-read (choose a b c d) t ok h i = int-read c t ok.1.0 (if_typed (type_of s b) (type_of s c) (type_of s d) t h).1 i
-    int-read (pre a b) t ok h i = int-read b t ok h i
-    int-read (fby a b c) t ok h i = int-read b t ok.0 (pair_typed (type_of s b) (type_of s c) t h).0 i
-    int-read (arrow a b c) t ok h i = int-read b t ok.0 (pair_typed (type_of s b) (type_of s c) t h).0 i
-    int-read (when_is a b c x) t ok h i = int-read b t ok (when_typed _ (type_of s b) t h) i
-    int-read (merge a x ps) t ok h i = int-read-in ps (lookup s.variables x) t ok.1 h i
-    int-read (call a f inlined es) t ok h i =
-        let q = call_typed (lookup s.nodes f) (types_in s es) t h in
-        let first : input_type q.0.outputs ≡ Some t = subst (λ o. first_output o ≡ Some t) q.1 q.3 in
-        first-int q.0.outputs t first (subst (λ ds. is_int (tree.first_type types outs ds) ≡ true) (outs_are f q.0 q.1) i)
-
-    int-read-in : (ps : Parts) (name : Option Ty) (t : Ty) → PartsSound types among s lasts ps → merge_type s name ps ≡ Some t → is_int (tree.type_of_parts types outs ps names) ≡ true → t ≡ ty.Int
-    int-read-in no_part name t ok h i = absurd cc
-    int-read-in (more_parts c e ps) name t ok h i = int-read e t ok.0 (merge_typed s name (more_parts c e ps) t h).0 i
+  int-read : (e : Expr) (t : Ty) → ExprSound types among s lasts e → type_of s e ≡ Some t → is_int (tree.type_of types outs e names) ≡ true → t ≡ ty.Int
+  int-read e t ok h i = int-type t (sym (int-same types among s lasts names known outs outs_are e t ok h) ∙ i)
 
   -- so are the first operands of the comparisons of integers of a block
   module _ (enums : Enumerations) (own : Types) (is_known : List ℕ → Bool) where
@@ -231,7 +171,7 @@ module _ (program after : List Item) (r : IsReady program after) (removable : Is
   has_constructors = some_constructors program (some_of (types_of program) form.counts)
 
   -- the outputs of nodes stay
-  outs-same : (o : Option Node) → declared_outputs (option_map (lowered_node enums) o) ≡ declared_outputs o
+  pub outs-same : (o : Option Node) → declared_outputs (option_map (lowered_node enums) o) ≡ declared_outputs o
   outs-same None = refl
   outs-same (Some n) = refl
 
@@ -244,10 +184,10 @@ module _ (program after : List Item) (r : IsReady program after) (removable : Is
       ap declared_outputs (nodes-known low_program f) ∙ ap (λ xs. declared_outputs (node_among xs f)) (map_reverse (lowered_item enums) after) ∙ ap declared_outputs (lowered_among enums (reverse after) f)
       ∙ outs-same (node_among (reverse after) f)
 
-  outs-are : (s : Scope) → Grounded k s → (f : List ℕ) (n : Node) → lookup s.nodes f ≡ Some n → outs f ≡ n.outputs
+  pub outs-are : (s : Scope) → Grounded k s → (f : List ℕ) (n : Node) → lookup s.nodes f ≡ Some n → outs f ≡ n.outputs
   outs-are s ground f n h = sym (outs-known f) ∙ ap declared_outputs (ground.nodes f n h)
 
-  low-stands : (earlier : List Item) (n : Node) → Stands after earlier n → (later : List Item) × (reverse low_program ≡ later ++ NodeItem (lowered_node enums n) ∷ map (lowered_item enums) earlier)
+  pub low-stands : (earlier : List Item) (n : Node) → Stands after earlier n → (later : List Item) × (reverse low_program ≡ later ++ NodeItem (lowered_node enums n) ∷ map (lowered_item enums) earlier)
   low-stands earlier n e = (map (lowered_item enums) e.0, map_reverse (lowered_item enums) after ∙ ap (map (lowered_item enums)) e.1 ∙ map-append (lowered_item enums) e.0 (NodeItem n ∷ earlier))
 
   pub scoped : (earlier : List Item) (n : Node) → Stands after earlier n → (ds : List Decl) (es : Eqns) → n.body ≡ block ds es → (is_known : List ℕ → Bool) (w : Place → Place) (cs : List Label) → Names (is_integer after (typed_in ds (types_around n))) is_known outs w es cs

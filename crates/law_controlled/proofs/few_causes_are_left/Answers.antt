@@ -12,6 +12,7 @@ returns c = remaining_law (record {
   order = c.programs_of_texts_are_in_order.ensures.order;
   safe = c.drawn_games_are_kept.ensures.safe;
   mirrors = c.drawn_nodes_are_mirrored.ensures.mirrors;
+  flags = c.drawn_machines_mirror.ensures;
   contracts = c.contracts_call_nothing.ensures.ready;
   observable = c.contracts_of_texts_can_be_observed.ensures;
   sign = c.programs_of_texts_may_choose.ensures.sign;

@@ -1,0 +1,13 @@
+pub mod Brought
+pub mod Adding
+pub mod Expressions
+pub mod Blocks
+pub mod Integers
+pub mod Rows
+pub mod Seen
+pub mod Walks
+pub mod Placed
+pub mod Widths
+pub mod Alone
+pub mod Contracts
+pub mod Programs
