@@ -477,9 +477,10 @@ module _ (laws : RemainingLaws) (program after : List Item) (ranks : List (List 
       (λ c is names t made ready signed plain.
       let well = chosen_well laws.turn laws.made laws.observer program after q b.unsigned can_be seen are l.node c is names t made ready signed plain in
       (said_with laws.turn laws.made laws.observer program after q b.unsigned can_be seen are l.node c is, well.kinds))
-      (λ c has own its.
-      (survey-types program after q.ready q.removable q.form q.short b.calls b.observable seen are same_places l.earlier l.node l.stands c has l.plant l.made (signed after (known_of low) (enumerations [] after) (places_of low) (types_of after) seen l) own its,
-      survey-in program after q.ready q.removable q.form q.short b.calls b.observable seen are same_places l.earlier l.node l.stands c has l.plant l.made (signed after (known_of low) (enumerations [] after) (places_of low) (types_of after) seen l) own its)))
+      (λ c has own its. (
+        survey-types program after q.ready q.removable q.form q.short b.calls b.observable seen are same_places l.earlier l.node l.stands c has l.plant l.made (signed after (known_of low) (enumerations [] after) (places_of low) (types_of after) seen l) own its,
+        survey-in program after q.ready q.removable q.form q.short b.calls b.observable seen are same_places l.earlier l.node l.stands c has l.plant l.made (signed after (known_of low) (enumerations [] after) (places_of low) (types_of after) seen l) own its,
+      )))
   left (HasNoChosenMachines.formless ms are none) = formless ms are none
 
 pub remaining_law : RemainingLaws → RemainingLaw
