@@ -5,7 +5,7 @@
 
 ghost use Rattle.law_choices.specs.Closed.Clocking.{FitLaw, SomeLaw, WellMadeLaw};
 ghost use Rattle.law_choices.specs.Closed.Closed.{ClosedLaw, WithinLaw};
-ghost use Rattle.law_choices.specs.Closed.Exclusive.{ExclusiveLaw};
+ghost use Rattle.law_choices.specs.Closed.Exclusive.{ExclusiveLaw, PartedLaw};
 
 /// Each variable of a node is an input or a target of an equation, and so is each that stands in an equation: all numbers are those of variables.
 pub fn equations_are_closed()
@@ -13,9 +13,10 @@ pub fn equations_are_closed()
     ensures within { WithinLaw }
 {}
 
-/// Whatever the values at an instant are, no two equations that are there define one variable.
+/// Two equations that define one variable have clocks that part; so whatever the values at an instant are, no two that are there define one variable.
 pub fn equations_are_exclusive()
-    ensures { ExclusiveLaw }
+    ensures parted { PartedLaw }
+    ensures exclusive { ExclusiveLaw }
 {}
 
 /// Where the variables of a closed node have clocks, whatever is read is there at each possible instant; so a node that has shape is well made.

@@ -85,7 +85,7 @@ module _ (r : Renumbering) where
   right_calls names (register first next) h = tt
   right_calls names (called f args) h = h
 
-  part_calls : (names : List (List ℕ)) (es fs : List FlatEqn) → ArePart r es fs → CallsOnly names es → CallsOnly names fs
+  pub part_calls : (names : List (List ℕ)) (es fs : List FlatEqn) → ArePart r es fs → CallsOnly names es → CallsOnly names fs
   part_calls names es fs no_eqn h = tt
   part_calls names es fs (kept_eqn {es = rest} {fs = others} e kept are) h = (right_calls names e.right h.0, part_calls names rest others are h.1)
   part_calls names es fs (left_eqn {es = rest} e not_kept are) h = part_calls names rest fs are h.1

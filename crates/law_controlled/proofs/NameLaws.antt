@@ -60,11 +60,11 @@ added_differ k (v ∷ vs) few a = (
   added_differ (k + 1) vs (omega (arith, few)) a.1,
 )
 
-all_both : (P : List ℕ → Type 0) (xs ys : List (List ℕ)) → AllByRecursion P xs → AllByRecursion P ys → AllByRecursion P (xs ++ ys)
+pub all_both : (P : List ℕ → Type 0) (xs ys : List (List ℕ)) → AllByRecursion P xs → AllByRecursion P ys → AllByRecursion P (xs ++ ys)
 all_both P [] ys h k = k
 all_both P (x ∷ xs) ys h k = (h.0, all_both P xs ys h.1 k)
 
-names_both : (vs ws : List Variable) → names (vs ++ ws) ≡ names vs ++ names ws
+pub names_both : (vs ws : List Variable) → names (vs ++ ws) ≡ names vs ++ names ws
 names_both [] ws = refl
 names_both (v ∷ vs) ws = ap (λ xs. v.name ∷ xs) (names_both vs ws)
 

@@ -57,7 +57,7 @@ at_length (b ∷ before) o rest = at_length before o rest
 
 module _ (P : Node → FlatNode → Type 0) (f : List ℕ) (o : Observed) where
   -- it is that of a contract of a node of this name
-  abbrev Found : Type 0
+  abbrev pub Found : Type 0
   Found = (n : Node) × (c : Contract) × (g : FlatNode) × (n.name ≡ f) × (observed c g ≡ o) × P n g
 
   some_same : (own : Observed) → Some own ≡ Some o → own ≡ o
@@ -82,21 +82,22 @@ module _ (P : Node → FlatNode → Type 0) (f : List ℕ) (o : Observed) where
   found (x ∷ xs) [] before each e = absurd each
   found (x ∷ xs) (g ∷ fs) before each e = found_or x g xs fs before each.0 (bytes_eq (name_of x) f) refl e (found xs fs (before ++ observed (contract_of x) g ∷ []) each.1)
 
+-- each observer of a program is found by the name of its node
+pub found_by : (P : Node → FlatNode → Type 0) (after : List Item) (observers : Observing) (are : AreObserved after observers) → EachObserved P (contracted_nodes after) are.nodes → (f : List ℕ) (o : Observed) → observers f ≡ Some o → Found P f o
+found_by P after observers are each f o e = found P f o (contracted_nodes after) are.nodes [] each (sym same ∙ e)
+  where
+    same : observers f ≡ numbered_of (observed_all (map contract_of (contracted_nodes after)) are.nodes) (numbered 0 (map name_of (contracted_nodes after)) f)
+    same = ap (λ (os : Observing). os f) are.are ∙ ap₂ (λ ns cs. numbered_of (observed_all cs are.nodes) (numbered 0 ns f)) (names_are after) (contracts_are after)
+
 -- ---- the law
 
 module _ (types : List ObcType) (all : Callees) (observer_law : ObserverLaw) (after : List Item) (observers : Observing) (are : AreObserved after observers) where
   abbrev Is : Node → FlatNode → Type 0
   Is n g = IsObserver types all n.name g × CallsOnly [] g.eqns
 
-  abbrev named : List (Node × Contract)
-  named = contracted_nodes after
-
   module _ (each : EachObserved Is (contracted_nodes after) are.nodes) where
-    same : (f : List ℕ) → observers f ≡ numbered_of (observed_all (map contract_of named) are.nodes) (numbered 0 (map name_of named) f)
-    same f = ap (λ (os : Observing). os f) are.are ∙ ap₂ (λ ns cs. numbered_of (observed_all cs are.nodes) (numbered 0 ns f)) (names_are after) (contracts_are after)
-
     it : (f : List ℕ) (o : Observed) → observers f ≡ Some o → Found Is f o
-    it f o e = found Is f o named are.nodes [] each (sym (same f) ∙ e)
+    it f o e = found_by Is after observers are each f o e
 
     suits : (f : List ℕ) (o : Observed) → Found Is f o → Suits types all f o
     suits f o h = subst (λ (z : Observed). Suits types all f z) h.4 (subst (λ x. Suits types all x (observed h.1 h.2)) h.3 (observer_law types all h.0.name h.1 h.2 h.5.0))

@@ -40,7 +40,7 @@ place (true ∷ ms) zero = 0
 place (true ∷ ms) (suc y) = suc (place ms y)
 place (false ∷ ms) y = suc (place ms y)
 
-marked_within : (ms : List Bool) (x : ℕ) → slice_index_or ms x false ≡ true → x < length ms
+pub marked_within : (ms : List Bool) (x : ℕ) → slice_index_or ms x false ≡ true → x < length ms
 marked_within [] x h = absurd cc
 marked_within (m ∷ ms) zero h = omega arith
 marked_within (m ∷ ms) (suc x) h =
@@ -205,7 +205,7 @@ is_false true h = absurd (h refl)
 is_false false h = refl
 
 module _ (n : FlatNode) (name outputs : List ℕ) (m : Marks) (reached : AreReached n outputs m) (within : IsWithin (with_outputs name outputs n)) where
-  abbrev r : Renumbering
+  abbrev pub r : Renumbering
   r = record { kept = λ x. slice_index_or m.variables x false; number = number_at (numbers_from 0 m.variables); old = place m.variables; count = many m.variables }
 
   below_marks : (x : ℕ) → x < length n.variables → x < length m.variables
@@ -295,7 +295,7 @@ module _ (n : FlatNode) (name outputs : List ℕ) (m : Marks) (reached : AreReac
   outputs_kept : AreKept r outputs
   outputs_kept = all_of _ outputs (λ x h. kept_by x (of_all _ outputs within.outputs x h) (reached_output h))
 
-  is_part : IsPart r (with_outputs name outputs n) (made.part_by m n name outputs)
+  pub is_part : IsPart r (with_outputs name outputs n) (made.part_by m n name outputs)
   is_part = record {
     renumbering = renumbering;
     variables = fewer m.variables n.variables reached.as_many;

@@ -21,9 +21,13 @@ use Rattle.law_equations.specs.Fewer.Compiling.{CopiesAgree, CopyAgrees}
 use Rattle.law_equations.specs.Meaning.Kinding.{AtomHasKind, Callees, EqnKinds, HaveKinds, IsTyped, RightHasKinds, variable_kind}
 use Rattle.law_equations.specs.Followed.Premises as premises
 use Rattle.law_equations.proofs.FewerLemmas.KindedForms.{first_kind, kinds_law, of_types, typed_kind}
+use Rattle.law_equations.specs.Meaning.Scheduling.{IsWithin}
 use Rattle.hp_form.specs.Regular.Regular.{EqnIsRegular, EqnsRegular}
 use Rattle.hp_controlled.specs.Parts.{IsIn, IsPart, IsReached, IsUsed, marked, number_at, numbers_from, read_by_right, renumbered_atom, renumbered_clock, renumbered_eqn, renumbered_right, tested_by, variables_of}
-use Rattle.law_controlled.proofs.PartLaws.{before, number_is}
+use Rattle.law_choices.specs.Part.Part as choices
+use Rattle.law_choices.specs.Part.Part.{Renumbering}
+use Rattle.law_controlled.specs.Parts.{with_outputs}
+use Rattle.law_controlled.proofs.PartLaws.{before, is_part, marked_within, number_is, r}
 
 -- ---- kinds
 
@@ -190,3 +194,18 @@ module _ (types : List ObcType) (n : FlatNode) (name outputs : List ℕ) (other 
 
   pub part_regular : EqnsRegular types n → EqnsRegular types other
   part_regular h = subst (EqnsRegular types) (sym part.is) (marked_regular eqn_marks n.eqns marks_so h)
+
+-- ---- its types
+
+-- the part that the compiler makes is a part, and its variables keep their types
+pub typed_part : (n : FlatNode) (name outputs : List ℕ) (other : FlatNode) → IsWithin (with_outputs name outputs n) → IsPart n name outputs other
+    → (q : Renumbering) × choices.IsPart q (with_outputs name outputs n) other × ((x : ℕ) → q.kept x ≡ true → variable_type other.variables (q.number x) ≡ variable_type n.variables x)
+typed_part n name outputs other within its =
+    let m = its.marks in
+    let reached = its.reached in
+    let q = r n name outputs m reached within in (
+      q,
+      subst (λ o. choices.IsPart q (with_outputs name outputs n) o) (sym its.is) (is_part n name outputs m reached within),
+      λ x k. subst (λ (o : FlatNode). variable_type o.variables (q.number x) ≡ variable_type n.variables x) (sym its.is)
+          (ap (variable_type (marked m.variables n.variables)) (number_is m.variables x (marked_within m.variables x k)) ∙ marked_type m.variables n.variables x k reached.as_many),
+    )

@@ -38,8 +38,9 @@ use Rattle.hp_complete.specs.Made.{AreMadeOf, IsMadeOf}
 use Rattle.hp_complete.specs.Signatures.{AreFlat, IsFlat, IsSigned, places_of, type_names, variables_of}
 use Rattle.hp_form.specs.Regular.Regular.{EqnsRegular}
 use Rattle.law_wellmade.specs.Acyclic.Laws.{NoCircleLaw}
-use Rattle.law_wellmade.specs.Lettered.Laws.{TextNamesLaw}
+use Rattle.law_wellmade.specs.Lettered.Laws.{MachineNamesLaw, TextNamesLaw}
 use Rattle.law_wellmade.specs.Lettered.Names.{NodeSpelled, IsSourceName}
+use Rattle.law_wellmade.specs.Nested.Laws as nested
 use Rattle.law_wellmade.specs.Regular.Laws.{RegularLaw}
 use Rattle.law_wellmade.specs.Timely.Tested.{AreTested}
 use Rattle.law_wellmade.proofs.BegunLemmas.Items.{names_of_types, types_low}
@@ -73,7 +74,6 @@ use Rattle.law_choices.proofs.BroughtLemmas.Brought.{free_types}
 use Rattle.law_choices.proofs.BroughtLemmas.Placed.{AreIn, types_in}
 use Rattle.law_choices.proofs.BroughtLemmas.Widths.{early-wide, early_width, flags-long, late-wide, late_width, watched-width}
 use Rattle.law_choices.proofs.InTurnLemmas.Observed.{types_watched}
-use Rattle.law_choices.proofs.InTurnLemmas.Programs.{TurnLaws}
 use Rattle.law_choices.proofs.ObservedLemmas.Programs.{observers_in_order}
 use Rattle.law_choices.proofs.OnClocksLemmas.OneMeaning.{AreTurned, IsTurned, ready_nodes}
 use Rattle.law_choices.proofs.OnClocksLemmas.Programs.{compilable_law, number_of, some_of}
@@ -85,14 +85,17 @@ use Rattle.hp_controlled.specs.Choosing.IsOwn.{that_stays, that_chooses}
 use Rattle.hp_controlled.specs.Compiled.{AreEquationsOf, AreObserved, contracts_of}
 use Rattle.hp_controlled.specs.Lacking.{ChoosesNot, FitContracts, HasCircularEquations, HasNoChosenMachines, LacksCompiled, LacksMachines, LacksNodes, LacksObservers, OneLacksMachines}
 use Rattle.hp_controlled.specs.Lacking.OneLacksMachines.{none_left, here, behind_a_node, behind_a_type}
+use Rattle.law_controlled.specs.Program.{MadeNodesLaw}
 use Rattle.law_controlled.specs.Remaining.{Hinders, IsHindered, Remaining, RemainingLaw}
 use Rattle.law_controlled.specs.Remaining.Hinders.{circular}
-use Rattle.law_controlled.specs.Remaining.Remaining.{one_hindered, formless}
+use Rattle.law_controlled.specs.Remaining.Remaining.{one_hindered, unfitting}
 use Rattle.law_controlled.proofs.BroughtLaws.{survey-in, survey-types}
 use Rattle.law_controlled.proofs.CircleLaws.{no_circle}
 use Rattle.law_controlled.proofs.FitLaws.{contracts_fit}
+use Rattle.law_controlled.proofs.FormedLaws.{FormedLaws, IsSpelled, has_form}
 use Rattle.law_controlled.proofs.KeptLaws.{not_refused, safe_on_each}
 use Rattle.law_controlled.proofs.MadeLaws.{is_contracted, it}
+use Rattle.law_controlled.proofs.ObserverShortLaws.{all_levels}
 use Rattle.law_controlled.proofs.RegularPartLaws.{kinds_regular, part_regular}
 use Rattle.law_controlled.proofs.SightLaws.{NamedIn, SeesAsMany, has_observer, node_controls, suits}
 use Rattle.law_controlled.proofs.WellMadeLaws.{all as said_with, chosen_well}
@@ -114,9 +117,12 @@ pub record RemainingLaws : Type 0 where
   pub sign : SignLaw
   pub can : CanBeObservedLaw
   pub tested : TestedObserversLaw
-  pub turn : TurnLaws
   pub made : CompiledMadeLaw
   pub observer : ObserverLaw
+  pub nodes : MadeNodesLaw
+  pub formed : FormedLaws
+  pub lettered : MachineNamesLaw
+  pub clocks : nested.TextLaw
 
 -- ---- names of nodes
 
@@ -399,6 +405,7 @@ record IsBuildable (program after : List Item) (ranks : List (List ℕ)) : Type 
   calls : ContractsCallNothing after
   observable : EachNode IsObservable after
   unsigned : EachNode (λ (n : Node). is_new n.name ≡ false) after
+  spelled : IsSpelled after
 
 module _ (laws : RemainingLaws) (program after : List Item) (ranks : List (List ℕ)) (b : IsBuildable program after ranks) where
   abbrev low : List Item
@@ -456,7 +463,7 @@ module _ (laws : RemainingLaws) (program after : List Item) (ranks : List (List 
       let q = b.arranged in
       let c = compilable_law program after q.ready q.removable q.form in
       let form : TypesForm (obc_types (types_of after)) = subst (λ ts. TypesForm (obc_types ts)) (sym (sym (types_low (enumerations [] after) after) ∙ c.0.same)) q.form in
-      let turns = laws.turn in
+      let turns = laws.formed.turn in
       let nodes = ready_nodes turns.targets turns.calls program after q.ready q.removable q.form q.short plants equations.made in
       let l =
       found after (known_of low) (enumerations [] after) (places_of low) (types_of after) seen [] after plants [] (split_first after)
@@ -475,13 +482,20 @@ module _ (laws : RemainingLaws) (program after : List Item) (ranks : List (List 
       (hindered after (known_of low) (enumerations [] after) (places_of low) (types_of after) seen laws program ranks b.order form
       (λ x. ap (λ names. numbered 0 names x) (names_of_types low ∙ ap (λ ds. map (λ (d : TypeDecl). d.name) ds) (types_low (enumerations [] after) after))) refl are l
       (λ c is names t made ready signed plain.
-      let well = chosen_well laws.turn laws.made laws.observer program after q b.unsigned can_be seen are l.node c is names t made ready signed plain in
-      (said_with laws.turn laws.made laws.observer program after q b.unsigned can_be seen are l.node c is, well.kinds))
+      let well = chosen_well laws.formed.turn laws.made laws.observer program after q b.unsigned can_be seen are l.node c is names t made ready signed plain in
+      (said_with laws.formed.turn laws.made laws.observer program after q b.unsigned can_be seen are l.node c is, well.kinds))
       (λ c has own its. (
         survey-types program after q.ready q.removable q.form q.short b.calls b.observable seen are same_places l.earlier l.node l.stands c has l.plant l.made (signed after (known_of low) (enumerations [] after) (places_of low) (types_of after) seen l) own its,
         survey-in program after q.ready q.removable q.form q.short b.calls b.observable seen are same_places l.earlier l.node l.stands c has l.plant l.made (signed after (known_of low) (enumerations [] after) (places_of low) (types_of after) seen l) own its,
       )))
-  left (HasNoChosenMachines.formless ms are none) = formless ms are none
+  left (HasNoChosenMachines.formless ms are none) =
+      let q = b.arranged in
+      let e = are.equations in
+      let have = are.have in
+      let c = compilable_law program after q.ready q.removable q.form in
+      let form : TypesForm (obc_types (types_of after)) = subst (λ ts. TypesForm (obc_types ts)) (sym (sym (types_low (enumerations [] after) after) ∙ c.0.same)) q.form in
+      let made = laws.nodes after (obc_types_of after) are.observers (known_of low) (enumerations [] after) after are.plants have.nodes e.made have.are in
+      unfitting ms are made (λ known. none (has_form laws.formed program after q b.unsigned can_be b.spelled form ms are made known))
 
 pub remaining_law : RemainingLaws → RemainingLaw
 remaining_law laws text tokens program after ranks a p named typed defined formed initialised clocks fall kept none =
@@ -499,5 +513,11 @@ remaining_law laws text tokens program after ranks a p named typed defined forme
       calls = laws.contracts program after q.ready order.conditions;
       observable = laws.observable text tokens program after a p clocks;
       unsigned = unsigned;
+      spelled = record {
+        short = short;
+        lettered = laws.lettered text tokens program after a p clocks;
+        levels = all_levels text tokens program after a p q.ready;
+        clocks = λ fs made. laws.clocks text tokens program after (known_of (lowered_program after)) fs a p named typed defined formed initialised clocks made;
+      };
     } in
     left laws program after ranks b none

@@ -54,12 +54,14 @@ use law_drawing::mirrors::{drawn_games_are_kept, drawn_nodes_are_mirrored};
 use law_equations::fewer::nodes_are_compiled;
 use law_equations::fitting::{calls_are_kept, larger_names_are_free, names_fit, targets_differ};
 use law_equations::followed::names_are_own;
+use law_equations::shaped::{machines_have_form, shape_is_kept};
 use law_games::ready_games::{
     contracts_call_nothing, programs_of_texts_are_in_order, ready_nodes_are_settled,
 };
 use law_wellmade::acyclic::equations_read_in_no_circle;
 use law_wellmade::apart::names_are_apart;
-use law_wellmade::lettered::names_are_spelled;
+use law_wellmade::lettered::{machines_are_spelled, names_are_spelled};
+use law_wellmade::nested::clocks_of_texts_are_short;
 use law_wellmade::regular::equations_are_regular;
 
 /// The part that the compiler makes of a node is a part of it, so it answers as the node does.
@@ -200,7 +202,7 @@ pub fn programs_that_choose_have_one_list_of_machines()
     contracts_of_texts_can_be_observed();
 }
 
-/// Where the contracts of the program of an accepted text are kept, few causes are left for which the compiler would have no machines of it: clocked equations of its nodes, and of the observers of contracts, read each other in no circle; those of nodes, and of all that is made of them, are regular, each contract has as many comparisons as its clocked equations, names are short, no machine is refused or forced to violate its contract, and each controllable variable has the bits of its type.
+/// Where the contracts of the program of an accepted text are kept, few causes are left for which the compiler would have no machines of it: clocked equations of its nodes, and of the observers of contracts, read each other in no circle; those of nodes, and of all that is made of them, are regular, each contract has as many comparisons as its clocked equations, names are short, no machine is refused or forced to violate its contract, each controllable variable has the bits of its type, and machines have form, where what is made of nodes is known to fit them.
 pub fn few_causes_are_left()
     ensures { RemainingLaw }
 {
@@ -227,6 +229,13 @@ pub fn few_causes_are_left()
     drawn_nodes_are_mirrored();
     drawn_machines_mirror();
     drawn_games_are_kept();
+    nodes_are_made();
+    observers_suit();
+    names_of_what_is_made_differ();
+    machines_have_form();
+    shape_is_kept();
+    machines_are_spelled();
+    clocks_of_texts_are_short();
 }
 
 /// Of a heater with three modes, one of which is chosen, nothing is free but the inputs.

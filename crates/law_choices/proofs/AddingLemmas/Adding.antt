@@ -14,16 +14,16 @@ use Rattle.hp_flat.specs.declared.node.Variable.{Variable}
 use Rattle.hp_flat.specs.Equations.{Clock, Right, operator, register, called, FlatEqn}
 use Rattle.hp_flat.specs.Nodes.{FlatNode}
 use Rattle.law_equations.specs.Meaning.Fitting.{atom_variables, operands}
-use Rattle.law_equations.specs.Meaning.Instants.{Instant, holds}
 use Rattle.law_equations.specs.Meaning.Kinding.{Callees, HasArm, HasValue, variable_kind, kind_of_type, AtomHasKind, HaveKinds, RightHasKinds, EqnKinds}
 use Rattle.law_equations.specs.Meaning.Reactions.{has}
 use Rattle.law_equations.specs.Meaning.Scheduling.{clock_variables, AreBelow, EqnWithin, IsWithin}
-use Rattle.law_equations.specs.Meaning.Solving.{NoOther, IsExclusive}
 use Rattle.law_choices.specs.Closed.Closed.{IsTarget, IsGiven, variables_in}
 use Rattle.law_choices.specs.Closed.Clocking.{IsFrontOf, IsDefinedOn, StepsStand, IsSplit, AreClocks}
 use Rattle.law_choices.specs.Adding.Adding.{IsWellBuilt, IsNewIn, ClocksAgree, Adds}
 use Rattle.law_choices.specs.Adding.Laws.{BuiltLaw, AddingLaw, OrderedLaw}
+use Rattle.law_choices.specs.Closed.Exclusive.{AreParted, Differ}
 use Rattle.law_choices.proofs.ClosedLemmas.Clocking.{fit_law}
+use Rattle.law_choices.proofs.ClosedLemmas.Exclusive.{is_exclusive}
 
 -- ---- lists
 
@@ -48,6 +48,21 @@ get-beyond : (xs : List Variable) (x : ℕ) (d : Variable) → length xs ≤ x �
 get-beyond [] x d h = refl
 get-beyond (v ∷ xs) zero d h = absurd (omega (arith, h))
 get-beyond (v ∷ xs) (suc x) d h = get-beyond xs x d (omega (arith, h))
+
+-- an equation that defines nothing that another one does
+pub differ_where : (e d : FlatEqn) → AllByRecursion (λ x. has d.targets x ≡ false) e.targets → Differ e d
+differ_where e d h x t s = absurd (by e.targets h t)
+  where
+    by : (xs : List ℕ) → AllByRecursion (λ y. has d.targets y ≡ false) xs → has xs x ≡ true → ⊥
+    by [] k u = absurd cc
+    by (y ∷ ys) k u = one (nat_eq y x) refl u (by ys k.1)
+      where
+        one : (b : Bool) → nat_eq y x ≡ b → (b || has ys x) ≡ true → (has ys x ≡ true → ⊥) → ⊥
+        one true q v f =
+            let same : y ≡ x = grind (arith, nat_tests, q) in
+            let no : true ≡ false = sym s ∙ ap (has d.targets) (sym same) ∙ k.0 in
+            absurd cc
+        one false q v f = f v
 
 -- ---- kinds
 
@@ -207,20 +222,19 @@ module _ (types : List ObcType) (callees : Callees) (n other : FlatNode) (more :
   not_among x [] l u h = refl
   not_among x (y ∷ ys) l u h = ap₂ (λ p q. p || q) (apart x y (new_differs x y l u h.0)) (not_among x ys l u h.1)
 
-  none_of : (now : Instant) (e d : FlatEqn) → AllByRecursion (λ x. n.inputs ≤ x) e.targets → AreBelow V e.targets → AllByRecursion (IsNewIn n other) d.targets
-      → holds d.clock now ≡ true → AllByRecursion (λ x. has d.targets x ≡ false) e.targets
-  none_of now e d l u h k = each_two (λ x. n.inputs ≤ x) (λ x. x < V) (λ x. has d.targets x ≡ false) (λ x p q. not_among x d.targets p q h) e.targets l u
+  none_of : (e d : FlatEqn) → AllByRecursion (λ x. n.inputs ≤ x) e.targets → AreBelow V e.targets → AllByRecursion (IsNewIn n other) d.targets → Differ e d
+  none_of e d l u h = differ_where e d (each_two (λ x. n.inputs ≤ x) (λ x. x < V) (λ x. has d.targets x ≡ false) (λ x p q. not_among x d.targets p q h) e.targets l u)
 
-  no_other : (now : Instant) (e : FlatEqn) (ds : List FlatEqn) → AllByRecursion (λ x. n.inputs ≤ x) e.targets → AreBelow V e.targets → AllByRecursion (λ (d : FlatEqn). AllByRecursion (IsNewIn n other) d.targets) ds → NoOther now e ds
-  no_other now e [] l u h = tt
-  no_other now e (d ∷ ds) l u h = (none_of now e d l u h.0, no_other now e ds l u h.1)
+  no_other : (e : FlatEqn) (ds : List FlatEqn) → AllByRecursion (λ x. n.inputs ≤ x) e.targets → AreBelow V e.targets → AllByRecursion (λ (d : FlatEqn). AllByRecursion (IsNewIn n other) d.targets) ds → AllByRecursion (Differ e) ds
+  no_other e [] l u h = tt
+  no_other e (d ∷ ds) l u h = (none_of e d l u h.0, no_other e ds l u h.1)
 
-  exclusive_both : (now : Instant) (es : List FlatEqn) → AllByRecursion (λ (e : FlatEqn). AllByRecursion (λ x. n.inputs ≤ x) e.targets) es → AllByRecursion (EqnWithin V) es → IsExclusive now es → IsExclusive now (es ++ more)
-  exclusive_both now [] l u h = a.exclusive now
-  exclusive_both now (e ∷ es) l u h =
+  parted_both : (es : List FlatEqn) → AllByRecursion (λ (e : FlatEqn). AllByRecursion (λ x. n.inputs ≤ x) e.targets) es → AllByRecursion (EqnWithin V) es → AreParted es → AreParted (es ++ more)
+  parted_both [] l u h = a.parted
+  parted_both (e ∷ es) l u h =
       let within = u.0 in (
-        λ k. both (λ (d : FlatEqn). holds d.clock now ≡ true → AllByRecursion (λ x. has d.targets x ≡ false) e.targets) es more (h.0 k) (no_other now e more l.0 within.targets a.new),
-        exclusive_both now es l.1 u.1 h.1,
+        both (Differ e) es more h.0 (no_other e more l.0 within.targets a.new),
+        parted_both es l.1 u.1 h.1,
       )
 
   -- ---- clocks
@@ -329,7 +343,7 @@ module _ (types : List ObcType) (callees : Callees) (n other : FlatNode) (more :
           outputs = all_given other.outputs a.outputs;
           eqns = each (EqnWithin (length other.variables)) (λ (e : FlatEqn). AllByRecursion (IsGiven other) (variables_in e)) read_given other.eqns all_within;
         };
-        exclusive = λ now. subst (IsExclusive now) (sym a.eqns) (exclusive_both now n.eqns w.no_inputs o.eqns (w.exclusive now));
+        parted = subst AreParted (sym a.eqns) (parted_both n.eqns w.no_inputs o.eqns w.parted);
         clocks = are_clocks;
       }
 
@@ -339,14 +353,14 @@ pub adding_law : AddingLaw
 adding_law types callees n other more clock clocks a c w = built types callees n other more clock clocks a c w
 
 pub built_law : BuiltLaw
-built_law types callees clock n s closed exclusive clocks = record {
+built_law types callees clock n s closed parted clocks = record {
   within = s.within;
   no_inputs = s.no_inputs;
   targets_differ = s.targets_differ;
   values = s.values;
   kinds = s.kinds;
   closed = closed;
-  exclusive = exclusive;
+  parted = parted;
   clocks = clocks;
 }
 
@@ -357,5 +371,5 @@ ordered_law types callees clock n w ranked = record {
   targets_differ = w.targets_differ;
   values = w.values;
   kinds = w.kinds;
-  fit = λ now p. fit_law types n ranked w.closed w.exclusive (clock, w.clocks) now p;
+  fit = λ now p. fit_law types n ranked w.closed (λ then. is_exclusive then n.eqns w.parted) (clock, w.clocks) now p;
 }

@@ -9,15 +9,15 @@ use Rattle.hp_obc.specs.Machines.{ObcType}
 use Rattle.hp_flat.specs.Equations.{Clock, FlatEqn}
 use Rattle.hp_flat.specs.Nodes.{FlatNode}
 use Rattle.law_equations.specs.Meaning.Fitting.{operands}
-use Rattle.law_equations.specs.Meaning.Instants.{Instant}
 use Rattle.law_equations.specs.Meaning.Kinding.{Callees}
 use Rattle.law_equations.specs.Meaning.Reactions.{has}
-use Rattle.law_equations.specs.Meaning.Solving.{NoOther, IsExclusive}
 use Rattle.law_choices.specs.Closed.Closed.{IsTarget}
 use Rattle.law_choices.specs.Closed.Clocking.{IsFrontOf, IsDefinedOn, StepsStand}
 use Rattle.law_choices.specs.Adding.Adding.{IsNewIn, ClocksAgree, Adds}
 use Rattle.law_choices.specs.Adding.Base.{targets_of, based, AddsOnBase, BaseLaw}
+use Rattle.law_choices.specs.Closed.Exclusive.{AreParted, Differ}
 use Rattle.law_choices.proofs.ClosedLemmas.ClosedLaws.{first_one, later_one}
+use Rattle.law_choices.proofs.AddingLemmas.Adding.{differ_where}
 
 -- ---- targets
 
@@ -87,13 +87,13 @@ others : (d : FlatEqn) (rest xs : List ℕ) → AllByRecursion (λ x. AllByRecur
 others d rest [] h = tt
 others d rest (x ∷ xs) h = (behind (λ y. nat_eq x y ≡ false) d.targets rest h.0, others d rest xs h.1)
 
-no_other : (now : Instant) (e : FlatEqn) (ds : List FlatEqn) → AllByRecursion (λ x. AllByRecursion (λ y. nat_eq x y ≡ false) (targets_of ds)) e.targets → NoOther now e ds
-no_other now e [] h = tt
-no_other now e (d ∷ ds) h = (λ k. none_of d (targets_of ds) e.targets h, no_other now e ds (others d (targets_of ds) e.targets h))
+no_other : (e : FlatEqn) (ds : List FlatEqn) → AllByRecursion (λ x. AllByRecursion (λ y. nat_eq x y ≡ false) (targets_of ds)) e.targets → AllByRecursion (Differ e) ds
+no_other e [] h = tt
+no_other e (d ∷ ds) h = (differ_where e d (none_of d (targets_of ds) e.targets h), no_other e ds (others d (targets_of ds) e.targets h))
 
-pub distinct_exclusive : (now : Instant) (es : List FlatEqn) → IsDistinct nat_eq (targets_of es) → IsExclusive now es
-distinct_exclusive now [] h = tt
-distinct_exclusive now (e ∷ es) h = (λ k. no_other now e es (distinct_apart e.targets (targets_of es) h), distinct_exclusive now es (distinct_behind e.targets (targets_of es) h))
+distinct_parted : (es : List FlatEqn) → IsDistinct nat_eq (targets_of es) → AreParted es
+distinct_parted [] h = tt
+distinct_parted (e ∷ es) h = (no_other e es (distinct_apart e.targets (targets_of es) h), distinct_parted es (distinct_behind e.targets (targets_of es) h))
 
 each_differs : (es : List FlatEqn) → IsDistinct nat_eq (targets_of es) → AllByRecursion (λ (e : FlatEqn). IsDistinct nat_eq e.targets) es
 each_differs [] h = tt
@@ -157,7 +157,7 @@ module _ (types : List ObcType) (callees : Callees) (n other : FlatNode) (more :
     differ = each_differs more a.distinct;
     values = a.values;
     kinds = a.kinds;
-    exclusive = λ now. distinct_exclusive now more a.distinct;
+    parted = distinct_parted more a.distinct;
   }
 
   agree : ClocksAgree types n other more clock (based n clock)

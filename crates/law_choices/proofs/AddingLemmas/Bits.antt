@@ -58,8 +58,8 @@ module _ (types : List ObcType) (callees : Callees) where
         reads = each_other (IsThere n clock) (λ x. IsFrontOf (clock x) []) (λ x h. h.1) (flat_map atom_variables args) there;
       } in
       let on : IsDefinedOn other (length n.variables) [] = (e, subst (λ es. Contains es e) (sym behind.eqns) (Contains-push n.eqns e), first_one (length n.variables) [], refl) in (
-        one-keeps types callees n clock other ty [] (e ∷ []) c behind value (defines, tt) (λ now. ((λ z. tt), tt)) (e, first_one e [], first_one (length n.variables) []) (inl on),
-        one-on types callees n clock other ty [] (e ∷ []) c behind value (defines, tt) (λ now. ((λ z. tt), tt)) (e, first_one e [], first_one (length n.variables) []) (inl on),
+        one-keeps types callees n clock other ty [] (e ∷ []) c behind value (defines, tt) (tt, tt) (e, first_one e [], first_one (length n.variables) []) (inl on),
+        one-on types callees n clock other ty [] (e ∷ []) c behind value (defines, tt) (tt, tt) (e, first_one e [], first_one (length n.variables) []) (inl on),
       )
 
   abbrev all_kept : (n other : FlatNode) (clock : ℕ → Clock) (k : Keeps types callees clock n other) (ty : FlatTy) (xs : List ℕ) → AllByRecursion (IsOn n clock [] ty) xs → AllByRecursion (IsOn other k.clocks [] ty) xs

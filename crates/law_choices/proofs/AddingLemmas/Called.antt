@@ -40,7 +40,7 @@ called_law types callees others clock n same b =
         values = w.values;
         kinds = each_both (λ (e : FlatEqn). SaysSame callees others e.right) (EqnKinds types callees n.variables) (EqnKinds types others n.variables) (eqn_has types callees others n.variables) n.eqns same w.kinds;
         closed = w.closed;
-        exclusive = w.exclusive;
+        parted = w.parted;
         clocks = w.clocks;
       };
       inputs = b.inputs;

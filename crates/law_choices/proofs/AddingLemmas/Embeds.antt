@@ -1,5 +1,5 @@
 -- An observer among the equations of a node.
-use Rattle.std.proofs.Common.{◌≡◌, ◌⊎◌, inl, inr, ℕ, zero, suc, ◌+◌, ◌-◌, ◌<◌, ◌≤◌, Bool, true, false, ◌&&◌, ◌||◌, if◌then◌else◌, nat_eq, nat_lt, List, [], ◌∷◌, ◌++◌, length, map, slice_get, Option, Some, refl, sym, ap, ap₂, subst, ◌∙◌, arith}
+use Rattle.std.proofs.Common.{◌≡◌, ◌⊎◌, inl, inr, ℕ, zero, suc, ◌+◌, ◌-◌, ◌<◌, ◌≤◌, Bool, true, false, ◌||◌, if◌then◌else◌, nat_eq, nat_lt, List, [], ◌∷◌, ◌++◌, length, map, slice_get, Option, Some, refl, sym, ap, ap₂, subst, ◌∙◌, arith}
 use Rattle.std.specs.Prelude.{Contains}
 use Rattle.std.specs.List.{AllByRecursion, IsDistinct, flat_map, range_with_len}
 use Rattle.std.proofs.lemmas.Bool.Decides.{nat_tests}
@@ -14,11 +14,10 @@ use Rattle.hp_flat.specs.declared.node.Variable.{Variable}
 use Rattle.hp_flat.specs.Equations.{Clock, Right, operator, register, called, FlatEqn}
 use Rattle.hp_flat.specs.Nodes.{FlatNode}
 use Rattle.law_equations.specs.Meaning.Fitting.{atom_variables, operands}
-use Rattle.law_equations.specs.Meaning.Instants.{Instant, has_constructor, holds}
 use Rattle.law_equations.specs.Meaning.Kinding.{Callees, HasArm, HasValue, AtomHasKind, HaveKinds, RightHasKinds, EqnKinds, variable_kind}
 use Rattle.law_equations.specs.Meaning.Reactions.{has}
 use Rattle.law_equations.specs.Meaning.Scheduling.{clock_variables, AreBelow, EqnWithin}
-use Rattle.law_equations.specs.Meaning.Solving.{NoOther, IsExclusive}
+use Rattle.law_equations.specs.Shaped.Shaped.{Part}
 use Rattle.hp_watch.specs.declared.embedding.Shift.{Shift}
 use Rattle.hp_watch.specs.declared.watching.Free.{Free}
 use Rattle.hp_watch.specs.Watching.{clock_by, clock_of, moved_number, moved_free}
@@ -32,12 +31,14 @@ use Rattle.law_choices.specs.Adding.Watched.{IsNumbered, IsFree}
 use Rattle.law_choices.specs.Adding.Embeds.{FitsSite, EmbeddedLaw}
 use Rattle.law_choices.specs.Closed.Closed.{IsTarget, IsGiven}
 use Rattle.law_choices.specs.Closed.Clocking.{IsFrontOf, IsDefinedOn, StepsStand, IsSplit}
+use Rattle.law_choices.specs.Closed.Exclusive.{AreParted, Differ}
 use Rattle.law_choices.proofs.ClosedLemmas.ClosedLaws.{each_other, each_both, first_one, later_one}
-use Rattle.law_choices.proofs.AddingLemmas.Adding.{atom_kind, clock_kinds, restart_kinds, both}
+use Rattle.law_choices.proofs.AddingLemmas.Adding.{atom_kind, clock_kinds, restart_kinds, both, differ_where}
 use Rattle.law_choices.proofs.AddingLemmas.Steps.{IsStep, stepped, higher, none_among}
 use Rattle.law_choices.proofs.AddingLemmas.One.{Behind, nothing-behind, variable-more, eqn-behind, grows-behind}
-use Rattle.law_choices.proofs.AddingLemmas.Rows.{InRows, exclusive_rows}
+use Rattle.law_choices.proofs.AddingLemmas.Rows.{InRows, parted_rows}
 use Rattle.law_choices.proofs.AddingLemmas.Machine.{kind-behind}
+use Rattle.law_wellmade.proofs.PartedLemmas.Expressions.{has-first, has-more}
 
 -- ---- lists
 
@@ -200,37 +201,41 @@ module _ (far : ℕ) where
   moved-clock [] = refl
   moved-clock (on ∷ c) = ap (λ xs. (on.0 + far) ∷ xs) (moved-clock c)
 
-  -- the instant that the observer sees
-  abbrev seen : Instant → Instant
-  seen now x = now (x + far)
-
-  moved-holds : (c : Clock) (now : Instant) → holds (moved_clock far c) now ≡ holds c (seen now)
-  moved-holds [] now = refl
-  moved-holds (on ∷ c) now = ap (λ b. has_constructor on.1 (now (on.0 + far)) && b) (moved-holds c now)
-
-  site-holds : (site c : Clock) (now : Instant) → holds (site ++ moved_clock far c) now ≡ true → holds c (seen now) ≡ true
-  site-holds [] c now h = sym (moved-holds c now) ∙ h
-  site-holds (on ∷ site) c now h = site-holds site c now (second (has_constructor on.1 (now on.0)) (holds (site ++ moved_clock far c) now) h)
+  moved_in : (ys : List ℕ) (x : ℕ) → has (moved_all far ys) x ≡ true → (y : ℕ) × (x ≡ y + far) × (has ys y ≡ true)
+  moved_in [] x h = absurd cc
+  moved_in (y ∷ ys) x h = by (nat_eq (y + far) x) refl h (moved_in ys x)
     where
-      second : (a b : Bool) → (a && b) ≡ true → b ≡ true
-      second true b h = h
-      second false b h = absurd cc
+      by : (b : Bool) → nat_eq (y + far) x ≡ b → (b || has (moved_all far ys) x) ≡ true → (has (moved_all far ys) x ≡ true → (z : ℕ) × (x ≡ z + far) × (has ys z ≡ true)) → (z : ℕ) × (x ≡ z + far) × (has (y ∷ ys) z ≡ true)
+      by true q k f = let same : y + far ≡ x = grind (arith, nat_tests, q) in (y, sym same, has-first y ys)
+      by false q k f = let r = f k in (r.0, r.1, has-more y r.0 ys r.2)
 
-  moved_none : (xs ys : List ℕ) → AllByRecursion (λ x. has ys x ≡ false) xs → AllByRecursion (λ x. has (moved_all far ys) x ≡ false) (moved_all far xs)
-  moved_none xs ys h = each_map (λ x. has (moved_all far ys) x ≡ false) (λ x. x + far) xs (each_other (λ x. has ys x ≡ false) (λ x. has (moved_all far ys) (x + far) ≡ false) (λ x e. moved-has ys x ∙ e) xs h)
+  -- clocks that part do so where the observer stands
+  moved_part : (c d : Clock) → Part c d → Part (moved_clock far c) (moved_clock far d)
+  moved_part [] d p = absurd p
+  moved_part (on ∷ c) [] p = absurd p
+  moved_part (on ∷ c) (other ∷ d) p = (ap (λ x. x + far) p.0, by p.1 (moved_part c d))
+    where
+      by : (nat_eq on.1 other.1 ≡ false) ⊎ ((on.1 ≡ other.1) × Part c d) → (Part c d → Part (moved_clock far c) (moved_clock far d)) → (nat_eq on.1 other.1 ≡ false) ⊎ ((on.1 ≡ other.1) × Part (moved_clock far c) (moved_clock far d))
+      by (inl n) f = inl n
+      by (inr q) f = inr (q.0, f q.1)
 
-  moved_other : (site : Site) (now : Instant) (e : FlatEqn) (ds : List FlatEqn) → NoOther (seen now) e ds → NoOther now (moved_eqn site far e) (map (moved_eqn site far) ds)
-  moved_other site now e [] h = tt
-  moved_other site now e (d ∷ ds) h = ((λ g. moved_none e.targets d.targets (h.0 (site-holds site.clock d.clock now g))), moved_other site now e ds h.1)
+  site_part : (site c d : Clock) → Part c d → Part (site ++ c) (site ++ d)
+  site_part [] c d p = p
+  site_part (on ∷ site) c d p = (refl, inr (refl, site_part site c d p))
 
-  moved_exclusive : (site : Site) (now : Instant) (es : List FlatEqn) → IsExclusive (seen now) es → IsExclusive now (map (moved_eqn site far) es)
-  moved_exclusive site now [] h = tt
-  moved_exclusive site now (e ∷ es) h = ((λ g. moved_other site now e es (h.0 (site-holds site.clock e.clock now g))), moved_exclusive site now es h.1)
+  moved_differ : (site : Site) (e d : FlatEqn) → Differ e d → Differ (moved_eqn site far e) (moved_eqn site far d)
+  moved_differ site e d h x t s =
+      let r = moved_in e.targets x t in
+      let there : has d.targets r.0 ≡ true = sym (moved-has d.targets r.0) ∙ subst (λ z. has (moved_all far d.targets) z ≡ true) r.1 s in
+      site_part site.clock (moved_clock far e.clock) (moved_clock far d.clock) (moved_part e.clock d.clock (h r.0 r.2 there))
 
-exclusive_join : (now : Instant) (es more : List FlatEqn) → IsExclusive now es → IsExclusive now more → AllByRecursion (λ (e : FlatEqn). NoOther now e more) es → IsExclusive now (es ++ more)
-exclusive_join now [] more h g n = g
-exclusive_join now (e ∷ es) more h g n =
-    ((λ q. both (λ (d : FlatEqn). holds d.clock now ≡ true → AllByRecursion (λ x. has d.targets x ≡ false) e.targets) es more (h.0 q) n.0), exclusive_join now es more h.1 g n.1)
+  moved_parted : (site : Site) (es : List FlatEqn) → AreParted es → AreParted (map (moved_eqn site far) es)
+  moved_parted site [] h = tt
+  moved_parted site (e ∷ es) h = (each_map (Differ (moved_eqn site far e)) (moved_eqn site far) es (each_other (Differ e) (λ (d : FlatEqn). Differ (moved_eqn site far e) (moved_eqn site far d)) (λ d g. moved_differ site e d g) es h.0), moved_parted site es h.1)
+
+parted_join : (es more : List FlatEqn) → AreParted es → AreParted more → AllByRecursion (λ (e : FlatEqn). AllByRecursion (Differ e) more) es → AreParted (es ++ more)
+parted_join [] more h g n = g
+parted_join (e ∷ es) more h g n = (both (Differ e) es more h.0 n.0, parted_join es more h.1 g n.1)
 
 clock_both : (P : ℕ → Type 0) (c d : Clock) → AllByRecursion P (clock_variables c) → AllByRecursion P (clock_variables d) → AllByRecursion P (clock_variables (c ++ d))
 clock_both P [] d h g = g
@@ -499,12 +504,12 @@ module _ (types : List ObcType) (callees : Callees) (n observer : FlatNode) (clo
   apart : (x y : ℕ) → x < V + observer.inputs → V + observer.inputs ≤ y → nat_eq y x ≡ false
   apart x y l m = grind (arith, nat_tests, l, m)
 
-  joined : (now : Instant) → IsExclusive now more
-  joined now =
-      exclusive_join now inputs moved (exclusive_rows now V 0 inputs (V + length site.inputs) 0 (omega arith) (in_rows site.clock V site.inputs)) (moved_exclusive V site now observer.eqns (w.exclusive (seen V now)))
-      (each_other (λ (e : FlatEqn). AllByRecursion (λ x. x < V + observer.inputs) e.targets) (λ (e : FlatEqn). NoOther now e moved)
-      (λ e h. each_other (λ (d : FlatEqn). AllByRecursion (λ x. V + observer.inputs ≤ x) d.targets) (λ (d : FlatEqn). holds d.clock now ≡ true → AllByRecursion (λ x. has d.targets x ≡ false) e.targets)
-      (λ d g q. each_other (λ x. x < V + observer.inputs) (λ x. has d.targets x ≡ false) (λ x l. none_among (λ y. V + observer.inputs ≤ y) x (λ y m. apart x y l m) d.targets g) e.targets h) moved moved_targets) inputs input_targets)
+  joined : AreParted more
+  joined =
+      parted_join inputs moved (parted_rows V 0 inputs (V + length site.inputs) 0 (omega arith) (in_rows site.clock V site.inputs)) (moved_parted V site observer.eqns w.parted)
+      (each_other (λ (e : FlatEqn). AllByRecursion (λ x. x < V + observer.inputs) e.targets) (λ (e : FlatEqn). AllByRecursion (Differ e) moved)
+      (λ e h. each_other (λ (d : FlatEqn). AllByRecursion (λ x. V + observer.inputs ≤ x) d.targets) (Differ e)
+      (λ d g. differ_where e d (each_other (λ x. x < V + observer.inputs) (λ x. has d.targets x ≡ false) (λ x l. none_among (λ y. V + observer.inputs ≤ y) x (λ y m. apart x y l m) d.targets g) e.targets h)) moved moved_targets) inputs input_targets)
 
   -- ---- each new variable is defined
 
@@ -580,7 +585,7 @@ module _ (types : List ObcType) (callees : Callees) (n observer : FlatNode) (clo
     said = λ x h. (place_new x h).0;
     differ = each_other IsGood (λ (e : FlatEqn). IsDistinct nat_eq e.targets) (λ e g. g.differ) more good;
     kinds = subst (λ vs. AllByRecursion (EqnKinds types callees vs) more) (sym behind.variables) (each_other IsGood (EqnKinds types callees all) (λ e g. g.kinds) more good);
-    exclusive = joined;
+    parted = joined;
     steps = each_other IsGood (λ (e : FlatEqn). StepsStand other types clocks [] e.clock) (λ e g. g.steps) more good;
     reads = each_other IsGood (λ (e : FlatEqn). AllByRecursion (λ x. IsFrontOf (clocks x) e.clock) (operands e.right)) (λ e g. g.reads) more good;
     defined = λ x h. (place_new x h).1;

@@ -1,5 +1,5 @@
 -- Values on the base clock.
-use Rattle.std.proofs.Common.{rules, ◌≡◌, inr, ℕ, zero, suc, ◌<◌, Bool, true, false, ◌&&◌, if◌then◌else◌, nat_lt, min, List, [], ◌∷◌, ◌++◌, length, slice_get, refl, sym, ap, subst, ◌∙◌, arith}
+use Rattle.std.proofs.Common.{rules, ◌≡◌, inr, ℕ, zero, suc, ◌<◌, Bool, true, false, if◌then◌else◌, nat_lt, min, List, [], ◌∷◌, ◌++◌, length, slice_get, refl, sym, ap, subst, ◌∙◌, arith}
 use Rattle.std.specs.Prelude.{Contains, ◌==◌}
 use Rattle.std.specs.List.{AllByRecursion, flat_map}
 use Rattle.std.proofs.lemmas.Bool.Decides.{nat_tests}
@@ -15,20 +15,21 @@ use Rattle.hp_flat.specs.declared.node.FlatTy.TheVariants.{Bool as Truth, Int, E
 use Rattle.hp_flat.specs.Equations.{Clock, FlatEqn}
 use Rattle.hp_flat.specs.Nodes.{FlatNode}
 use Rattle.law_equations.specs.Meaning.Fitting.{atom_variables}
-use Rattle.law_equations.specs.Meaning.Instants.{Instant, has_constructor, holds}
+use Rattle.law_equations.specs.Meaning.Instants.{has_constructor}
 use Rattle.law_equations.specs.Meaning.Kinding.{Callees, HasValue, HasArm, HaveKinds, IsTyped, constructors, kind_of_type, variable_kind}
 use Rattle.law_equations.specs.Meaning.Reactions.{has}
 use Rattle.law_equations.specs.Meaning.Scheduling.{clock_variables, AreBelow}
-use Rattle.law_equations.specs.Meaning.Solving.{IsExclusive}
 use Rattle.hp_watch.specs.Adding.{type_at, some_value, added_variable, with_variable}
 use Rattle.hp_watch.specs.Lifting.{constructors as count_in, count_of, Valued, case_eqn, with_cases, with_step, lifted}
 use Rattle.law_choices.specs.Adding.Keeping.{IsBased, Keeps}
 use Rattle.law_choices.specs.Adding.Lifts.{HaveBytes, IsOn, CanStand, LiftLaw}
 use Rattle.law_choices.specs.Closed.Closed.{IsTarget}
 use Rattle.law_choices.specs.Closed.Clocking.{IsFrontOf, StepsStand, IsSplit}
+use Rattle.law_choices.specs.Closed.Exclusive.{AreParted, Differ}
 use Rattle.law_choices.proofs.ClosedLemmas.ClosedLaws.{each_other, first_one}
 use Rattle.law_choices.proofs.AddingLemmas.Adding.{same_kind, both}
 use Rattle.law_choices.proofs.AddingLemmas.One.{Behind, variable-behind, eqn-behind, grows-length, kind-at, value-at, keeps-self, keeps-both, one_more, Defines, one-keeps, one-on}
+use Rattle.law_wellmade.proofs.PartedLemmas.Adding.{part-behind}
 
 -- ---- constructors
 
@@ -97,18 +98,6 @@ one_constructor (B false) c d h g = grind (arith, nat_tests, h, g)
 one_constructor (E t k) c d h g = grind (arith, nat_tests, h, g)
 one_constructor v c d h g = absurd cc
 
-pub last_holds : (c : Clock) (t i : ℕ) (now : Instant) → holds (c ++ (t, i) ∷ []) now ≡ true → has_constructor i (now t) ≡ true
-last_holds [] t i now h = first (has_constructor i (now t)) h
-  where
-    first : (b : Bool) → (b && true) ≡ true → b ≡ true
-    first true h = refl
-    first false h = h
-last_holds (on ∷ c) t i now h = last_holds c t i now (second (has_constructor on.1 (now on.0)) (holds (c ++ (t, i) ∷ []) now) h)
-  where
-    second : (a b : Bool) → (a && b) ≡ true → b ≡ true
-    second true b h = h
-    second false b h = absurd cc
-
 -- ---- one step
 
 module _ (target : ℕ) (t : FlatTy) (before : Clock) (on : ℕ × ℕ) (value : ℕ) where
@@ -135,19 +124,17 @@ module _ (target : ℕ) (t : FlatTy) (before : Clock) (on : ℕ × ℕ) (value :
       by true e rest = Contains-append_left (cases k) (case k ∷ []) (case c) (rest (grind (arith, nat_tests, e)))
       by false e rest = let same : k ≡ c = grind (arith, nat_tests, e, l) in subst (λ d. Contains (cases k ++ case k ∷ []) (case d)) same (Contains-push (cases k) (case k))
 
-exclusive_more : (now : Instant) (es : List FlatEqn) (d : FlatEqn) → IsExclusive now es → AllByRecursion (λ (e : FlatEqn). holds e.clock now ≡ true → holds d.clock now ≡ true → AllByRecursion (λ x. has d.targets x ≡ false) e.targets) es → IsExclusive now (es ++ d ∷ [])
-exclusive_more now [] d h g = ((λ z. tt), tt)
-exclusive_more now (e ∷ es) d h g =
-    ((λ z. both (λ (f : FlatEqn). holds f.clock now ≡ true → AllByRecursion (λ x. has f.targets x ≡ false) e.targets) es (d ∷ []) (h.0 z) (g.0 z, tt)), exclusive_more now es d h.1 g.1)
+parted_more : (es : List FlatEqn) (d : FlatEqn) → AreParted es → AllByRecursion (λ (e : FlatEqn). Differ e d) es → AreParted (es ++ d ∷ [])
+parted_more [] d h g = (tt, tt)
+parted_more (e ∷ es) d h g = (both (Differ e) es (d ∷ []) h.0 (g.0, tt), parted_more es d h.1 g.1)
 
 module _ (target : ℕ) (t : FlatTy) (before : Clock) (on : ℕ × ℕ) (value : ℕ) where
-  pub cases_exclusive : (now : Instant) (k : ℕ) → IsExclusive now (cases target t before on value k)
-  cases_exclusive now zero = tt
-  cases_exclusive now (suc k) =
+  pub cases_parted : (k : ℕ) → AreParted (cases target t before on value k)
+  cases_parted zero = tt
+  cases_parted (suc k) =
       let last = case target t before on value k in
-      exclusive_more now (cases target t before on value k) last (cases_exclusive now k)
-      (each_case target t before on value (λ (e : FlatEqn). holds e.clock now ≡ true → holds last.clock now ≡ true → AllByRecursion (λ x. has last.targets x ≡ false) e.targets) k
-      (λ c l h g. absurd (let same = one_constructor (now on.0) c k (last_holds before on.0 c now h) (last_holds before on.0 k now g) in omega (arith, same, l))))
+      parted_more (cases target t before on value k) last (cases_parted k)
+      (each_case target t before on value (λ (e : FlatEqn). Differ e last) k (λ c l x h g. part-behind before on.0 c k (grind (arith, nat_tests, l))))
 
 module _ (types : List ObcType) (callees : Callees) (bytes : HaveBytes types) where
   module _ (n : FlatNode) (clock : ℕ → Clock) (c : IsBased types callees clock n) (before : Clock) (on : ℕ × ℕ) (x : ℕ) (stand : CanStand types n clock (before ++ on ∷ [])) (value : IsOn n clock (before ++ on ∷ []) (type_at n x) x) where
@@ -238,10 +225,10 @@ module _ (types : List ObcType) (callees : Callees) (bytes : HaveBytes types) wh
     said = (case_at 0, has_case V ty before on x count 0 some_count, first_one V [])
 
     abbrev pub step-keeps : Keeps types callees clock n other
-    step-keeps = one-keeps types callees n clock other ty before eqns c behind has_value (each_case V ty before on x (Defines types callees n clock kind) count case_defines) (λ now. cases_exclusive V ty before on x now count) said (inr split)
+    step-keeps = one-keeps types callees n clock other ty before eqns c behind has_value (each_case V ty before on x (Defines types callees n clock kind) count case_defines) (cases_parted V ty before on x count) said (inr split)
 
     pub step-on : IsOn other step-keeps.clocks before ty V
-    step-on = one-on types callees n clock other ty before eqns c behind has_value (each_case V ty before on x (Defines types callees n clock kind) count case_defines) (λ now. cases_exclusive V ty before on x now count) said (inr split)
+    step-on = one-on types callees n clock other ty before eqns c behind has_value (each_case V ty before on x (Defines types callees n clock kind) count case_defines) (cases_parted V ty before on x count) said (inr split)
 
   -- ---- all steps
 

@@ -38,7 +38,7 @@ module _ (types : List ObcType) (callees : Callees) (n : FlatNode) (k : IsKnown 
     values = (k.0).values;
     kinds = (k.0).kinds;
     closed = k.1.0;
-    exclusive = k.1.1;
+    parted = k.1.1;
     clocks = h.clocks;
   }
 

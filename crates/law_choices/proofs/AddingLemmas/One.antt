@@ -10,10 +10,8 @@ use Rattle.hp_flat.specs.declared.node.Variable.{Variable}
 use Rattle.hp_flat.specs.Equations.{Clock, FlatEqn}
 use Rattle.hp_flat.specs.Nodes.{FlatNode}
 use Rattle.law_equations.specs.Meaning.Fitting.{operands}
-use Rattle.law_equations.specs.Meaning.Instants.{Instant}
 use Rattle.law_equations.specs.Meaning.Kinding.{Callees, HasValue, HasArm, RightHasKinds, EqnKinds, kind_of_type, variable_kind}
 use Rattle.law_equations.specs.Meaning.Scheduling.{clock_variables, AreBelow, EqnWithin}
-use Rattle.law_equations.specs.Meaning.Solving.{IsExclusive}
 use Rattle.hp_watch.specs.Adding.{type_of, type_at, added_variable, with_variable, with_eqn}
 use Rattle.hp_watch.specs.Growing.{Grows}
 use Rattle.law_choices.specs.Adding.Adding.{IsNewIn}
@@ -21,6 +19,7 @@ use Rattle.law_choices.specs.Adding.Keeping.{IsBased, Keeps}
 use Rattle.law_choices.specs.Adding.Lifts.{IsOn}
 use Rattle.law_choices.specs.Closed.Closed.{IsTarget}
 use Rattle.law_choices.specs.Closed.Clocking.{IsFrontOf, IsDefinedOn, StepsStand, IsSplit}
+use Rattle.law_choices.specs.Closed.Exclusive.{AreParted}
 use Rattle.law_choices.proofs.AddingLemmas.Adding.{right_kinds, clock_kinds, both}
 use Rattle.law_choices.proofs.AddingLemmas.Steps.{IsStep, stepped, higher}
 use Rattle.law_choices.proofs.ClosedLemmas.ClosedLaws.{each_other, each_both}
@@ -162,7 +161,7 @@ module _ (types : List ObcType) (callees : Callees) (n : FlatNode) (before : ℕ
     pub reads : AllByRecursion (λ x. IsFrontOf (before x) e.clock) (operands e.right)
 
   module _ (other : FlatNode) (ty : FlatTy) (on : Clock) (es : List FlatEqn) (c : IsBased types callees before n) (b : Behind n other (added_variable (length n.variables) ty ∷ []) es) (value : HasValue types ty)
-      (all : AllByRecursion (Defines (kind_of_type types ty)) es) (exclusive : (now : Instant) → IsExclusive now es) (said : IsTarget es (length n.variables))
+      (all : AllByRecursion (Defines (kind_of_type types ty)) es) (parted : AreParted es) (said : IsTarget es (length n.variables))
       (defined : IsDefinedOn other (length n.variables) on ⊎ IsSplit other types (one_more n before on) (length n.variables)) where
     abbrev pub clock : ℕ → Clock
     clock = one_more n before on
@@ -223,7 +222,7 @@ module _ (types : List ObcType) (callees : Callees) (n : FlatNode) (before : ℕ
       said = λ x i. subst (IsTarget es) (sym (new_is x i)) said;
       differ = each_other (Defines (kind_of_type types ty)) (λ (e : FlatEqn). IsDistinct nat_eq e.targets) (λ e d. subst (IsDistinct nat_eq) (sym d.target) (tt, tt)) es all;
       kinds = each_other (Defines (kind_of_type types ty)) (EqnKinds types callees other.variables) kinded es all;
-      exclusive = exclusive;
+      parted = parted;
       steps = each_other (Defines (kind_of_type types ty)) (λ (e : FlatEqn). StepsStand other types clock [] e.clock) (λ e d. steps_same [] e.clock d.clock d.steps) es all;
       reads = each_other (Defines (kind_of_type types ty)) (λ (e : FlatEqn). AllByRecursion (λ x. IsFrontOf (clock x) e.clock) (operands e.right))
           (λ e d. each_both (λ x. x < V) (λ x. IsFrontOf (before x) e.clock) (λ x. IsFrontOf (clock x) e.clock) (λ x l h. front x e.clock l h) (operands e.right) d.operands_below d.reads) es all;

@@ -1,5 +1,5 @@
 -- Places of equations.
-use Rattle.std.proofs.Common.{◌≡◌, ◌⊎◌, inl, inr, ℕ, ◌+◌, ◌≤◌, true, false, ◌&&◌, ◌||◌, nat_eq, List, [], ◌∷◌, ◌++◌, length, map, refl, sym, ap, ap₂, subst, ◌∙◌, arith}
+use Rattle.std.proofs.Common.{◌≡◌, ◌⊎◌, inl, inr, ℕ, ◌+◌, ◌≤◌, true, ◌&&◌, ◌||◌, nat_eq, List, [], ◌∷◌, ◌++◌, length, map, refl, sym, ap, ap₂, subst, ◌∙◌, arith}
 use Rattle.std.specs.Prelude.{Contains}
 use Rattle.std.specs.List.{AllByRecursion, IsDistinct, range_with_len}
 use Rattle.std.proofs.lemmas.List.Elements.{All-contains, All-from_recursion, Contains-append_cases}
@@ -12,7 +12,6 @@ use Rattle.law_equations.specs.Meaning.Instants.{Instant, holds}
 use Rattle.law_equations.specs.Meaning.Kinding.{Callees, EqnKinds}
 use Rattle.law_equations.specs.Meaning.Reactions.{Answers, has, is_set, Holds, Continues, Reaction}
 use Rattle.law_equations.specs.Meaning.Scheduling.{EqnWithin}
-use Rattle.law_equations.specs.Meaning.Solving.{NoOther, IsExclusive}
 use Rattle.law_equations.specs.Made.Laws.{unplaced}
 use Rattle.hp_controller.specs.Extending.{rows_with}
 use Rattle.law_choices.specs.Adding.Adding.{IsWellBuilt}
@@ -20,6 +19,7 @@ use Rattle.law_choices.specs.Adding.Keeping.{IsBased}
 use Rattle.law_choices.specs.Adding.Placed.{IsPlaced, PlacedLaw, PlacedReactionLaw, PlacedLoopLaw}
 use Rattle.law_choices.specs.Closed.Closed.{IsTarget, IsGiven, variables_in}
 use Rattle.law_choices.specs.Closed.Clocking.{IsFrontOf, IsDefinedOn, StepsStand, IsSplit, AreClocks}
+use Rattle.law_choices.specs.Closed.Exclusive.{AreParted, Differ}
 use Rattle.law_choices.proofs.ClosedLemmas.ClosedLaws.{each_other, first_one, later_one}
 
 -- ---- equations
@@ -71,17 +71,11 @@ target es fs s x t = let r = twin es fs s t.0 t.1 in (r.0, r.1, subst (λ (z : F
 
 -- ---- nothing is defined twice
 
-no_other : (now : Instant) (e f : FlatEqn) → unplaced e ≡ unplaced f → (es fs : List FlatEqn) → AreSame es fs → NoOther now e es → NoOther now f fs
-no_other now e f same es fs s h =
-    transfer (λ (d : FlatEqn). holds d.clock now ≡ true → AllByRecursion (λ x. has d.targets x ≡ false) f.targets) (λ d g. g) (λ d g. g) es fs s
-    (subst (λ (z : FlatEqn). AllByRecursion (λ (d : FlatEqn). holds d.clock now ≡ true → AllByRecursion (λ x. has d.targets x ≡ false) z.targets) es) same h)
-
-exclusive : (now : Instant) (es fs : List FlatEqn) → AreSame es fs → IsExclusive now es → IsExclusive now fs
-exclusive now [] [] s h = tt
-exclusive now [] (f ∷ fs) s h = absurd s
-exclusive now (e ∷ es) [] s h = absurd s
-exclusive now (e ∷ es) (f ∷ fs) s h =
-    ((λ g. no_other now e f s.0 es fs s.1 (h.0 (subst (λ (z : FlatEqn). holds z.clock now ≡ true) (sym s.0) g))), exclusive now es fs s.1 h.1)
+parted_same : (es fs : List FlatEqn) → AreSame es fs → AreParted es → AreParted fs
+parted_same [] [] s h = tt
+parted_same [] (f ∷ fs) s h = absurd s
+parted_same (e ∷ es) [] s h = absurd s
+parted_same (e ∷ es) (f ∷ fs) s h = (transfer (Differ f) (λ d g. g) (λ d g. g) es fs s.1 (subst (λ (z : FlatEqn). AllByRecursion (Differ z) es) s.0 h.0), parted_same es fs s.1 h.1)
 
 pub set_same : (now : Instant) (x : ℕ) (es fs : List FlatEqn) → AreSame es fs → is_set es now x ≡ is_set fs now x
 set_same now x [] [] s = refl
@@ -155,7 +149,7 @@ module _ (n : FlatNode) (fs : List FlatEqn) (s : AreSame n.eqns fs) where
             eqns = transfer (λ (e : FlatEqn). AllByRecursion (IsGiven these) (variables_in e)) (λ e h. h) (λ e h. h) n.eqns fs s
                 (each_other (λ (e : FlatEqn). AllByRecursion (IsGiven n) (variables_in e)) (λ (e : FlatEqn). AllByRecursion (IsGiven these) (variables_in e)) (λ e h. each_other (IsGiven n) (IsGiven these) given (variables_in e) h) n.eqns c.eqns);
           };
-          exclusive = λ now. exclusive now n.eqns fs s (w.exclusive now);
+          parted = parted_same n.eqns fs s w.parted;
           clocks = are_clocks w.clocks;
         }
 

@@ -9,18 +9,18 @@ use Rattle.hp_flat.specs.declared.node.Variable.{Variable}
 use Rattle.hp_flat.specs.Equations.{Clock, FlatEqn}
 use Rattle.hp_flat.specs.Nodes.{FlatNode}
 use Rattle.law_equations.specs.Meaning.Fitting.{operands}
-use Rattle.law_equations.specs.Meaning.Instants.{Instant, holds}
 use Rattle.law_equations.specs.Meaning.Kinding.{Callees, HasValue, EqnKinds}
 use Rattle.law_equations.specs.Meaning.Reactions.{has}
 use Rattle.law_equations.specs.Meaning.Scheduling.{clock_variables, AreBelow, EqnWithin}
-use Rattle.law_equations.specs.Meaning.Solving.{IsExclusive}
 use Rattle.law_choices.specs.Adding.Adding.{IsNewIn}
 use Rattle.law_choices.specs.Adding.Keeping.{IsBased}
 use Rattle.law_choices.specs.Adding.Controls.{always}
 use Rattle.law_choices.specs.Closed.Closed.{IsTarget}
 use Rattle.law_choices.specs.Closed.Clocking.{IsFrontOf, IsDefinedOn, StepsStand}
+use Rattle.law_choices.specs.Closed.Exclusive.{AreParted, Differ}
 use Rattle.law_choices.proofs.ClosedLemmas.ClosedLaws.{each_other, each_both, first_one, later_one}
 use Rattle.law_choices.proofs.AddingLemmas.Steps.{IsStep, stepped, among, none_among}
+use Rattle.law_choices.proofs.AddingLemmas.Adding.{differ_where}
 
 -- ---- rows of numbers
 
@@ -96,25 +96,23 @@ differ_all a t (e ∷ es) b u (inl h) = (subst (IsDistinct nat_eq) (sym h.1) (ra
 differ_all a t (e ∷ es) b u (inr h) = (subst (IsDistinct nat_eq) (sym h.0) (one_differs t), differ_all a (t + 1) es b u h.1)
 
 -- the rows are apart: the second ends where the first one may not be
-pub exclusive_rows : (now : Instant) (a t : ℕ) (es : List FlatEqn) (b u : ℕ) → u ≤ a → InRows a t es b u → IsExclusive now es
-exclusive_rows now a t [] b u l h = tt
-exclusive_rows now a t (e ∷ es) b u l (inl h) = (
-  λ c.
-      each_other (λ (d : FlatEqn). AllByRecursion (Between (a + h.0) b t u) d.targets) (λ (d : FlatEqn). holds d.clock now ≡ true → AllByRecursion (λ x. has d.targets x ≡ false) e.targets)
-      (λ d i g. subst (AllByRecursion (λ x. has d.targets x ≡ false)) (sym h.1) (each_range (λ x. has d.targets x ≡ false) a h.0 (λ x m v. none_among (Between (a + h.0) b t u) x (λ y j. apart x y m v j) d.targets i)))
+pub parted_rows : (a t : ℕ) (es : List FlatEqn) (b u : ℕ) → u ≤ a → InRows a t es b u → AreParted es
+parted_rows a t [] b u l h = tt
+parted_rows a t (e ∷ es) b u l (inl h) = (
+  each_other (λ (d : FlatEqn). AllByRecursion (Between (a + h.0) b t u) d.targets) (Differ e)
+      (λ d i. differ_where e d (subst (AllByRecursion (λ x. has d.targets x ≡ false)) (sym h.1) (each_range (λ x. has d.targets x ≡ false) a h.0 (λ x m v. none_among (Between (a + h.0) b t u) x (λ y j. apart x y m v j) d.targets i))))
       es (between (a + h.0) t es b u h.2),
-  exclusive_rows now (a + h.0) t es b u (omega (arith, l)) h.2,
+  parted_rows (a + h.0) t es b u (omega (arith, l)) h.2,
 )
   where
     apart : (x y : ℕ) → a ≤ x → x < a + h.0 → Between (a + h.0) b t u y → nat_eq y x ≡ false
     apart x y m v (inl j) = let k = j.0 in grind (arith, nat_tests, k, v)
     apart x y m v (inr j) = let k = j.1 in grind (arith, nat_tests, k, l, m)
-exclusive_rows now a t (e ∷ es) b u l (inr h) = (
-  λ c.
-      each_other (λ (d : FlatEqn). AllByRecursion (Between a b (t + 1) u) d.targets) (λ (d : FlatEqn). holds d.clock now ≡ true → AllByRecursion (λ x. has d.targets x ≡ false) e.targets)
-      (λ d i g. subst (AllByRecursion (λ x. has d.targets x ≡ false)) (sym h.0) (none_among (Between a b (t + 1) u) t (λ y j. apart y j) d.targets i, tt))
+parted_rows a t (e ∷ es) b u l (inr h) = (
+  each_other (λ (d : FlatEqn). AllByRecursion (Between a b (t + 1) u) d.targets) (Differ e)
+      (λ d i. differ_where e d (subst (AllByRecursion (λ x. has d.targets x ≡ false)) (sym h.0) (none_among (Between a b (t + 1) u) t (λ y j. apart y j) d.targets i, tt)))
       es (between a (t + 1) es b u h.1),
-  exclusive_rows now a (t + 1) es b u l h.1,
+  parted_rows a (t + 1) es b u l h.1,
 )
   where
     more : t + 1 ≤ u
@@ -238,7 +236,7 @@ module _ (types : List ObcType) (callees : Callees) (n other : FlatNode) (vs : L
     said = said;
     differ = differ_all V other.inputs es (length other.variables) n.inputs a.rows;
     kinds = each_other A (EqnKinds types callees other.variables) (λ e i. i.kinds) es a.always_there;
-    exclusive = λ now. exclusive_rows now V other.inputs es (length other.variables) n.inputs inputs_within a.rows;
+    parted = parted_rows V other.inputs es (length other.variables) n.inputs inputs_within a.rows;
     steps = each_other A (λ (e : FlatEqn). StepsStand other types clock [] e.clock) (λ e i. subst (StepsStand other types clock []) (sym i.clock_is) tt) es a.always_there;
     reads = each_other A (λ (e : FlatEqn). AllByRecursion (λ x. IsFrontOf (clock x) e.clock) (operands e.right)) (λ e i. subst (λ d. AllByRecursion (λ x. IsFrontOf (clock x) d) (operands e.right)) (sym i.clock_is) i.there) es a.always_there;
     defined = λ x i. inl (defined x i);

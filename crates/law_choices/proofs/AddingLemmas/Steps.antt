@@ -10,16 +10,15 @@ use Rattle.hp_flat.specs.declared.node.Variable.{Variable}
 use Rattle.hp_flat.specs.Equations.{Clock, FlatEqn}
 use Rattle.hp_flat.specs.Nodes.{FlatNode}
 use Rattle.law_equations.specs.Meaning.Fitting.{operands}
-use Rattle.law_equations.specs.Meaning.Instants.{Instant}
 use Rattle.law_equations.specs.Meaning.Kinding.{Callees, HasValue, EqnKinds}
 use Rattle.law_equations.specs.Meaning.Reactions.{has}
 use Rattle.law_equations.specs.Meaning.Scheduling.{AreBelow, EqnWithin}
-use Rattle.law_equations.specs.Meaning.Solving.{IsExclusive}
 use Rattle.law_choices.specs.Adding.Adding.{IsWellBuilt, IsNewIn, ClocksAgree, Adds}
 use Rattle.law_choices.specs.Adding.Base.{based}
 use Rattle.law_choices.specs.Adding.Keeping.{IsBased, BasedLaw}
 use Rattle.law_choices.specs.Closed.Closed.{IsTarget}
 use Rattle.law_choices.specs.Closed.Clocking.{IsFrontOf, IsDefinedOn, StepsStand, IsSplit}
+use Rattle.law_choices.specs.Closed.Exclusive.{AreParted}
 use Rattle.law_choices.proofs.AddingLemmas.Adding.{adding_law}
 use Rattle.law_choices.proofs.ClosedLemmas.ClosedLaws.{each_other, each_both}
 
@@ -49,7 +48,7 @@ pub record IsStep (types : List ObcType) (callees : Callees) (n other : FlatNode
   pub said : (x : ℕ) → IsNewIn n other x → IsTarget more x
   pub differ : AllByRecursion (λ (e : FlatEqn). IsDistinct nat_eq e.targets) more
   pub kinds : AllByRecursion (EqnKinds types callees other.variables) more
-  pub exclusive : (now : Instant) → IsExclusive now more
+  pub parted : AreParted more
   pub steps : AllByRecursion (λ (e : FlatEqn). StepsStand other types clocks [] e.clock) more
   pub reads : AllByRecursion (λ (e : FlatEqn). AllByRecursion (λ x. IsFrontOf (clocks x) e.clock) (operands e.right)) more
   pub defined : (x : ℕ) → IsNewIn n other x → IsDefinedOn other x (clocks x) ⊎ IsSplit other types clocks x
@@ -84,7 +83,7 @@ module _ (types : List ObcType) (callees : Callees) (n other : FlatNode) (added 
     differ = s.differ;
     values = s.values;
     kinds = s.kinds;
-    exclusive = s.exclusive;
+    parted = s.parted;
   }
 
   target_new : (x : ℕ) → IsTarget more x → IsNewIn n other x
@@ -150,7 +149,7 @@ module _ (types : List ObcType) (callees : Callees) (clock : ℕ → Clock) (n :
     differ = tt;
     values = tt;
     kinds = tt;
-    exclusive = λ now. tt;
+    parted = tt;
   }
 
   clocks_agree : ClocksAgree types n n [] clock (based n clock)

@@ -23,6 +23,7 @@ use Rattle.law_choices.specs.Adding.Keeping.{IsBased, Keeps}
 use Rattle.law_choices.specs.Adding.Laws.{OrderedLaw}
 use Rattle.law_choices.specs.Adding.Lifts.{IsOn}
 use Rattle.law_choices.specs.Adding.Whole.{IsBit, IsWhole, MayChoose, WholeLaw}
+use Rattle.law_choices.specs.Closed.Exclusive.{IsParted}
 use Rattle.law_choices.proofs.ClosedLemmas.ClosedLaws.{each_other}
 use Rattle.law_choices.proofs.AnsweredLemmas.ControlledLoops.{set_front}
 use Rattle.law_choices.proofs.AddingLemmas.Adding.{both}
@@ -93,6 +94,9 @@ module _ (types : List ObcType) (callees : Callees) (clock : ℕ → Clock) (pla
 
   in_range : IsWithin other
   in_range = let o = other_based in let w = o.well in w.within
+
+  parted : IsParted other
+  parted = let o = other_based in let w = o.well in w.parted
 
   -- ---- it closes the plant
 
@@ -212,4 +216,5 @@ whole_law ordered extended then_law controlled_loop types callees clock plant n 
   well_made types callees clock plant n other m name early late controls k may whole ordered,
   in_range types callees clock plant n other m name early late controls k may whole,
   λ answers. closes types callees clock plant n other m name early late controls k may whole b extended then_law controlled_loop answers,
+  parted types callees clock plant n other m name early late controls k may whole,
 )

@@ -42,7 +42,7 @@ adds callees = record {
   differ = (alone 2, tt);
   values = (tt, tt);
   kinds = (record { right = (Bools ∷ [], (refl, tt), Bools, refl, refl); clock = tt; restart = tt }, tt);
-  exclusive = λ now. (λ h. tt, tt);
+  parted = (tt, tt);
 }
 
 pub some_adding_law : SomeAddingLaw

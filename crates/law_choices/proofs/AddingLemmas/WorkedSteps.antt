@@ -6,10 +6,9 @@ use Rattle.std.proofs.lemmas.List.Elements.{All-contains, All-from_recursion}
 use Rattle.hp_base.specs.Kinds.{Bools}
 use Rattle.hp_boolx.specs.Machine.{IsMachine}
 use Rattle.hp_flat.specs.Equations.{FlatEqn}
-use Rattle.law_equations.specs.Meaning.Instants.{Instant}
 use Rattle.law_equations.specs.Meaning.Kinding.{Callees, EqnKinds}
 use Rattle.law_equations.specs.Meaning.Scheduling.{EqnWithin}
-use Rattle.law_equations.specs.Meaning.Solving.{IsExclusive, TargetsDiffer}
+use Rattle.law_equations.specs.Meaning.Solving.{TargetsDiffer}
 use Rattle.hp_watch.specs.Watching.{surveyed, Watched, watched_by, IsWatched}
 use Rattle.law_choices.specs.Adding.Choosing.{IsOfNode}
 use Rattle.law_choices.specs.Adding.Keeping.{IsBased}
@@ -22,9 +21,10 @@ use Rattle.law_choices.specs.Adding.Whole.{IsWhole}
 use Rattle.law_choices.specs.Adding.Worked.{handed_on, free_node, free_machine, one_control, asked_alone, SomeControlledLaw, SomeWholeLaw, one_observer, some_tree, SomeEmbeddedLaw, SomeWatchedLaw, SomeWatchingLaw}
 use Rattle.law_choices.specs.Closed.Closed.{IsTarget, IsGiven}
 use Rattle.law_choices.specs.Closed.Clocking.{IsDefinedOn, IsSplit, copy_where, by_cases}
+use Rattle.law_choices.specs.Closed.Exclusive.{AreParted}
 use Rattle.law_choices.proofs.ClosedLemmas.Cases.{base, is_one, split}
 use Rattle.law_choices.proofs.ClosedLemmas.ClosedLaws.{first_one}
-use Rattle.law_choices.proofs.AddingLemmas.Lifts.{one_constructor, last_holds}
+use Rattle.law_wellmade.proofs.PartedLemmas.Adding.{part-behind}
 
 -- ---- two cases
 
@@ -46,11 +46,8 @@ targets_differ : TargetsDiffer by_cases
 unfolding IsDistinct
 targets_differ = ((tt, tt), ((tt, tt), tt))
 
-exclusive : (now : Instant) → IsExclusive now by_cases.eqns
-exclusive now = (
-  (λ h. ((λ g. absurd (let same = one_constructor (now 0) 1 0 (last_holds [] 0 1 now h) (last_holds [] 0 0 now g) in omega (arith, same))), tt)),
-  ((λ h. tt), tt),
-)
+parted : AreParted by_cases.eqns
+parted = (((λ x h g. part-behind [] 0 1 0 refl), tt), (tt, tt))
 
 by_cases_based : (callees : Callees) → IsBased [] callees base by_cases
 by_cases_based callees = record {
@@ -61,7 +58,7 @@ by_cases_based callees = record {
     values = (tt, (tt, tt));
     kinds = (copies_kinds callees 1 (omega arith), (copies_kinds callees 0 (omega arith), tt));
     closed = record { variables = given; outputs = (given 1 (omega arith), tt); eqns = ((given 0 (omega arith), (given 0 (omega arith), tt)), ((given 0 (omega arith), (given 0 (omega arith), tt)), tt)) };
-    exclusive = exclusive;
+    parted = parted;
     clocks = record {
       outputs = (refl, tt);
       steps = ((([], refl), tt), ((([], refl), tt), tt));
@@ -108,7 +105,7 @@ free_based = record {
     values = (tt, (tt, tt));
     kinds = (record { right = (Bools ∷ [], (refl, tt), Bools, refl, refl); clock = tt; restart = tt }, tt);
     closed = record { variables = free_given; outputs = (free_given 1 (omega arith), tt); eqns = ((free_given 0 (omega arith), tt), tt) };
-    exclusive = λ now. ((λ h. tt), tt);
+    parted = (tt, tt);
     clocks = record { outputs = (refl, tt); steps = (tt, tt); reads = ((([], refl), tt), tt); defined = λ x t. inl (on_base x t) };
   };
   inputs = λ x l. refl;

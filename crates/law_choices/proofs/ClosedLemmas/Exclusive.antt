@@ -23,10 +23,9 @@ use Rattle.law_equations.specs.Made.Standing.{Knows}
 use Rattle.hp_complete.specs.Made.{AreMadeOf}
 use Rattle.law_wellmade.specs.Timely.Tested.{ConstructorsDiffer, NodeTested, AreTested}
 use Rattle.law_equations.specs.Shaped.Shaped.{Part}
-use Rattle.law_wellmade.proofs.PartedLemmas.Adding.{Differ, Parted}
 use Rattle.law_wellmade.proofs.PartedLemmas.Expressions.{has-first, has-more}
 use Rattle.law_wellmade.proofs.PartedLemmas.Nodes.{parted-alike, node-parted}
-use Rattle.law_choices.specs.Closed.Exclusive.{IsAlwaysExclusive, ExclusiveLaw}
+use Rattle.law_choices.specs.Closed.Exclusive.{AreParted, Differ, ExclusiveLaw, IsAlwaysExclusive, IsParted, PartedLaw}
 
 -- ---- clocks that part
 
@@ -72,7 +71,7 @@ module _ (now : Instant) where
       by x t true q g = absurd (not_both e.clock d.clock now (p.0 x t q) h g)
       by x t false q g = refl
 
-  is_exclusive : (es : List FlatEqn) → Parted es → IsExclusive now es
+  pub is_exclusive : (es : List FlatEqn) → AreParted es → IsExclusive now es
   is_exclusive [] p = tt
   is_exclusive (e ∷ es) p = (no_other e es p.0, is_exclusive es p.1)
 
@@ -88,17 +87,24 @@ each_tested types (TypeItem t ∷ items) h = each_tested types items h
 each_tested types (NodeItem n ∷ items) h = ((scope_behind items, h.0), each_tested types items h.1)
 
 module _ (types : List TypeDecl) (outputs : List ℕ → List (List ℕ)) (k : Known) (knows : Knows types outputs k) (differ : ConstructorsDiffer types) where
-  all_exclusive : (program : List Item) (fs : List FlatNode) → EachNode (λ (n : Node). IsPlain n.body) program → EachNode (HasTested types) program → AreMadeOf k program fs → AllByRecursion IsAlwaysExclusive fs
-  all_exclusive [] [] p h made = tt
-  all_exclusive [] (f ∷ fs) p h made = absurd made
-  all_exclusive (TypeItem t ∷ items) fs p h made = all_exclusive items fs p h made
-  all_exclusive (NodeItem n ∷ items) [] p h made = absurd made
-  all_exclusive (NodeItem n ∷ items) (f ∷ fs) p h made = (
-    (λ now. is_exclusive now f.eqns (parted-alike (sketch_node k n).eqns f.eqns made.0.eqns (node-parted types differ outputs k knows h.0.0 n p.0 h.0.1))),
-    all_exclusive items fs p.1 h.1 made.1,
+  all_parted : (program : List Item) (fs : List FlatNode) → EachNode (λ (n : Node). IsPlain n.body) program → EachNode (HasTested types) program → AreMadeOf k program fs → AllByRecursion IsParted fs
+  all_parted [] [] p h made = tt
+  all_parted [] (f ∷ fs) p h made = absurd made
+  all_parted (TypeItem t ∷ items) fs p h made = all_parted items fs p h made
+  all_parted (NodeItem n ∷ items) [] p h made = absurd made
+  all_parted (NodeItem n ∷ items) (f ∷ fs) p h made = (
+    parted-alike (sketch_node k n).eqns f.eqns made.0.eqns (node-parted types differ outputs k knows h.0.0 n p.0 h.0.1),
+    all_parted items fs p.1 h.1 made.1,
   )
 
-pub exclusive_law : ExclusiveLaw
-exclusive_law types outputs k program fs knows differ plain tested made =
-    all_exclusive types outputs k knows differ program fs plain
+pub parted_law : PartedLaw
+parted_law types outputs k program fs knows differ plain tested made =
+    all_parted types outputs k knows differ program fs plain
     (subst (λ xs. EachNode (HasTested types) xs) (reverse-reverse program) (each_reverse (HasTested types) (reverse program) (each_tested types (reverse program) tested))) made
+
+each_exclusive : (fs : List FlatNode) → AllByRecursion IsParted fs → AllByRecursion IsAlwaysExclusive fs
+each_exclusive [] h = tt
+each_exclusive (f ∷ fs) h = ((λ now. is_exclusive now f.eqns h.0), each_exclusive fs h.1)
+
+pub exclusive_law : PartedLaw → ExclusiveLaw
+exclusive_law parted types outputs k program fs knows differ plain tested made = each_exclusive fs (parted types outputs k program fs knows differ plain tested made)

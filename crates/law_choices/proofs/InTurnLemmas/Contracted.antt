@@ -37,6 +37,7 @@ use Rattle.law_choices.proofs.AddingLemmas.Placed.{same_eqns, transfer}
 use Rattle.law_choices.proofs.AddingLemmas.Rows.{each_range}
 use Rattle.law_choices.specs.InTurn.Calling.{CallNothing}
 use Rattle.law_choices.specs.InTurn.Nodes.{Contracted, controller_name, telling, IsOfType, AreOfTypes, IsOwn, IsContracted}
+use Rattle.law_choices.specs.Closed.Exclusive.{IsParted}
 use Rattle.law_choices.proofs.InTurnLemmas.Calls.{calls_among, calls_nothing, stateless_calls, copy_good, watched_good, controlled_good}
 use Rattle.law_choices.proofs.InTurnLemmas.Telling.{copy_outputs, telling_well, telling_in_range, told_kinds}
 
@@ -197,13 +198,13 @@ module _ (laws : NodeLaws) (types : List ObcType) (all : Callees) (observers : O
       let count = is.count in
       record { machine = is.is_machine; inputs = omega (arith, same, inputs, count); variables = i.inputs; within = i.eqns; as_many = is.early; bits = is.bits; widths = is.widths }
 
-  pub chooses : IsWellMade types all c.chosen.node × IsWithin c.chosen.node × ((answers : Answers) → IsClosed answers (length controls) (record { plant = c.plant; closed = c.chosen.node }))
+  pub chooses : IsWellMade types all c.chosen.node × IsWithin c.chosen.node × ((answers : Answers) → IsClosed answers (length controls) (record { plant = c.plant; closed = c.chosen.node })) × IsParted c.chosen.node
   chooses = laws.choosing types all clock observers node is.is_early c.plant is.watched g.bytes of_node g.suit is.is_watched m (controller_name node.name) controls c.chosen.node can asked_for kinds is.whole
 
   abbrev asking : FlatNode
   asking = controlled is.watched.node m (controller_name node.name) is.watched.early is.watched.late controls
 
-  chosen_outputs : c.chosen.node.outputs ≡ c.plant.outputs
+  pub chosen_outputs : c.chosen.node.outputs ≡ c.plant.outputs
   chosen_outputs =
       let whole = is.whole in
       let placed = whole.placed in

@@ -82,7 +82,7 @@ both P Q [] p q = tt
 both P Q (TypeItem t ∷ items) p q = both P Q items p q
 both P Q (NodeItem n ∷ items) p q = ((p.0, q.0), both P Q items p.1 q.1)
 
-each_node : (P Q : Node → Type 0) → ((n : Node) → P n → Q n) → (items : List Item) → EachNode P items → EachNode Q items
+pub each_node : (P Q : Node → Type 0) → ((n : Node) → P n → Q n) → (items : List Item) → EachNode P items → EachNode Q items
 each_node P Q f [] h = tt
 each_node P Q f (TypeItem t ∷ items) h = each_node P Q f items h
 each_node P Q f (NodeItem n ∷ items) h = (f n h.0, each_node P Q f items h.1)

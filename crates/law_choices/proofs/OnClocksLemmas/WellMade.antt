@@ -45,10 +45,10 @@ use Rattle.law_wellmade.proofs.RegularLemmas.RegularLaws.{lowered}
 use Rattle.law_wellmade.specs.Spelled.Integers.{NodeShort}
 use Rattle.law_choices.specs.Closed.Closed.{IsClosed}
 use Rattle.law_choices.specs.Closed.Clocking.{HasClocks}
-use Rattle.law_choices.specs.Closed.Exclusive.{IsAlwaysExclusive}
+use Rattle.law_choices.specs.Closed.Exclusive.{IsParted}
 use Rattle.law_choices.proofs.ClosedLemmas.ClosedLaws.{each_other, each_both, NodeFilled, closed, in_range}
 use Rattle.law_choices.proofs.ClosedLemmas.Clocking.{fit_law}
-use Rattle.law_choices.proofs.ClosedLemmas.Exclusive.{exclusive_law}
+use Rattle.law_choices.proofs.ClosedLemmas.Exclusive.{is_exclusive, parted_law}
 use Rattle.law_choices.specs.OnClocks.WellMade.{calls_of, callees_of, MadeLaw, ReactionsLaw}
 use Rattle.law_choices.specs.Closed.Compilable.{HasTypesOf, IsCompilable}
 use Rattle.law_wellmade.proofs.BegunLemmas.Items.{each_plain, types_low, names_of_types}
@@ -154,7 +154,7 @@ pub record IsSound (types : List ObcType) (callees : Callees) (f : FlatNode) : T
 
 -- and that it reads nothing undefined, and defines nothing twice
 abbrev pub IsKnown : List ObcType → Callees → FlatNode → Type 0
-IsKnown types callees f = IsSound types callees f × (IsClosed f × IsAlwaysExclusive f)
+IsKnown types callees f = IsSound types callees f × (IsClosed f × IsParted f)
 
 -- so it is of each node of a ready program without its automata
 abbrev pub KnownLaw : Type 0
@@ -162,7 +162,7 @@ KnownLaw =
     (program after : List Item) → IsReady program after → IsRemovable after → TypesForm (obc_types_of program) → EachNode NodeShort after
     → (fs : List FlatNode) → AreMadeOf (known_of (lowered_program after)) (lowered_program after) fs → AllByRecursion (IsKnown (obc_types (types_of after)) (callees_of after)) fs
 
-well_made : (types : List ObcType) (callees : Callees) (f : FlatNode) → IsSound types callees f → (IsClosed f × IsAlwaysExclusive f) × HasClocks types f → IsWellMade types callees f
+well_made : (types : List ObcType) (callees : Callees) (f : FlatNode) → IsSound types callees f → (IsClosed f × IsParted f) × HasClocks types f → IsWellMade types callees f
 well_made types callees f s h =
     record {
       ranked = s.ranked;
@@ -170,7 +170,7 @@ well_made types callees f s h =
       targets_differ = s.targets_differ;
       values = s.values;
       kinds = s.kinds;
-      fit = λ now p. fit_law types f s.ranked h.0.0 h.0.1 h.1 now p;
+      fit = λ now p. fit_law types f s.ranked h.0.0 (λ then. is_exclusive then f.eqns h.0.1) h.1 now p;
     }
 
 module _ (P Q : FlatNode → Type 0) where
@@ -228,8 +228,8 @@ module _ (law : TargetsLaw) (program low : List Item) (t : HasTypesOf program lo
   pub compiled_known : AllByRecursion (IsKnown types (calls_of types k)) fs
   compiled_known =
       let outputs = (nodes (types_of low) filled (reverse low)).outputs in
-      let exclusive = exclusive_law (types_of low) outputs k low fs (compiled_knows program low t c) (constructors_differ program low t) (each_plain low c.whole) c.tested made in
-      pair_up (IsSound types (calls_of types k)) (λ f. IsClosed f × IsAlwaysExclusive f) fs compiled_sound (pair_up IsClosed IsAlwaysExclusive fs compiled_closed exclusive)
+      let parted = parted_law (types_of low) outputs k low fs (compiled_knows program low t c) (constructors_differ program low t) (each_plain low c.whole) c.tested made in
+      pair_up (IsSound types (calls_of types k)) (λ f. IsClosed f × IsParted f) fs compiled_sound (pair_up IsClosed IsParted fs compiled_closed parted)
 
 known_law : TargetsLaw → KnownLaw
 known_law law program after r ok form short fs made =

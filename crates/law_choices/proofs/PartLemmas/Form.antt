@@ -63,7 +63,7 @@ within_law r n m part w =
 
 -- ---- names
 
-fewer_hold : (P : List ℕ → Type 0) (vs ws : List Variable) → AreFewer vs ws → AllByRecursion P (names vs) → AllByRecursion P (names ws)
+pub fewer_hold : (P : List ℕ → Type 0) (vs ws : List Variable) → AreFewer vs ws → AllByRecursion P (names vs) → AllByRecursion P (names ws)
 fewer_hold P vs ws (AreFewer.no_element) h = tt
 fewer_hold P vs ws (AreFewer.kept_element v f) h = (h.0, fewer_hold P _ _ f h.1)
 fewer_hold P vs ws (AreFewer.left_element v f) h = fewer_hold P _ _ f h.1

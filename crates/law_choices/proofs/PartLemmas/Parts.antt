@@ -223,7 +223,7 @@ module _ (r : Renumbering) (n m : FlatNode) (part : IsPart r n m) where
   all_fit takes [] h = tt
   all_fit takes (now ∷ past) h = (fits takes now h.0, all_fit takes past h.1)
 
-  targets_above : (xs : List ℕ) → AreKept r xs → AllByRecursion (λ x. n.inputs ≤ x) xs → AllByRecursion (λ x. m.inputs ≤ x) (map r.number xs)
+  pub targets_above : (xs : List ℕ) → AreKept r xs → AllByRecursion (λ x. n.inputs ≤ x) xs → AllByRecursion (λ x. m.inputs ≤ x) (map r.number xs)
   targets_above [] k h = tt
   targets_above (x ∷ xs) k h = let inputs = part.inputs in let low = no_input x k.0 h.0 in (omega (arith, inputs, low), targets_above xs k.1 h.1)
 

@@ -83,7 +83,7 @@ module _ (r : Renumbering) (is : IsRenumbering r) where
   pub one-number : (x y : ℕ) → r.kept x ≡ true → r.kept y ≡ true → r.number y ≡ r.number x → y ≡ x
   one-number x y h k e = sym (is.back y k) ∙ ap r.old e ∙ is.back x h
 
-  same_test : (x y : ℕ) → r.kept x ≡ true → r.kept y ≡ true → nat_eq (r.number y) (r.number x) ≡ nat_eq y x
+  pub same_test : (x y : ℕ) → r.kept x ≡ true → r.kept y ≡ true → nat_eq (r.number y) (r.number x) ≡ nat_eq y x
   same_test x y h k = by (nat_eq y x) refl
     where
       equal : nat_eq y x ≡ true → y ≡ x

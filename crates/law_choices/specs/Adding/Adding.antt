@@ -8,13 +8,12 @@ use Rattle.hp_flat.specs.declared.node.Variable.{Variable}
 use Rattle.hp_flat.specs.Equations.{Clock, FlatEqn}
 use Rattle.hp_flat.specs.Nodes.{FlatNode}
 use Rattle.law_equations.specs.Meaning.Fitting.{operands}
-use Rattle.law_equations.specs.Meaning.Instants.{Instant}
 use Rattle.law_equations.specs.Meaning.Kinding.{Callees, EqnKinds, HasValue}
 use Rattle.law_equations.specs.Meaning.Scheduling.{EqnWithin, IsWithin, AreBelow, DefinesNoInput}
-use Rattle.law_equations.specs.Meaning.Solving.{IsExclusive, TargetsDiffer}
+use Rattle.law_equations.specs.Meaning.Solving.{TargetsDiffer}
 use Rattle.law_choices.specs.Closed.Closed.{IsTarget, IsClosed}
 use Rattle.law_choices.specs.Closed.Clocking.{IsFrontOf, IsDefinedOn, StepsStand, IsSplit, AreClocks}
-use Rattle.law_choices.specs.Closed.Exclusive.{IsAlwaysExclusive}
+use Rattle.law_choices.specs.Closed.Exclusive.{AreParted, IsParted}
 
 -- All that a well-made node has but an order of its equations, where its variables have these clocks.
 pub record IsWellBuilt (types : List ObcType) (callees : Callees) (clock : ℕ → Clock) (n : FlatNode) : Type 0 where
@@ -24,7 +23,7 @@ pub record IsWellBuilt (types : List ObcType) (callees : Callees) (clock : ℕ �
   pub values : AllByRecursion (λ (v : Variable). HasValue types v.ty) n.variables
   pub kinds : AllByRecursion (EqnKinds types callees n.variables) n.eqns
   pub closed : IsClosed n
-  pub exclusive : IsAlwaysExclusive n
+  pub parted : IsParted n
   pub clocks : AreClocks n types clock
 
 -- a variable that the added equations have to define: an input that the other node does not take, or a new one
@@ -53,4 +52,4 @@ pub record Adds (types : List ObcType) (callees : Callees) (n other : FlatNode) 
   pub differ : AllByRecursion (λ (e : FlatEqn). IsDistinct nat_eq e.targets) more
   pub values : AllByRecursion (λ (v : Variable). HasValue types v.ty) added
   pub kinds : AllByRecursion (EqnKinds types callees other.variables) more
-  pub exclusive : (now : Instant) → IsExclusive now more
+  pub parted : AreParted more

@@ -21,6 +21,7 @@ use Rattle.law_choices.specs.Adding.Lifts.{HaveBytes}
 use Rattle.law_choices.specs.Adding.Surveyed.{AllSuit}
 use Rattle.law_choices.specs.Adding.Watched.{HasBits}
 use Rattle.law_choices.specs.Adding.Whole.{IsWhole}
+use Rattle.law_choices.specs.Closed.Exclusive.{IsParted}
 
 -- What is asked of the clocked equations of a node of a tree: its own inputs, without the control variables, and its outputs are what it takes and gives, and each equation that is no copy defines variables of its own clock.
 pub record IsOfNode (types : List ObcType) (callees : Callees) (clock : ℕ → Clock) (node : Node) (n : FlatNode) : Type 0 where
@@ -42,4 +43,4 @@ ChoosingLaw =
     (types : List ObcType) (callees : Callees) (clock : ℕ → Clock) (observers : Observing) (node : Node) (is_early : List Bool) (n : FlatNode) (w : Watched) → HaveBytes types → IsOfNode types callees clock node n
     → AllSuit types callees observers → IsWatched types observers node is_early n w → (m : Machine) (name : List ℕ) (controls : List Control) (other : FlatNode) → IsControllable w.node m w.early controls → IsAskedFor callees m name
     → HaveControlKinds types n.variables (n.inputs - length controls) controls → IsWhole w.node m name w.early w.late controls other
-    → IsWellMade types callees other × IsWithin other × ((answers : Answers) → IsClosed answers (length controls) (record { plant = n; closed = other }))
+    → IsWellMade types callees other × IsWithin other × ((answers : Answers) → IsClosed answers (length controls) (record { plant = n; closed = other })) × IsParted other

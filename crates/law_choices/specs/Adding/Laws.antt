@@ -12,12 +12,12 @@ use Rattle.law_equations.specs.Meaning.Scheduling.{IsRanked}
 use Rattle.law_equations.specs.Shaped.Shaped.{NodeShape}
 use Rattle.law_choices.specs.Closed.Closed.{IsClosed}
 use Rattle.law_choices.specs.Closed.Clocking.{AreClocks, by_cases}
-use Rattle.law_choices.specs.Closed.Exclusive.{IsAlwaysExclusive}
+use Rattle.law_choices.specs.Closed.Exclusive.{IsParted}
 use Rattle.law_choices.specs.Adding.Adding.{IsWellBuilt, ClocksAgree, Adds}
 
 -- A node that has shape, is closed, defines nothing twice and has clocks is well built.
 abbrev pub BuiltLaw : Type 0
-BuiltLaw = (types : List ObcType) (callees : Callees) (clock : ℕ → Clock) (n : FlatNode) → NodeShape types callees n → IsClosed n → IsAlwaysExclusive n → AreClocks n types clock → IsWellBuilt types callees clock n
+BuiltLaw = (types : List ObcType) (callees : Callees) (clock : ℕ → Clock) (n : FlatNode) → NodeShape types callees n → IsClosed n → IsParted n → AreClocks n types clock → IsWellBuilt types callees clock n
 
 -- Where equations are added to one that is, it stays so.
 abbrev pub AddingLaw : Type 0

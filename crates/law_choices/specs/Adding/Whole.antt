@@ -17,6 +17,7 @@ use Rattle.law_choices.specs.Answered.Loops.{IsClosed}
 use Rattle.law_choices.specs.Adding.Controls.{IsThereAlways, IsAskedFor, HaveControlKinds}
 use Rattle.law_choices.specs.Adding.Keeping.{IsBased, Keeps}
 use Rattle.law_choices.specs.Adding.Placed.{IsPlaced}
+use Rattle.law_choices.specs.Closed.Exclusive.{IsParted}
 
 -- a variable is one of the machine's in the node that asks its controller: a register, a control bit or a gate
 abbrev pub IsBit : FlatNode → Machine → ℕ → Type 0
@@ -44,4 +45,4 @@ abbrev pub WholeLaw : Type 0
 WholeLaw =
     (types : List ObcType) (callees : Callees) (clock : ℕ → Clock) (plant n other : FlatNode) (m : Machine) (name early late : List ℕ) (controls : List Control) → IsBased types callees clock plant → (k : Keeps types callees clock plant n)
     → MayChoose types callees k.clocks n m name early late controls → IsWhole n m name early late controls other
-    → IsWellMade types callees other × IsWithin other × ((answers : Answers) → IsClosed answers (length controls) (record { plant = plant; closed = other }))
+    → IsWellMade types callees other × IsWithin other × ((answers : Answers) → IsClosed answers (length controls) (record { plant = plant; closed = other })) × IsParted other

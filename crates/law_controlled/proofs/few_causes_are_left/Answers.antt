@@ -18,19 +18,28 @@ returns c = remaining_law (record {
   sign = c.programs_of_texts_may_choose.ensures.sign;
   can = c.observers_can_be_compiled.ensures;
   tested = c.tests_of_observers_are_typed.ensures;
-  turn = record {
-    nodes = record {
-      watching = c.watched_nodes_choose.ensures.watched;
-      choosing = c.watched_nodes_choose.ensures.chooses;
-      ordered = c.equations_may_be_added.ensures.ordered;
-      itself = c.extended_nodes_close.ensures.itself;
-    };
-    called = c.callees_may_differ_elsewhere.ensures;
-    ready = c.made_nodes_may_be_added_to.ensures.made;
-    bytes = c.made_nodes_may_be_added_to.ensures.bytes;
-    targets = c.targets_differ.ensures;
-    calls = c.calls_are_kept.ensures;
-  };
   made = c.made_nodes_may_be_added_to.ensures.compiled;
   observer = c.well_built_observers_suit.ensures;
+  nodes = c.nodes_are_made.ensures;
+  formed = record {
+    turn = record {
+      nodes = record {
+        watching = c.watched_nodes_choose.ensures.watched;
+        choosing = c.watched_nodes_choose.ensures.chooses;
+        ordered = c.equations_may_be_added.ensures.ordered;
+        itself = c.extended_nodes_close.ensures.itself;
+      };
+      called = c.callees_may_differ_elsewhere.ensures;
+      ready = c.made_nodes_may_be_added_to.ensures.made;
+      bytes = c.made_nodes_may_be_added_to.ensures.bytes;
+      targets = c.targets_differ.ensures;
+      calls = c.calls_are_kept.ensures;
+    };
+    observers = c.observers_suit.ensures;
+    names = c.names_of_what_is_made_differ.ensures.made;
+    kept = c.shape_is_kept.ensures;
+    file = c.machines_have_form.ensures.program;
+  };
+  lettered = c.machines_are_spelled.ensures.names;
+  clocks = c.clocks_of_texts_are_short.ensures;
 })
