@@ -144,7 +144,7 @@ range-types all front (v ∷ vs) rest e =
     ap₂ (λ t ts. t ∷ ts) (ap (λ us. type_of (slice_get us (length front))) e ∙ ap type_of (at front))
     (ap (λ k. map (λ x. type_of (slice_get all x)) (range_with_len k (length vs))) (sym l) ∙ range-types all (front ++ v ∷ []) vs rest (e ∙ sym (append_assoc front (v ∷ []) (vs ++ rest))))
   where
-    at : (us : List Variable) → slice_get (us ++ (v ∷ vs) ++ rest) (length us) ≡ Some v
+    at : (us : List Variable) → slice_get (us ++ ((v ∷ vs) ++ rest)) (length us) ≡ Some v
     at [] = refl
     at (u ∷ us) = at us
 
