@@ -1,6 +1,6 @@
 -- The types of the free places that are surveyed of a node are those of the slots of its contract's machine.
-use Rattle.std.proofs.Common.{◌≡◌, ◌⊎◌, inl, inr, ℕ, zero, suc, ◌+◌, ◌≤◌, Bool, true, false, ◌||◌, if◌then◌else◌, List, [], ◌∷◌, ◌++◌, length, map, reverse, slice_get, take, drop, Option, None, Some, refl, sym, ap, ap₂, subst, ◌∙◌, arith}
-use Rattle.std.specs.Prelude.{IsFalse, IsTrue, is_some, option_map}
+use Rattle.std.proofs.Common.{◌≡◌, ◌⊎◌, inl, inr, ℕ, zero, suc, ◌+◌, ◌≤◌, Bool, true, false, ◌||◌, if◌then◌else◌, List, [], ◌∷◌, ◌++◌, length, map, reverse, slice_get, drop, Option, None, Some, refl, sym, ap, ap₂, subst, ◌∙◌, arith}
+use Rattle.std.specs.Prelude.{IsTrue, is_some, option_map}
 use Rattle.std.specs.List.{flat_map, range_with_len}
 use Rattle.std.specs.Str.{bytes_eq}
 use Rattle.std.proofs.lemmas.List.{append_assoc, length-append, length-map, map-append, reverse-append, reverse-reverse, take-append-drop}
@@ -14,7 +14,7 @@ use Rattle.hp_flat.specs.declared.node.Variable.{Variable}
 use Rattle.hp_flat.specs.Nodes.{FlatNode}
 use Rattle.hp_tree.specs.Blocks.{Decl}
 use Rattle.hp_tree.specs.ExpressionTypes.{typed_in, untyped}
-use Rattle.hp_tree.specs.Instant.{Body, Controls, Head, Inputs, Instance, Place, Tail}
+use Rattle.hp_tree.specs.Instant.{Body, Controls, Inputs, Instance, Place, Tail}
 use Rattle.hp_tree.specs.Meaning.{controls_of, node_among, types_of}
 use Rattle.hp_tree.specs.Programs.{Contract, Node, TypeDecl}
 use Rattle.hp_tree.specs.declared.program.Item.{Item}
@@ -144,7 +144,7 @@ range-types all front (v ∷ vs) rest e =
     ap₂ (λ t ts. t ∷ ts) (ap (λ us. type_of (slice_get us (length front))) e ∙ ap type_of (at front))
     (ap (λ k. map (λ x. type_of (slice_get all x)) (range_with_len k (length vs))) (sym l) ∙ range-types all (front ++ v ∷ []) vs rest (e ∙ sym (append_assoc front (v ∷ []) (vs ++ rest))))
   where
-    at : (us : List Variable) → slice_get (us ++ (v ∷ vs) ++ rest) (length us) ≡ Some v
+    at : (us : List Variable) → slice_get (us ++ ((v ∷ vs) ++ rest)) (length us) ≡ Some v
     at [] = refl
     at (u ∷ us) = at us
 

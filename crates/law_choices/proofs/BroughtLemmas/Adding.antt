@@ -12,13 +12,12 @@ use Rattle.hp_flat.specs.declared.node.FlatTy.{FlatTy}
 use Rattle.hp_flat.specs.declared.node.FlatTy.TheVariants as flat
 use Rattle.hp_flat.specs.Equations.{FlatEqn, Right}
 use Rattle.law_automata.specs.Lowered.Standing.{Along}
-use Rattle.law_equations.specs.Made.Making.{outputs_of, Known, Sketch, Site, Sight, Layer, Seen, Made, Standing, Body, Inner, next, new_name, with_variable, with_new, with_eqn, tested, merged_variable, type_at, bind, bind_all, bind_outputs, link_all, output_left, others, given_by, first_output, keeps_name, own_name, own_names, with_own, own_variable, over, new_variable, remember, remember_all, enter_path, on_site, cons_number, flat_type, signed}
-use Rattle.law_wellmade.proofs.BegunLemmas.Keeping.{HasType, Keeps, both, moved, read_keeps}
+use Rattle.law_equations.specs.Made.Making.{outputs_of, Known, Sketch, Site, Sight, Layer, Seen, Made, Standing, Body, Inner, next, new_name, with_variable, with_eqn, tested, merged_variable, type_at, bind, bind_all, bind_outputs, link_all, output_left, others, given_by, first_output, keeps_name, own_name, own_names, with_own, over, new_variable, remember, remember_all, enter_path, on_site, cons_number, flat_type, signed}
+use Rattle.law_wellmade.proofs.BegunLemmas.Keeping.{Keeps, both, moved, read_keeps}
 use Rattle.law_wellmade.proofs.RegularLemmas.Expressions.{outputs_moved}
 use Rattle.hp_watch.specs.Walk.{is_event}
-use Rattle.law_choices.proofs.BroughtLemmas.Brought.{Brings, Calls, Compares}
+use Rattle.law_choices.proofs.BroughtLemmas.Brought.{Brings}
 use Rattle.law_choices.specs.Places.Laws.{IsEventOf, events}
-use Rattle.law_choices.specs.Places.Spots.{Spot}
 use Rattle.law_choices.proofs.PlacesLemmas.Adding.{Adds, adds-bind-all, adds-bind-outputs, adds-lasts, adds-links, adds-names, adds-path, adds-signed, events-append}
 use Rattle.law_choices.proofs.PlacesLemmas.Relating.{along-both}
 

@@ -1,5 +1,5 @@
 -- Where nothing is called, it does not matter what calls bring; and what is so of equations in one order is so in another.
-use Rattle.std.proofs.Common.{◌≡◌, ℕ, Bool, true, false, if◌then◌else◌, List, [], ◌∷◌, ◌++◌, map, Option, None, Some, inl, inr, refl, sym, ap, ap₂, subst, ◌∙◌}
+use Rattle.std.proofs.Common.{◌≡◌, ℕ, Bool, true, false, if◌then◌else◌, List, [], ◌∷◌, ◌++◌, map, Option, None, Some, inl, inr, refl, ap, ap₂, ◌∙◌}
 use Rattle.hp_base.specs.declared.ty.Ty.{Ty}
 use Rattle.hp_flat.specs.Equations.{FlatEqn}
 use Rattle.hp_tree.specs.Blocks.{Block, block, Eqns, no_eqn, more_eqns, Eqn, define, switch, reset, automaton, Arms, no_arm, more_arms}

@@ -16,11 +16,9 @@ use Rattle.law_values.specs.Valued.Judged.{Lasts, ArmsSound, BlockSound, EqnSoun
 use Rattle.law_values.proofs.ValuedLemmas.Typed.{row_typed}
 use Rattle.law_automata.specs.Lowered.Standing.{Along}
 use Rattle.law_equations.specs.Flattened.Flatten.{is_false}
-use Rattle.law_equations.specs.Made.Laws.{around_body}
 use Rattle.law_equations.specs.Made.Making.{Known, Sketch, Site, Sight, Standing, Body, Inner, base_site, bind_all, bind_outputs, block_layer, called_at, cons_number, declared, each_once, enter_path, hidden, in_block, is_in, link_all, names_of_arms, names_of_block, names_of_eqns, no_entry, nothing_made, on_site, or_entry, outputs_of, over, own_names, path_for, remember_all, restart_site, signed, sketch_arms, sketch_block, sketch_eqn, sketch_eqns, sketch_expr, sketch_exprs, sketch_node, sketch_right, unknown, with_flag}
 use Rattle.law_wellmade.proofs.BegunLemmas.BlockRegisters.{around_sees, declared_types, grounded_more, layer_sees}
 use Rattle.law_wellmade.proofs.BegunLemmas.Typing.{Grounded, SeesTypes, args_have}
-use Rattle.hp_watch.specs.Walk.{is_event}
 use Rattle.law_choices.proofs.BroughtLemmas.Brought.{Brings, brought, brought_in_all, brought_in_arms, brought_in_block, brought_in_eqn, brought_in_eqns}
 use Rattle.law_choices.specs.Places.Laws.{events}
 use Rattle.law_choices.proofs.BroughtLemmas.Adding.{Adding, adding-as, adding-bind-all, adding-bind-outputs, adding-lasts, adding-links, adding-names, adding-none, adding-path, adding-signed, adding-two, brought-as, keeps-same}

@@ -1,6 +1,5 @@
 -- A walk over a contract finds, beside its observer, what its comparisons bring, in the order of slots.
-use Rattle.std.proofs.Common.{◌≡◌, ◌⊎◌, ⊎_elim, ℕ, ◌+◌, Bool, true, false, List, [], ◌∷◌, ◌++◌, Option, None, Some, refl, sym, ap, ap₂, subst, ◌∙◌}
-use Rattle.std.specs.Prelude.{IsTrue}
+use Rattle.std.proofs.Common.{◌≡◌, ◌⊎◌, ⊎_elim, ℕ, ◌+◌, Bool, false, List, [], ◌∷◌, ◌++◌, Option, None, Some, refl, sym, ap, subst, ◌∙◌}
 use Rattle.std.proofs.lemmas.List.{append_assoc, append-nil}
 use Rattle.hp_base.specs.declared.span.Span.{Span}
 use Rattle.hp_base.specs.declared.ty.Const.{Const}
@@ -16,14 +15,13 @@ use Rattle.hp_tree.specs.Meaning.{declares}
 use Rattle.hp_tree.specs.Programs.{Contract, Node, TypeDecl}
 use Rattle.hp_typing.specs.Scopes.{inside, inside_node, with_variables}
 use Rattle.hp_meaning.specs.Contract.Slots.{Slot, slots, slots_of_block, slots_of_contract, slots_of_equations}
-use Rattle.law_judged.specs.Named.Scoped.{BlockScoped, NodeScoped, also, interface, no_names}
+use Rattle.law_judged.specs.Named.Scoped.{BlockScoped, NodeScoped, also, interface, no_names, ContractScoped}
 use Rattle.law_judged.specs.Replaced.Fitting.{BlockNames, ContractNames}
 use Rattle.law_judged.specs.Typed.Scopes.{Scope}
-use Rattle.law_judged.specs.Named.Scoped.{ContractScoped}
 use Rattle.law_judged.proofs.NamedLemmas.Sets.{or_cases}
 use Rattle.law_values.specs.Valued.Judged.{BlockSound, ConstantIs, ContractSound, EqnsSound, Lasts, NodeSound, TestSound, ToldSound, lasts_in, lasts_of, no_lasts}
-use Rattle.hp_automata.specs.Lowering.{Enumerations, Types, all_kept, declaring, lowered_body_of, lowered_eqn, lowered_eqns, lowered_node, same_name, types_of}
-use Rattle.hp_automata.specs.Renaming.{renamed, renamed_decls}
+use Rattle.hp_automata.specs.Lowering.{Enumerations, Types, declaring, lowered_body_of, lowered_eqn, lowered_eqns, lowered_node, same_name, types_of}
+use Rattle.hp_automata.specs.Renaming.{renamed}
 use Rattle.law_automata.specs.Lowered.Removable.{BlockOk, ContractOk, NodeOk, none_known}
 use Rattle.law_automata.specs.Readied.Constants.{BlockTypes, EqnsTypes, HasConstant, NodeTypes}
 use Rattle.law_automata.specs.Readied.Sound.{AroundOld}

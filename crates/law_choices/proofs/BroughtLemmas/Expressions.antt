@@ -10,7 +10,7 @@ use Rattle.hp_tree.specs.declared.expr.Op2.{Op2}
 use Rattle.hp_tree.specs.declared.expr.Op2.TheVariants as op
 use Rattle.hp_tree.specs.Blocks.{Decl}
 use Rattle.hp_tree.specs.Expressions.{Expr, constant, variable, last_of, one, two, choose, pre, fby, arrow, when_is, merge, call, Exprs, no_expr, more_exprs, Parts, no_part, more_parts}
-use Rattle.hp_typing.specs.Types.{type_of, type_of_one, types_in, merge_type}
+use Rattle.hp_typing.specs.Types.{type_of, type_of_one, types_in}
 use Rattle.hp_flat.specs.declared.equation.Atom.{Atom}
 use Rattle.hp_flat.specs.declared.equation.Atom.TheVariants.{Variable}
 use Rattle.hp_flat.specs.declared.node.FlatTy.TheVariants as flat
@@ -19,10 +19,10 @@ use Rattle.hp_flat.specs.Equations.{Right, operator, register, called as call_of
 use Rattle.law_judged.specs.Typed.Scopes.{Scope}
 use Rattle.law_values.proofs.ValuedLemmas.Typed.{PartsHave, call_typed, if_typed, merge_typed, one_typed, pair_typed, two_typed, when_typed}
 use Rattle.law_equations.specs.Flattened.Flatten.{constant_in, is_false, obc_one, obc_two}
-use Rattle.law_equations.specs.Made.Making.{Known, Sketch, Site, Sight, Made, next, with_new, with_outputs, value_of, type_of_value, constant_value, type_one, type_two, type_at, first_value, mux_at, register_at, flag_at, fby_at, arrow_at, by_constant, tested, or_new, part_at, merged_variable, on_site, off_site, cons_number, flat_type, outputs_of, numbers_from, called_at, first_output, copy_of, atom_of, sketch_expr, sketch_parts, sketch_exprs}
-use Rattle.law_wellmade.proofs.BegunLemmas.Keeping.{HasType, Keeps, both, expr_keeps, flag_keeps, moved, outputs_keep, part_keeps, value_keeps, value_typed}
+use Rattle.law_equations.specs.Made.Making.{Known, Sketch, Site, Sight, Made, next, with_new, with_outputs, value_of, type_of_value, constant_value, type_one, type_two, type_at, first_value, register_at, flag_at, fby_at, by_constant, tested, or_new, part_at, merged_variable, on_site, off_site, cons_number, flat_type, outputs_of, numbers_from, called_at, first_output, copy_of, atom_of, sketch_expr, sketch_parts, sketch_exprs}
+use Rattle.law_wellmade.proofs.BegunLemmas.Keeping.{HasType, expr_keeps, flag_keeps, moved, outputs_keep, part_keeps, value_keeps, value_typed}
 use Rattle.law_wellmade.proofs.BegunLemmas.Typing.{ExprsHave, Grounded, SeesTypes, args_have, typed}
-use Rattle.law_wellmade.proofs.RegularLemmas.Expressions.{Outputs, called_typed}
+use Rattle.law_wellmade.proofs.RegularLemmas.Expressions.{called_typed}
 use Rattle.hp_watch.specs.Walk.{compares, is_event}
 use Rattle.law_choices.proofs.BroughtLemmas.Brought.{brought, brought_by, brought_in_all, brought_in_parts, of_compared}
 use Rattle.law_choices.proofs.BroughtLemmas.Adding.{Adding, adding-event, adding-more, adding-none, adding-two, brought-as, keeps-first, keeps-merged, keeps-same, keeps-tested, quiet}

@@ -1,12 +1,11 @@
 -- Of a ready program: what the observers of its contracts bring, and what the bodies of its nodes bring.
-use Rattle.std.proofs.Common.{◌≡◌, ⊎_elim, ℕ, Bool, true, false, if◌then◌else◌, List, [], ◌∷◌, ◌++◌, length, map, reverse, Option, None, Some, refl, sym, ap, ap₂, subst, ◌∙◌}
-use Rattle.std.specs.Prelude.{IsTrue, option_map}
-use Rattle.std.specs.List.{flat_map}
+use Rattle.std.proofs.Common.{◌≡◌, ⊎_elim, ℕ, false, List, [], ◌∷◌, ◌++◌, map, reverse, Option, None, Some, refl, sym, ap, subst, ◌∙◌}
+use Rattle.std.specs.Prelude.{option_map}
 use Rattle.std.proofs.lemmas.Grind.{flat_map-append}
-use Rattle.std.proofs.lemmas.List.{append-nil, append_assoc, map-append}
+use Rattle.std.proofs.lemmas.List.{append-nil, map-append}
 use Rattle.hp_base.specs.declared.ty.Const.{Const}
 use Rattle.hp_base.specs.declared.ty.Ty.{Ty}
-use Rattle.hp_base.specs.Known.Known.{lookup, with_entry}
+use Rattle.hp_base.specs.Known.Known.{lookup}
 use Rattle.hp_obc.specs.Form.{TypesForm}
 use Rattle.hp_flat.specs.Nodes.{FlatNode}
 use Rattle.hp_tree.specs.Blocks.{Decl}
@@ -16,7 +15,7 @@ use Rattle.hp_tree.specs.Meaning.{controls_of, declares, node_among, types_of}
 use Rattle.hp_tree.specs.Programs.{Contract, Node, TypeDecl}
 use Rattle.hp_tree.specs.declared.program.Item.{Item}
 use Rattle.hp_tree.specs.declared.program.Item.TheVariants.{NodeItem, TypeItem}
-use Rattle.hp_typing.specs.Scopes.{inside_node, with_constructors, with_type, with_variables}
+use Rattle.hp_typing.specs.Scopes.{inside_node, with_type, with_variables}
 use Rattle.hp_expand.specs.Numbering.{replaced}
 use Rattle.hp_meaning.specs.Contract.Forgetting.{ContractsCallNothing}
 use Rattle.hp_meaning.specs.Contract.Slots.{Slot, slots_of_block, slots_of_contract}
@@ -69,7 +68,6 @@ use Rattle.law_choices.proofs.BroughtLemmas.Blocks.{node-brings}
 use Rattle.law_choices.proofs.BroughtLemmas.Brought.{Brings, brought_in_block, free_types, joined_types}
 use Rattle.law_choices.proofs.BroughtLemmas.Contracts.{contract-sees, low-ok}
 use Rattle.law_choices.proofs.BroughtLemmas.Placed.{AreIn, outputs-shown, own-types, types_in}
-use Rattle.law_choices.proofs.BroughtLemmas.Seen.{Sees}
 use Rattle.law_choices.proofs.BroughtLemmas.Walks.{Judging, block-sees}
 use Rattle.law_choices.proofs.FlatLemmas.Among.{each_at}
 use Rattle.law_choices.proofs.ObservedLemmas.Apart.{observers_apart}

@@ -1,7 +1,7 @@
 -- A walk over an expression finds what its comparisons and calls bring, in the order of slots.
-use Rattle.std.proofs.Common.{◌≡◌, ℕ, Bool, true, false, if◌then◌else◌, List, [], ◌∷◌, ◌++◌, map, Option, None, Some, refl, sym, ap, ap₂, subst, ◌∙◌}
+use Rattle.std.proofs.Common.{◌≡◌, ℕ, Bool, true, false, if◌then◌else◌, List, [], ◌∷◌, ◌++◌, Option, Some, refl, sym, ap, ap₂, ◌∙◌}
 use Rattle.std.specs.Prelude.{◌&&◌}
-use Rattle.std.proofs.lemmas.List.{append_assoc, append-nil}
+use Rattle.std.proofs.lemmas.List.{append_assoc}
 use Rattle.hp_base.specs.declared.span.Span.{Span}
 use Rattle.hp_base.specs.declared.ty.Ty.{Ty}
 use Rattle.hp_base.specs.declared.ty.Ty.TheVariants as ty
@@ -13,8 +13,8 @@ use Rattle.hp_tree.specs.ExpressionTypes as tree
 use Rattle.hp_tree.specs.Instant.{Args, First, Head, Instance, Second, Tail, Third}
 use Rattle.hp_tree.specs.Operators.{is_comparison}
 use Rattle.hp_tree.specs.Programs.{Node, TypeDecl}
-use Rattle.hp_typing.specs.Types.{merge_type, type_of, type_of_one, types_in}
-use Rattle.hp_meaning.specs.Contract.Slots.{FreePlace, Slot, control, free, free_among, input, is_int, register, slots, slots_of_all, slots_of_parts}
+use Rattle.hp_typing.specs.Types.{type_of, type_of_one, types_in}
+use Rattle.hp_meaning.specs.Contract.Slots.{Slot, control, free, input, is_int, register, slots, slots_of_all, slots_of_parts}
 use Rattle.law_judged.specs.Typed.Scopes.{Scope}
 use Rattle.law_values.specs.Valued.Judged.{ExprSound, ExprsSound, Lasts, PartsSound, no_lasts}
 use Rattle.law_values.proofs.AcceptedLemmas.Keeps.{Grows, KeptName}

@@ -1,5 +1,5 @@
 -- A walk over a block finds what its comparisons and calls bring without automata, in the order of slots.
-use Rattle.std.proofs.Common.{◌≡◌, ◌⊎◌, ℕ, ◌+◌, ◌<◌, ◌≤◌, Bool, true, false, List, [], ◌∷◌, ◌++◌, length, Option, None, Some, refl, sym, ap, ap₂, subst, ◌∙◌, arith}
+use Rattle.std.proofs.Common.{◌≡◌, ◌⊎◌, ℕ, ◌+◌, ◌<◌, ◌≤◌, Bool, true, false, List, [], ◌∷◌, ◌++◌, length, Option, None, Some, refl, sym, ap, ap₂, ◌∙◌, arith}
 use Rattle.std.specs.Prelude.{IsTrue, drop}
 use Rattle.std.proofs.lemmas.List.{append-nil}
 use Rattle.hp_base.specs.declared.span.Span.{Span}
@@ -8,7 +8,7 @@ use Rattle.hp_base.specs.declared.ty.Ty.{Ty}
 use Rattle.hp_base.specs.declared.ty.Ty.TheVariants as ty
 use Rattle.hp_base.specs.Known.Known.{lookup, with_entry}
 use Rattle.hp_tree.specs.declared.block.Trans.{Trans}
-use Rattle.hp_tree.specs.Blocks.{Decl, Block, block, Eqns, no_eqn, more_eqns, Eqn, define, switch, reset, automaton, Arms, no_arm, more_arms, States, no_state, more_states, eqns_of}
+use Rattle.hp_tree.specs.Blocks.{Decl, Block, block, Eqns, no_eqn, more_eqns, Eqn, define, switch, reset, automaton, Arms, no_arm, more_arms, States, no_state, more_states}
 use Rattle.hp_tree.specs.Expressions.{Expr, constant, variable, last_of, one, two, choose, pre, fby, arrow, when_is, merge, call}
 use Rattle.hp_tree.specs.ExpressionTypes as tree
 use Rattle.hp_tree.specs.ExpressionTypes.{typed_in}
@@ -44,7 +44,7 @@ use Rattle.law_drawing.proofs.InshapeLemmas.TypesRead.{Agrees, agrees_inside, ow
 use Rattle.law_equations.specs.Flattened.Flatten.{Prefix, below}
 use Rattle.law_wellmade.proofs.BegunLemmas.Typing.{args_have}
 use Rattle.hp_watch.specs.Walk.{Walked, behind, walk, walk_arms, walk_block, walk_conditions, walk_eqn, walk_eqns, walk_states}
-use Rattle.law_choices.proofs.BroughtLemmas.Brought.{brought, brought_in_arms, brought_in_block, brought_in_eqn, brought_in_eqns, free_types, joined_types}
+use Rattle.law_choices.proofs.BroughtLemmas.Brought.{brought, brought_in_arms, brought_in_block, brought_in_eqn, free_types}
 use Rattle.law_choices.proofs.BroughtLemmas.Rows.{R, body-rows, chosen-none, frame-none, idle-none, kept-none, rows-append, state-rows}
 use Rattle.law_choices.proofs.BroughtLemmas.Seen.{Knows, Reading, Sees, call-sees, expr-sees, free-append, joined-append, sees-as, sees-at, sees-before, sees-nothing, sees-two}
 use Rattle.law_choices.proofs.PlacesLemmas.Slots.{lasts_slots, outputs_slots}

@@ -1,13 +1,12 @@
 -- How many bits of free places are watched.
 use Rattle.std.proofs.Common.{◌≡◌, ◌⊎◌, inl, inr, ℕ, zero, suc, ◌+◌, ◌<◌, ◌≤◌, min, Bool, true, false, if◌then◌else◌, List, [], ◌∷◌, ◌++◌, length, map, slice_get, Option, None, Some, refl, sym, ap, ap₂, ◌∙◌, arith}
-use Rattle.std.specs.Prelude.{All, sum}
+use Rattle.std.specs.Prelude.{All, sum, option_map}
 use Rattle.std.specs.List.{range_with_len}
 use Rattle.std.specs.Str.{bytes_eq}
 use Rattle.std.proofs.lemmas.List.{append_assoc, append-nil, length-append, length-map}
 use Rattle.std.proofs.lemmas.List.Elements.{All-head, All-tail}
 use Rattle.std.proofs.lemmas.List.Sums.{sum_by-cons}
 use Rattle.std.proofs.lemmas.Option.{slice_get-map}
-use Rattle.std.specs.Prelude.{option_map}
 use Rattle.hp_base.specs.declared.ty.Ty.{Ty}
 use Rattle.hp_base.specs.declared.ty.Ty.TheVariants as ty
 use Rattle.hp_base.specs.declared.value.Value.TheVariants.{B}
@@ -27,11 +26,11 @@ use Rattle.hp_tree.specs.Programs.{TypeDecl}
 use Rattle.hp_tree.specs.Values.{constructors_of}
 use Rattle.hp_tables.specs.Declarations.Tables.{numbered}
 use Rattle.hp_meaning.specs.Contract.Slots as slots
-use Rattle.hp_meaning.specs.Contract.Slots.{Slot, control, free, free_among, input, register, shape_of}
+use Rattle.hp_meaning.specs.Contract.Slots.{Slot, control, free, input, register, shape_of}
 use Rattle.hp_watch.specs.declared.watching.Free.{Free}
 use Rattle.hp_watch.specs.Adding.{added_variable, next_variable, operator_eqn, type_at, type_of, with_eqn, with_operator, with_variable}
-use Rattle.hp_watch.specs.Lifting.{Spelled, Valued, case_eqn, constructors, count_of, either, has_bit, lifted, width_of, with_bit, with_bits, with_cases, with_code, with_each, with_either, with_spelling, with_step, with_test}
-use Rattle.hp_watch.specs.Watching.{Watched, clock_of, spelled_place, with_place, with_places}
+use Rattle.hp_watch.specs.Lifting.{Valued, case_eqn, constructors, count_of, either, has_bit, lifted, width_of, with_bit, with_bits, with_code, with_each, with_either, with_spelling, with_step, with_test}
+use Rattle.hp_watch.specs.Watching.{Watched, clock_of, spelled_place, with_places}
 use Rattle.law_equations.specs.Made.Making.{flat_type, type_number}
 use Rattle.law_equations.specs.Made.Types.{obc_type_of, obc_types}
 use Rattle.law_games.specs.Mirror.Mirrored.{early_among, late_among, widths_at}
