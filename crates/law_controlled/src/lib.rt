@@ -202,7 +202,7 @@ pub fn programs_that_choose_have_one_list_of_machines()
     contracts_of_texts_can_be_observed();
 }
 
-/// Where the contracts of the program of an accepted text are kept, few causes are left for which the compiler would have no machines of it: clocked equations of its nodes, and of the observers of contracts, read each other in no circle; those of nodes, and of all that is made of them, are regular, each contract has as many comparisons as its clocked equations, names are short, no machine is refused or forced to violate its contract, each controllable variable has the bits of its type, and machines have form, where what is made of nodes is known to fit them.
+/// Where the contracts of the program of an accepted text are kept, few causes are left for which the compiler would have no machines of it: clocked equations of its nodes, and of the observers of contracts, read each other in no circle; those of nodes, and of all that is made of them, are regular, each contract has as many comparisons as its clocked equations, names are short, no machine is refused or forced to violate its contract, each controllable variable has the bits of its type, and machines have form.
 pub fn few_causes_are_left()
     ensures { RemainingLaw }
 {
