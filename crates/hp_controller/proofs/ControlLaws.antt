@@ -28,7 +28,7 @@ use Rattle.hp_controller.specs.Controlling.{IsOperator, IsController}
 use Rattle.hp_controller.specs.Laws.{bit_at}
 use Rattle.hp_controller.proofs.ControllerLaws.{gives}
 use Rattle.hp_controller.proofs.MovedLaws.{lines_moved, back_moved}
-use Rattle.hp_controller.proofs.WellMadeLaws.{outputs_long, well_made, within}
+use Rattle.hp_controller.proofs.WellMadeLaws.{always, exclusive, outputs_behind, outputs_differ, outputs_long, well_made, within}
 
 -- ---- bits
 
@@ -88,6 +88,10 @@ controls m vars layout placed t funs name at_places numbers are have back named 
       ∙ ap length (have v ∙ sym (functions-mapped t funs v))
       ∙ choice.len;
   within = within name (m.registers + m.early) (map (moved (variable layout)) at_places) numbers;
+  outputs_behind = outputs_behind name (m.registers + m.early) (map (moved (variable layout)) at_places) numbers;
+  outputs_differ = outputs_differ name (m.registers + m.early) (map (moved (variable layout)) at_places) numbers;
+  always = always name (m.registers + m.early) (map (moved (variable layout)) at_places) numbers;
+  exclusive = exclusive name (m.registers + m.early) (map (moved (variable layout)) at_places) numbers;
   stateless = lines_stateless (m.registers + m.early) 0 (map (moved (variable layout)) at_places) (output_eqns (m.registers + m.early) (length (map (moved (variable layout)) at_places)) (length (map (moved (variable layout)) at_places)) numbers) (outputs_stateless (m.registers + m.early) (length (map (moved (variable layout)) at_places)) (length (map (moved (variable layout)) at_places)) numbers);
   well_made = λ types callees. well_made types callees name (m.registers + m.early) (map (moved (variable layout)) at_places) numbers;
   gives = λ answers past r u now lr lu goes.

@@ -254,6 +254,34 @@ well_made types callees name inputs lines numbers =
       fit = fits types callees name inputs lines numbers;
     }
 
+-- ---- its outputs and equations
+
+range_behind : (bound from count : ℕ) → bound ≤ from → AllByRecursion (λ x. bound ≤ x) (range_with_len from count)
+range_behind bound from zero l = tt
+range_behind bound from (suc n) l = (l, range_behind bound (from + 1) n (omega (arith, l)))
+
+range_other : (x from count : ℕ) → x < from → AllByRecursion (λ y. nat_eq x y ≡ false) (range_with_len from count)
+range_other x from zero l = tt
+range_other x from (suc n) l = (grind (arith, nat_tests, l), range_other x (from + 1) n (omega (arith, l)))
+
+range_differ : (from count : ℕ) → IsDistinct nat_eq (range_with_len from count)
+unfolding IsDistinct
+range_differ from zero = tt
+range_differ from (suc n) = (range_other from (from + 1) n (omega arith), range_differ (from + 1) n)
+
+module _ (name : List ℕ) (inputs : ℕ) (lines : List Line) (numbers : List ℕ) where
+  pub outputs_behind : AllByRecursion (λ x. inputs ≤ x) (node_of_lines name inputs lines numbers).outputs
+  outputs_behind = range_behind inputs (inputs + length lines) (length numbers) (omega arith)
+
+  pub outputs_differ : IsDistinct nat_eq (node_of_lines name inputs lines numbers).outputs
+  outputs_differ = range_differ (inputs + length lines) (length numbers)
+
+  pub always : AllByRecursion (λ (e : FlatEqn). e.clock ≡ []) (node_of_lines name inputs lines numbers).eqns
+  always = each_of inputs (λ e. e.clock ≡ []) 0 (node_of_lines name inputs lines numbers).eqns (λ i op args l u bits k. refl) (all_give inputs lines numbers)
+
+  pub exclusive : (now : Instant) → IsExclusive now (node_of_lines name inputs lines numbers).eqns
+  exclusive now = exclusive_from inputs now 0 (node_of_lines name inputs lines numbers).eqns (all_give inputs lines numbers)
+
 -- ---- its numbers are those of its variables
 
 range_long : (from count : ℕ) → length (range_with_len from count) ≡ count

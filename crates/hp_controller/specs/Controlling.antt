@@ -1,6 +1,6 @@
 -- The controller of a Boolean machine.
-use Rattle.std.specs.Prelude.{◌≡◌, ⊤, ◌+◌, ◌≤◌, ◌^◌, List, ◌++◌, length, map, codes}
-use Rattle.std.specs.List.{AllByRecursion, range_with_len}
+use Rattle.std.specs.Prelude.{◌≡◌, ⊤, ◌+◌, ◌≤◌, ◌^◌, nat_eq, List, [], ◌++◌, length, map, codes}
+use Rattle.std.specs.List.{AllByRecursion, IsDistinct, range_with_len}
 use Rattle.hp_base.specs.declared.value.Value.TheVariants.{B}
 use Rattle.hp_boolx.specs.Machine.{Machine, game}
 use Rattle.hp_boolx.specs.Search.{Bits}
@@ -14,6 +14,7 @@ use Rattle.law_equations.specs.Meaning.Instants.{Instant}
 use Rattle.law_equations.specs.Meaning.Reactions.{Answers, Continues, outputs_at}
 use Rattle.law_equations.specs.Meaning.Kinding.{Callees, IsWellMade}
 use Rattle.law_equations.specs.Meaning.Scheduling.{IsWithin}
+use Rattle.law_equations.specs.Meaning.Solving.{IsExclusive}
 use Rattle.hp_controller.specs.Controllers.{bit_variable}
 
 -- an operator, which remembers nothing and asks no node
@@ -32,6 +33,12 @@ pub record IsController (m : Machine) (node : FlatNode) : Type 0 where
   pub inputs : node.inputs ≡ m.registers + m.early
   pub outputs : length node.outputs ≡ length m.prefer
   pub within : IsWithin node
+  -- its outputs are no inputs, and each stands once
+  pub outputs_behind : AllByRecursion (λ x. node.inputs ≤ x) node.outputs
+  pub outputs_differ : IsDistinct nat_eq node.outputs
+  -- each equation is there always, and no two define one variable
+  pub always : AllByRecursion (λ (e : FlatEqn). e.clock ≡ []) node.eqns
+  pub exclusive : (now : Instant) → IsExclusive now node.eqns
   pub stateless : AllByRecursion (λ (e : FlatEqn). IsOperator e.right) node.eqns
   pub well_made : (types : List ObcType) (callees : Callees) → IsWellMade types callees node
   pub gives : (answers : Answers) (past : List Instant) (r u : Bits) (now : Instant) → length r ≡ m.registers → length u ≡ m.early → Continues answers node past (map (λ b. B b) (r ++ u)) now

@@ -40,10 +40,11 @@ use Rattle.law_choices.specs.Closed.Exclusive.{AreParted, Differ, IsParted}
 use Rattle.law_choices.specs.InTurn.Nodes.{AreAllMade, Contracted, IsContracted, IsMade, IsOwn, Made, all_nodes, loops, telling}
 use Rattle.law_choices.specs.InTurn.Nodes.Made.{plain, contracted}
 use Rattle.law_choices.proofs.AddingLemmas.Adding.{differ_where}
-use Rattle.law_controlled.specs.Fitting.{GivesAlways, IsFit, IsKnownToFit}
+use Rattle.law_controlled.specs.Fitting.{IsFit}
 use Rattle.law_controlled.specs.Names.{Adds, HasFreeNames}
 use Rattle.law_controlled.specs.Program.{HasAdded}
 use Rattle.law_controlled.proofs.FormNameLaws.{all_added, all_bits, ended_named}
+use Rattle.law_controlled.proofs.MadeLaws.{few_before}
 use Rattle.law_controlled.proofs.NameLaws.{all_both, names_both}
 use Rattle.law_controlled.proofs.ShortLaws.{AllShort, ObserversShort, chosen_short}
 
@@ -111,7 +112,7 @@ two_more bound a (x ∷ xs) l b h =
 
 -- ---- a node of the program
 
-plant_extras : (k : Known) (n : Node) (f : FlatNode) → IsMadeOf k n f → NodeLettered k n → IsParted f → AllShort 128 f.eqns → length f.variables ≤ 10 ^ 13 → HasExtras f
+plant_extras : (k : Known) (n : Node) (f : FlatNode) → IsMadeOf k n f → NodeLettered k n → IsParted f → AllShort 128 f.eqns → HasFew f → HasExtras f
 plant_extras k n f made lettered parted short few =
     let many = made.inputs in
     let first = length n.inputs + length (controls_of n.contract) in
@@ -121,7 +122,7 @@ plant_extras k n f made lettered parted short few =
       outputs_differ = subst (IsDistinct nat_eq) (sym made.outputs) (numbers_differ first n.outputs);
       parted = parted;
       short = shorter 128 (omega arith) f.eqns short;
-      names_good = subst (λ vs. AllByRecursion IsName (names vs)) (sym made.variables) (lettered.1 (subst (λ (vs : List Variable). length vs ≤ 10 ^ 13) made.variables few));
+      names_good = subst (λ vs. AllByRecursion IsName (names vs)) (sym made.variables) (lettered.1 (subst (λ (vs : List Variable). length vs ≤ 2 ^ 64) made.variables few));
     }
 
 -- ---- its controller
@@ -142,13 +143,13 @@ always_short : (es : List FlatEqn) → AllByRecursion (λ (e : FlatEqn). e.clock
 always_short [] h = tt
 always_short (e ∷ es) h = ((let same = ap (λ (c : Clock). length c) h.0 in omega (arith, same)), always_short es h.1)
 
-controller_extras : (m : Machine) (n : FlatNode) → IsController m n → GivesAlways n → IsName m.name → length m.name ≤ 255 → HasExtras n
-controller_extras m n is gives named short = record {
+controller_extras : (m : Machine) (n : FlatNode) → IsController m n → IsName m.name → length m.name ≤ 255 → HasExtras n
+controller_extras m n is named short = record {
   name = subst IsName (sym is.name) (ended_named m.name (codes "$ctl") named short refl refl (omega arith));
-  outputs_behind = gives.outputs_behind;
-  outputs_differ = gives.outputs_differ;
-  parted = parted_always (λ x. Absent) n.eqns gives.always (gives.exclusive (λ x. Absent));
-  short = always_short n.eqns gives.always;
+  outputs_behind = is.outputs_behind;
+  outputs_differ = is.outputs_differ;
+  parted = parted_always (λ x. Absent) n.eqns is.always (is.exclusive (λ x. Absent));
+  short = always_short n.eqns is.always;
   names_good = let few = is.few in subst (λ vs. AllByRecursion IsName (names vs)) (sym is.numbered) (all_bits 0 (length n.variables) (omega (arith, few)));
 }
 
@@ -221,11 +222,11 @@ module _ (types : List ObcType) (observers : Observing) (node : Node) (c : Contr
     own_extras [] own = subst HasExtras (sym own) plant
     own_extras (k ∷ ks) own = subst HasExtras (sym own) chosen_extras
 
-    controller_is : GivesAlways c.controller → length c.plant.name ≤ 255 → c.plant.name ≡ node.name → HasExtras c.controller
-    controller_is gives limit named =
+    controller_is : length c.plant.name ≤ 255 → c.plant.name ≡ node.name → HasExtras c.controller
+    controller_is limit named =
         let same : is.machine.name ≡ c.plant.name = is.named ∙ sym named in
         let long = ap (λ (x : List ℕ). length x) same in
-        controller_extras is.machine c.controller is.controller gives (subst IsName (sym same) plant.name) (omega (arith, long, limit))
+        controller_extras is.machine c.controller is.controller (subst IsName (sym same) plant.name) (omega (arith, long, limit))
 
 -- ---- all nodes
 
@@ -236,25 +237,25 @@ module _ (types : List ObcType) (observers : Observing) (k : Known) (enums : Enu
 
   pub all_extras : (items : List Item) (ms : List Made) → AreAllMade types observers items ms → AreMadeOf k (map (lowered_item enums) items) (loop.plants (loops ms)) → EachNode (NodeLettered k) (map (lowered_item enums) items)
       → EachNode (λ (n : Node). length n.name ≤ 255) items → AllByRecursion IsParted (loop.plants (loops ms)) → AllByRecursion (λ (f : FlatNode). AllShort 128 f.eqns) (loop.plants (loops ms)) → AllByRecursion ChoosesSo ms
-      → AllByRecursion HasAdded ms → AllByRecursion HasFew (all_nodes ms) → AllByRecursion IsKnownToFit ms → AllByRecursion HasExtras (all_nodes ms)
-  all_extras [] [] made of lettered names parted short chosen added few known = tt
-  all_extras [] (m ∷ ms) made of lettered names parted short chosen added few known = absurd made
-  all_extras (TypeItem t ∷ items) ms made of lettered names parted short chosen added few known = all_extras items ms made of lettered names parted short chosen added few known
-  all_extras (NodeItem n ∷ items) [] made of lettered names parted short chosen added few known = absurd made
-  all_extras (NodeItem n ∷ items) (plain f ∷ ms) made of lettered names parted short chosen added few known = (
-    plant_extras k (lowered_node enums n) f of.0 lettered.0 parted.0 short.0 known.0,
-    all_extras items ms made.1 of.1 lettered.1 names.1 parted.1 short.1 chosen.1 added.1 few.1 known.1,
+      → AllByRecursion HasAdded ms → AllByRecursion HasFew (all_nodes ms) → AllByRecursion HasExtras (all_nodes ms)
+  all_extras [] [] made of lettered names parted short chosen added few = tt
+  all_extras [] (m ∷ ms) made of lettered names parted short chosen added few = absurd made
+  all_extras (TypeItem t ∷ items) ms made of lettered names parted short chosen added few = all_extras items ms made of lettered names parted short chosen added few
+  all_extras (NodeItem n ∷ items) [] made of lettered names parted short chosen added few = absurd made
+  all_extras (NodeItem n ∷ items) (plain f ∷ ms) made of lettered names parted short chosen added few = (
+    plant_extras k (lowered_node enums n) f of.0 lettered.0 parted.0 short.0 few.0,
+    all_extras items ms made.1 of.1 lettered.1 names.1 parted.1 short.1 chosen.1 added.1 few.1,
   )
-  all_extras (NodeItem n ∷ items) (contracted c ∷ ms) made of lettered names parted short chosen added few known =
+  all_extras (NodeItem n ∷ items) (contracted c ∷ ms) made of lettered names parted short chosen added few =
       let is = of_contract n n.contract c made.0 in
       let one = of.0 in
       let named : c.plant.name ≡ n.name = one.name in
       let same = ap (λ (x : List ℕ). length x) named in
       let limit : length c.plant.name ≤ 255 = let l = names.0 in omega (arith, same, l) in
-      let plant = plant_extras k (lowered_node enums n) c.plant of.0 lettered.0 parted.0 short.0 known.0.0 in (
-        controller_is types observers n c is seen plant short.0 chosen.0 added.0 few.1.1.0 known.0.1 limit named,
+      let plant = plant_extras k (lowered_node enums n) c.plant of.0 lettered.0 parted.0 short.0 (few_before c.plant c.chosen.node added.0 few.1.1.0) in (
+        controller_is types observers n c is seen plant short.0 chosen.0 added.0 few.1.1.0 limit named,
         (
           own_extras types observers n c is seen plant short.0 chosen.0 added.0 few.1.1.0 is.controls is.own,
-          (telling_extras types observers n c is seen plant short.0 chosen.0 added.0 few.1.1.0 limit, all_extras items ms made.1 of.1 lettered.1 names.1 parted.1 short.1 chosen.1 added.1 few.1.1.1 known.1),
+          (telling_extras types observers n c is seen plant short.0 chosen.0 added.0 few.1.1.0 limit, all_extras items ms made.1 of.1 lettered.1 names.1 parted.1 short.1 chosen.1 added.1 few.1.1.1),
         ),
       )

@@ -1,4 +1,4 @@
--- The machines of a program whose nodes choose have form, where what is made of the nodes is known to fit.
+-- The machines of a program whose nodes choose have form.
 use Rattle.std.proofs.Common.{◌≡◌, ℕ, ◌≤◌, false, List, [], ◌∷◌, length, sym, subst, ◌∙◌, arith}
 use Rattle.std.specs.List.{AllByRecursion}
 use Rattle.hp_obc.specs.Form.{HasObcForm, TypesForm}
@@ -34,7 +34,6 @@ use Rattle.law_choices.proofs.InTurnLemmas.Contracted.{Ground, chooses, chosen_n
 use Rattle.law_choices.proofs.InTurnLemmas.Programs.{Grounded, IsOfProgram, TurnLaws, all_old, all_stand, have_bytes}
 use Rattle.law_choices.proofs.OnClocksLemmas.Texts.{IsArranged}
 use Rattle.hp_controlled.specs.Compiled.{AreCompiled}
-use Rattle.law_controlled.specs.Fitting.{IsKnownToFit}
 use Rattle.law_controlled.specs.Names.{HasFreeNames}
 use Rattle.law_controlled.specs.Observers.{ObserversSuitLaw}
 use Rattle.law_controlled.specs.Program.{HaveMade, MadeNamesLaw}
@@ -143,8 +142,8 @@ module _ (l : FormedLaws) (program after : List Item) (q : IsArranged program af
 
   -- ---- all machines
 
-  pub has_form : AllByRecursion IsKnownToFit made.all → HasObcForm (obc_types_of after) machines
-  has_form known =
+  pub has_form : HasObcForm (obc_types_of after) machines
+  has_form =
       let e = c.equations in
       let have = c.have in
       let stand = all_stand l.turn program after c.observers made.all chooses_all in
@@ -153,5 +152,5 @@ module _ (l : FormedLaws) (program after : List Item) (q : IsArranged program af
       let ready = l.turn.ready program after q.ready q.removable q.form q.short (loop.plants (loops made.all)) equations in
       let extras =
       all_extras types c.observers k (enumerations [] after) seen after made.all made.made equations spelled.lettered spelled.short (all_parted types (callees_of after) (loop.plants (loops made.all)) ready)
-      (spelled.clocks (loop.plants (loops made.all)) equations) (all_chosen made.all stand.2) made.added (made.few few) known in
+      (spelled.clocks (loop.plants (loops made.all)) equations) (all_chosen made.all stand.2) made.added (made.few few) in
       have_form types said l.kept l.file form (all_nodes made.all) have.nodes machines stand.0 (all_fit types said [] (all_nodes made.all) stand.0 stand.1 free extras) made.from have.made

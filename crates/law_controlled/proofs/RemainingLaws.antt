@@ -88,7 +88,7 @@ use Rattle.hp_controlled.specs.Lacking.OneLacksMachines.{none_left, here, behind
 use Rattle.law_controlled.specs.Program.{MadeNodesLaw}
 use Rattle.law_controlled.specs.Remaining.{Hinders, IsHindered, Remaining, RemainingLaw}
 use Rattle.law_controlled.specs.Remaining.Hinders.{circular}
-use Rattle.law_controlled.specs.Remaining.Remaining.{one_hindered, unfitting}
+use Rattle.law_controlled.specs.Remaining.Remaining.{one_hindered}
 use Rattle.law_controlled.proofs.BroughtLaws.{survey-in, survey-types}
 use Rattle.law_controlled.proofs.CircleLaws.{no_circle}
 use Rattle.law_controlled.proofs.FitLaws.{contracts_fit}
@@ -495,7 +495,7 @@ module _ (laws : RemainingLaws) (program after : List Item) (ranks : List (List 
       let c = compilable_law program after q.ready q.removable q.form in
       let form : TypesForm (obc_types (types_of after)) = subst (λ ts. TypesForm (obc_types ts)) (sym (sym (types_low (enumerations [] after) after) ∙ c.0.same)) q.form in
       let made = laws.nodes after (obc_types_of after) are.observers (known_of low) (enumerations [] after) after are.plants have.nodes e.made have.are in
-      unfitting ms are made (λ known. none (has_form laws.formed program after q b.unsigned can_be b.spelled form ms are made known))
+      absurd (none (has_form laws.formed program after q b.unsigned can_be b.spelled form ms are made))
 
 pub remaining_law : RemainingLaws → RemainingLaw
 remaining_law laws text tokens program after ranks a p named typed defined formed initialised clocks fall kept none =

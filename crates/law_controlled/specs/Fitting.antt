@@ -1,22 +1,18 @@
 -- What clocked equations have whose machines have form, but for a name and their number.
 -- Source: own.
-use Rattle.std.specs.Prelude.{◌≡◌, ◌≤◌, ◌^◌, nat_eq, List, [], length}
+use Rattle.std.specs.Prelude.{◌≤◌, nat_eq, List}
 use Rattle.std.specs.List.{AllByRecursion, IsDistinct}
 use Rattle.std.specs.Str.{bytes_eq}
 use Rattle.hp_obc.specs.Machines.{ObcType}
 use Rattle.hp_flat.specs.declared.node.Variable.{Variable}
-use Rattle.hp_flat.specs.Equations.{FlatEqn}
 use Rattle.hp_flat.specs.Nodes.{FlatNode}
 use Rattle.law_equations.specs.Followed.Premises.{IsOwn, names}
-use Rattle.law_equations.specs.Meaning.Instants.{Instant}
 use Rattle.law_equations.specs.Meaning.Kinding.{Callees, EqnKinds, HasValue}
 use Rattle.law_equations.specs.Meaning.Scheduling.{DefinesNoInput, IsWithin}
-use Rattle.law_equations.specs.Meaning.Solving.{IsExclusive, TargetsDiffer}
+use Rattle.law_equations.specs.Meaning.Solving.{TargetsDiffer}
 use Rattle.law_equations.specs.Shaped.Shaped.{IsShort}
 use Rattle.law_wellmade.specs.Lettered.Names.{IsName}
 use Rattle.law_choices.specs.Closed.Exclusive.{AreParted}
-use Rattle.law_choices.specs.InTurn.Nodes.{Made}
-use Rattle.law_choices.specs.InTurn.Nodes.Made.{plain, contracted}
 
 -- Kinds agree, numbers and names are in order, and where two equations define one variable their clocks part.
 pub record IsFit (types : List ObcType) (callees : Callees) (n : FlatNode) : Type 0 where
@@ -34,15 +30,3 @@ pub record IsFit (types : List ObcType) (callees : Callees) (n : FlatNode) : Typ
   pub names_good : AllByRecursion IsName (names n.variables)
   pub names_differ : IsDistinct bytes_eq (names n.variables)
   pub names_own : AllByRecursion IsOwn (names n.variables)
-
--- The outputs of a node are no inputs, and each is given once; its equations are there always, and no two define one variable.
-pub record GivesAlways (n : FlatNode) : Type 0 where
-  pub outputs_behind : AllByRecursion (λ x. n.inputs ≤ x) n.outputs
-  pub outputs_differ : IsDistinct nat_eq n.outputs
-  pub always : AllByRecursion (λ (e : FlatEqn). e.clock ≡ []) n.eqns
-  pub exclusive : (now : Instant) → IsExclusive now n.eqns
-
--- What is made of a node has numbers of 13 digits, and a controller that does so.
-abbrev pub IsKnownToFit : Made → Type 0
-IsKnownToFit (plain f) = length f.variables ≤ 10 ^ 13
-IsKnownToFit (contracted c) = (length c.plant.variables ≤ 10 ^ 13) × GivesAlways c.controller

@@ -1,12 +1,11 @@
 -- What may be in the way of the machines of a program whose nodes choose, where its contracts are kept. Of no program has any of it been seen.
 -- Source: own.
 use Rattle.std.specs.Prelude.{ℕ, List, IsTrue, is_some}
-use Rattle.std.specs.List.{AllByRecursion}
 use Rattle.hp_lexer.specs.Lexing.{AreTokensOf}
 use Rattle.hp_lexer.specs.declared.token.Token.{Token}
 use Rattle.hp_parser.specs.Lexemes.{lexemes}
 use Rattle.hp_parser.specs.Programs.{IsProgram}
-use Rattle.hp_obc.specs.Machines.{Machine, ObcType}
+use Rattle.hp_obc.specs.Machines.{ObcType}
 use Rattle.hp_tree.specs.Programs.{Node}
 use Rattle.hp_tree.specs.declared.program.Item.{Item}
 use Rattle.hp_meaning.specs.Causal.RanksOfPoints.{AllFall}
@@ -26,10 +25,8 @@ use Rattle.hp_watch.specs.Watching.{Observing}
 use Rattle.hp_verdicts.specs.Decided.{AreKept}
 use Rattle.law_games.specs.ReadyGames.Laws.{Stands}
 use Rattle.hp_controlled.specs.Choosing.{Suits, telling}
-use Rattle.hp_controlled.specs.Compiled.{AreCompiled, AreEquationsOf, AreObserved}
+use Rattle.hp_controlled.specs.Compiled.{AreEquationsOf, AreObserved}
 use Rattle.hp_controlled.specs.Lacking.{HasCircularEqns, HasNoChosenMachines}
-use Rattle.law_controlled.specs.Fitting.{IsKnownToFit}
-use Rattle.law_controlled.specs.Program.{HaveMade}
 
 -- Of a node with a contract, of which these are the clocked equations: equations of the node that chooses read each other in a circle.
 pub data Hinders (program : List Item) (types : List ObcType) (observers : Observing) (node : Node) (n : FlatNode) : Type 0 where
@@ -43,10 +40,9 @@ pub record IsHindered (program : List Item) (types : List ObcType) (observers : 
   pub stands : Stands program earlier node
   pub hinders : Hinders program types observers node plant
 
--- Something is in the way of one node, or what is made of a node is not known to fit machines.
+-- Something is in the way of one node.
 pub data Remaining (program : List Item) : Type 0 where
   one_hindered : (plants : List FlatNode) (observers : Observing) → AreEquationsOf program plants → AreObserved program observers → IsHindered program (obc_types_of program) observers → Remaining program
-  unfitting : (machines : List Machine) (c : AreCompiled program (obc_types_of program) machines) (made : HaveMade program (obc_types_of program) c.observers program c.plants c.have.nodes) → (AllByRecursion IsKnownToFit made.all → ⊥) → Remaining program
 
 -- Nothing else is in the way of the machines of the program of a text that the judgements accept, whose points have ranks and whose contracts are kept.
 abbrev pub RemainingLaw : Type 0

@@ -1,6 +1,7 @@
 -- What is made of a node whose contract asks for nothing.
 use Rattle.std.proofs.Common.{◌≡◌, ◌⊎◌, inl, inr, zero, suc, true, false, [], ◌∷◌, Some, length, refl, arith}
 use Rattle.std.specs.Prelude.{IsFalse, codes}
+use Rattle.std.specs.List.{IsDistinct}
 use Rattle.hp_boolx.specs.Game.{Before, Forced, Permitted, Safe}
 use Rattle.hp_boolx.specs.Machine.{game}
 use Rattle.hp_boolx.specs.Search.{Bits}
@@ -40,6 +41,7 @@ choice r u = record { len = refl; best = λ d l p. (permitted r u (true ∷ []) 
 -- ---- the controller
 
 pub is_controller : WellMadeLaw → IsController free_machine free_controller
+unfolding IsDistinct
 is_controller well_made = record {
   name = refl;
   bits = (refl, tt);
@@ -48,6 +50,10 @@ is_controller well_made = record {
   inputs = refl;
   outputs = refl;
   within = record { inputs = omega arith; outputs = (omega arith, tt); eqns = (record { targets = (omega arith, tt); clock = tt; operands = tt; restart = tt }, tt) };
+  outputs_behind = (omega arith, tt);
+  outputs_differ = (tt, tt);
+  always = (refl, tt);
+  exclusive = λ now. ((λ c. tt), tt);
   stateless = (tt, tt);
   well_made = λ types callees. well_made types callees (codes "f$ctl") 0 [] (1 ∷ []);
   gives = λ answers past r u now lr lu goes. (true ∷ [], choice r u, goes.equations.0 refl);

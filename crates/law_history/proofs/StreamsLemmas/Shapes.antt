@@ -164,7 +164,8 @@ module _ (law : SuitedLaw) (kept : KeptLaw) (types : List TypeDecl) (kinds : Lis
       let within = form.within in
       let regular = r.0 in
       let lettered = l.0 in
-      let few : length (sketch_node k n).variables ≤ 10 ^ 13 = subst (λ vs. length vs ≤ 10 ^ 13) made.variables regular.few_variables in
+      let no_more = regular.few_variables in
+      let few : length (sketch_node k n).variables ≤ 2 ^ 64 = subst (λ vs. length vs ≤ 2 ^ 64) made.variables (omega (arith, no_more)) in
       let many : f.inputs ≡ length n.inputs + length (controls_of n.contract) = made.inputs in
       let shape : NodeShape kinds (program_callees kinds k) f = record {
         name = subst (λ x. IsTrue (is_name x)) (sym made.name) lettered.0;

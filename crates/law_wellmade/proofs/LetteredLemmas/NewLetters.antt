@@ -249,11 +249,10 @@ words = record {
 
 -- ---- names of new variables
 
-pub new_named : (x : List ℕ) (n : ℕ) → n < 10 ^ 13 → IsName x → IsName (made.new_name x n)
+pub new_named : (x : List ℕ) (n : ℕ) → n < 2 ^ 64 → IsName x → IsName (made.new_name x n)
 new_named x n l h =
-    let wide : n < 2 ^ 64 = omega (arith, l) in
     let front = made.stem x in
-    let s : length (decimal n) ≤ 13 = length-decimal-le 13 n (omega arith) l wide in
-    let rest : Bytes 15 (codes "$x" ++ decimal n) = record { letters = (digits_named n wide).0; short = omega (arith, s) } in
-    name_of 263 (made.new_name x n) (omega arith) (more 248 15 (take 248 front) (codes "$x" ++ decimal n) (taken 248 front (omega arith) (starts_stem x (starts_of x h))) rest)
+    let s : length (decimal n) ≤ 20 = length-decimal-le 20 n (omega arith) (omega (arith, l)) l in
+    let rest : Bytes 22 (codes "$x" ++ decimal n) = record { letters = (digits_named n l).0; short = omega (arith, s) } in
+    name_of 270 (made.new_name x n) (omega arith) (more 248 22 (take 248 front) (codes "$x" ++ decimal n) (taken 248 front (omega arith) (starts_stem x (starts_of x h))) rest)
     (odd_right (take 248 front) (codes "$x" ++ decimal n) refl)

@@ -175,7 +175,7 @@ module _ (k : Known) (known : (f : List ℕ) → DeclsSpelled IsName (outputs_of
       signed_lettered n.outputs mids p.1.1.0
       (signed_lettered (controls_of n.contract) ins (controls_spelled n.contract p.1.1.1.0) (signed_lettered n.inputs none p.1.0 (λ l. tt)))
 
-  pub node_lettered : (n : Node) → NodeSpelled IsName n → length (sketch_node k n).variables ≤ 10 ^ 13 → AllByRecursion IsName (names (sketch_node k n).variables)
+  pub node_lettered : (n : Node) → NodeSpelled IsName n → length (sketch_node k n).variables ≤ 2 ^ 64 → AllByRecursion IsName (names (sketch_node k n).variables)
   node_lettered n p =
       let s = signature k n in
       let r = remember_all k base_site unknown n.outputs s in

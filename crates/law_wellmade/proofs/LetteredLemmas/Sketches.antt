@@ -20,7 +20,7 @@ use Rattle.law_wellmade.proofs.LetteredLemmas.NewLetters.{new_named}
 
 -- As long as there are at most so many variables, each has such a name.
 abbrev pub Lettered : Sketch → Type 0
-Lettered d = length d.variables ≤ 10 ^ 13 → AllByRecursion IsName (names d.variables)
+Lettered d = length d.variables ≤ 2 ^ 64 → AllByRecursion IsName (names d.variables)
 
 one_behind : (xs : List (List ℕ)) (x : List ℕ) → AllByRecursion IsName xs → IsName x → AllByRecursion IsName (xs ++ x ∷ [])
 one_behind [] x h p = (p, tt)
@@ -28,7 +28,7 @@ one_behind (y ∷ xs) x h p = (h.0, one_behind xs x h.1 p)
 
 -- ---- one variable more
 
-pub variable-lettered : (x : List ℕ) (t : FlatTy) (d : Sketch) → (next d < 10 ^ 13 → IsName x) → Lettered d → Lettered (with_variable x t d)
+pub variable-lettered : (x : List ℕ) (t : FlatTy) (d : Sketch) → (next d < 2 ^ 64 → IsName x) → Lettered d → Lettered (with_variable x t d)
 variable-lettered x t d p h l =
     let v : VariableData = record { name = x; ty = t } in
     let long : length (d.variables ++ v ∷ []) ≡ length d.variables + 1 = length-append d.variables (v ∷ []) in

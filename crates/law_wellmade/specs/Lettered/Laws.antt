@@ -40,9 +40,9 @@ LoweredNamesLaw = (after : List Item) → EachNode (NodeSpelled IsName) after �
 abbrev pub KnownSpelled : Known → Type 0
 KnownSpelled k = (f : List ℕ) → DeclsSpelled IsName (outputs_of (k.nodes f))
 
--- The variables that are made of a node have such names, where they are no more than their numbers of 13 digits.
+-- The variables that are made of a node have such names, where they are no more than a machine's words tell apart.
 abbrev pub VariablesNamed : Known → Node → Type 0
-VariablesNamed k n = length (sketch_node k n).variables ≤ 10 ^ 13 → AllByRecursion IsName (names (sketch_node k n).variables)
+VariablesNamed k n = length (sketch_node k n).variables ≤ 2 ^ 64 → AllByRecursion IsName (names (sketch_node k n).variables)
 
 abbrev pub MadeNamesLaw : Type 0
 MadeNamesLaw = (k : Known) → KnownSpelled k → (n : Node) → NodeSpelled IsName n → VariablesNamed k n
