@@ -38,8 +38,9 @@ use Rattle.law_automata.specs.Readied.Sound.{ConstantsBehind, SoundBehind}
 use Rattle.law_automata.proofs.LowerableLemmas.Runs.{lowered_among}
 use Rattle.law_automata.proofs.LowerableLemmas.Texts.{clocked_of}
 use Rattle.law_automata.proofs.LoweredLemmas.Nodes.{itself_renames}
+use Rattle.law_automata.proofs.LoweredLemmas.RightSteps.{controls_same}
 use Rattle.law_automata.proofs.ReadiedLemmas.Places.{Place}
-use Rattle.law_automata.proofs.ReadiedLemmas.SoundNodes.{controls_same, place}
+use Rattle.law_automata.proofs.ReadiedLemmas.SoundNodes.{place}
 use Rattle.law_automata.proofs.ReadiedLemmas.SoundPrograms.{ready_sound_law}
 use Rattle.law_automata.proofs.ReadiedLemmas.TypesKept.{node_weaker}
 use Rattle.law_drawing.proofs.InshapeLemmas.TypesRead.{agrees_body}
