@@ -260,7 +260,7 @@ module _ (after : List Item) (k : Known) (enums : Enumerations) (places : List �
     lower : controls_of (option_map (lowered_contract enums (lowering.types_of l.node)) l.node.contract) ≡ controls_of l.node.contract
     lower = controls_low enums (lowering.types_of l.node) l.node.contract
 
-    pub signed : IsSigned places l.node l.plant
+    signed : IsSigned places l.node l.plant
     signed =
         let flat = l.flat in
         let own = flat.signed in
@@ -272,7 +272,7 @@ module _ (after : List Item) (k : Known) (enums : Enumerations) (places : List �
         }
 
     -- the free places that are surveyed of it have the types of its slots
-    abbrev pub HasTypes : Observed → Type 0
+    abbrev HasTypes : Observed → Type 0
     HasTypes own =
         let s = surveyed seen own (length l.node.inputs) (walked l.node l.plant) l.plant in
         (types_in s.node s.free ≡ map (flat_type places) (free_types (slots_of_node after l.node))) × AreIn s.node s.free
