@@ -14,7 +14,7 @@ pub mod ChosenLemmas
 pub mod OnceLemmas
 pub mod PlacesLemmas
 mod AnsweredLemmas
-mod PartLemmas
+pub mod PartLemmas
 pub mod AddingLemmas
 mod CodedLemmas
 pub mod InTurnLemmas
