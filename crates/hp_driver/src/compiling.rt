@@ -9,8 +9,8 @@ ghost use Rattle.hp_driver.specs.Compiled.{AreMachinesFor, HasCircuit, IsCompile
 ghost use Rattle.hp_driver.specs.Texts.{IsArrangedText, IsOnly, IsPlainText};
 ghost use Rattle.hp_driver.specs.Controls.{has_controls};
 
+use crate::compile_error::CompileErr;
 use crate::controls::{has_contract, has_controls};
-use crate::error::CompileErr;
 use hp_cause::Ordered;
 use hp_compile::{arrange, judge};
 use hp_controlled::{
