@@ -4,7 +4,10 @@ use Rattle.hp_compile.proofs.FormLaws.{formed}
 use Rattle.hp_compile.specs.Arranged.{IsArranged}
 use Rattle.hp_compile.specs.Judged.{IsJudged}
 use Rattle.hp_driver.specs.Controls.{some_variable, has_controls}
-use Rattle.hp_driver.specs.Texts.{IsPlainText}
+use Rattle.hp_driver.specs.Texts.{IsArrangedText, IsPlainText}
+use Rattle.hp_controlled.specs.Lacking.{HasNoChosenMachines}
+use Rattle.hp_verdicts.specs.Decided.{AreKept}
+use Rattle.law_controlled.specs.Built.{ChosenBuiltLaw}
 use Rattle.hp_machines.specs.NotBuilt.{HasNoMachines}
 use Rattle.hp_meaning.specs.Causal.Runs.{NoControls}
 use Rattle.hp_tree.specs.Blocks.{Decl}
@@ -61,3 +64,13 @@ accepted_plain text program ordered ranks judged arranged none = record {
 -- nothing is in the way of its machines
 pub is_built : BuiltLaw → (ordered : List Item) → IsPlainText ordered → HasNoMachines ordered → ⊥
 is_built law ordered t none = let text = t.1 in law text.0 text.2.program_of.tokens t.0 ordered text.1 (accepted_plain text.0 t.0 ordered text.1 text.2 text.3 t.2) none
+
+-- nothing is in the way of machines that choose, where contracts are kept
+pub are_built : ChosenBuiltLaw → (ordered : List Item) → (program : List Item) × IsArrangedText program ordered → AreKept ordered ordered → HasNoChosenMachines ordered → ⊥
+are_built law ordered t kept none =
+    let program = t.0 in
+    let text = t.1.0 in
+    let judged = t.1.2 in
+    let arranged = t.1.3 in
+    law text judged.program_of.tokens program ordered t.1.1 judged.program_of.spelled judged.program_of.read judged.named judged.typed judged.defined (formed text program judged arranged.well_formed) arranged.initialised arranged.clocks
+    arranged.ordered kept none

@@ -23,7 +23,7 @@ use Rattle.hp_driver.specs.Diagnostics.{executor_line}
 use Rattle.hp_driver.specs.Executing.{executing}
 use Rattle.hp_driver.specs.Follows.{Accepts, ChoosingRun, ChoosingTell, ChosenOutcome, NodeRun, NodeTold, RefusedChosen, SweepOutcome}
 use Rattle.hp_driver.specs.Leaves.{Leaves}
-use Rattle.hp_driver.specs.Outcome.{Outcome, IsHeld, AreChosen, AsksToChoose, AsksToRun, IsAskedFor}
+use Rattle.hp_driver.specs.Outcome.{Outcome, IsHeld, AreChosen, AsksToRun, IsAskedFor}
 use Rattle.hp_driver.specs.Ran.{Ran}
 use Rattle.hp_driver.specs.Systems.{System, of_machine, that_tells}
 use Rattle.hp_driver.specs.Teller.{teller, telling}
@@ -105,9 +105,6 @@ module _ (node : List ℕ) (ordered : List Item) where
   pub run_memory : ChoosingRun node ordered [] [] 6
   run_memory words files file program held e some kept w = Outcome.no_memory
 
-  pub run_not_built : ChoosingRun node ordered [] not_built_line 1
-  run_not_built words files file program held e some kept w = Outcome.not_built (AsksToChoose.to_run w some) held kept
-
   pub run_no_node : node_among ordered node ≡ None → ChoosingRun node ordered [] (no_node_line node) 1
   run_no_node none words files file program held e some kept w = Outcome.no_node_to_run (AsksToRun.to_run w some) held kept (ap (λ z. node_among z node) e ∙ none)
 
@@ -116,9 +113,6 @@ module _ (node : List ℕ) (ordered : List Item) where
 
   pub tell_memory : ChoosingTell node ordered [] [] 6
   tell_memory words files file program held e kept w = Outcome.no_memory
-
-  pub tell_not_built : ChoosingTell node ordered [] not_built_line 1
-  tell_not_built words files file program held e kept w = Outcome.not_built (AsksToChoose.to_tell w) held kept
 
   pub tell_no_node : node_among ordered node ≡ None → ChoosingTell node ordered [] (no_node_line node) 1
   tell_no_node none words files file program held e kept w = Outcome.no_node_to_run (AsksToRun.to_tell w) held kept (ap (λ z. node_among z node) e ∙ none)

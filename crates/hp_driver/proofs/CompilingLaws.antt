@@ -6,17 +6,14 @@ use Rattle.hp_compile.specs.Judged.{IsJudged}
 use Rattle.hp_compile.specs.Refusals.{IsRefused}
 use Rattle.hp_compile.specs.declared.refusal.Refusal.{Refusal}
 use Rattle.hp_compile.specs.declared.refusal.Refusal.TheVariants as refusal
-use Rattle.hp_controlled.specs.Lacking.{HasNoChosenMachines, SaysNotBuilt}
 use Rattle.hp_controlled.specs.Among.{FormLaw}
 use Rattle.hp_controlled.specs.Joining.{SameLaw}
-use Rattle.hp_controlled.specs.declared.error.ControlledErr.{ControlledErr}
-use Rattle.hp_controlled.specs.declared.error.ControlledErr.TheVariants as controlled
 use Rattle.hp_driver.proofs.AcceptedLaws.{accepted_by, accepted_plain}
 use Rattle.hp_driver.proofs.OwnLaws.{run_nodes}
 use Rattle.hp_driver.specs.Compiled.{AreMachinesFor, HasCircuit, IsCompiled, IsFound, IsNotCompiled, RunNodes}
 use Rattle.hp_driver.specs.Controls.{has_controls}
 use Rattle.hp_driver.specs.Texts.{HasNoProgram, IsArrangedText}
-use Rattle.hp_driver.specs.CompileErrors.{of_refusal, of_contract, of_controlled}
+use Rattle.hp_driver.specs.CompileErrors.{of_refusal, of_contract}
 use Rattle.hp_obc.specs.Machines.{Obc}
 use Rattle.hp_tree.specs.declared.program.Item.{Item}
 use Rattle.hp_verdicts.specs.Decided.{AreKept, Refuses}
@@ -58,10 +55,6 @@ module _ (text : List ℕ) (program ordered : List Item) (found : IsFound text p
   contract_refused_by law contract.NotBuilt refuses = IsNotCompiled.contract_refused found (λ e. absurd cc) ((said law).refused contract.NotBuilt refuses)
   contract_refused_by law contract.OutOfMemory refuses = IsNotCompiled.out_of_memory
 
-  pub not_built_by : OutcomesLaw → AreKept ordered ordered → (e : ControlledErr) → (e ≡ controlled.NotBuilt → (has_controls program ≡ true) × HasNoChosenMachines ordered) → IsNotCompiled text (of_controlled e)
-  not_built_by law kept controlled.NotBuilt some = IsNotCompiled.not_built found (in_games law kept) (some refl).0 (some refl).1
-  not_built_by law kept controlled.OutOfMemory some = IsNotCompiled.out_of_memory
-
   module _ (law : OutcomesLaw) (kept : AreKept ordered ordered) (text_law : TextLaw) (built : BuiltLaw) (form_law : FormLaw) (same_law : SameLaw) (said_law : GreatestSaidLaw) where
     runs_of : (o : Obc) → AreMachinesFor program ordered o → has_controls program ≡ false → RunNodes ordered o
     runs_of o (AreMachinesFor.of_nodes {own = own} none machines others) e =
@@ -78,11 +71,6 @@ module _ (text : List ℕ) (program ordered : List Item) (found : IsFound text p
 
     pub compiled_by : (o : Obc) → AreMachinesFor program ordered o → IsCompiled text o
     compiled_by o machines = record { program = program; ordered = ordered; found = found; kept = in_games law kept; machines = machines; runs = runs_of o machines; says = says_of o machines }
-
--- where nodes choose, what is in the way is told with that
-pub says_where : {A : Type 0} (G : A → Type 0) (H P : Type 0) (r : Result A ControlledErr) → H → MatchResult r G (SaysNotBuilt P) → IfErr r (λ e. e ≡ controlled.NotBuilt → H × P)
-says_where G H P (Ok o) some h = tt
-says_where G H P (Err e) some h = λ q. (some, h q)
 
 -- a contract is not refused because its circuit is not built
 pub has_circuit : OutcomesLaw → (program ordered : List Item) → IsArrangedText program ordered → (cause : ContractErr) → Refuses ordered cause → HasCircuit (of_contract cause)

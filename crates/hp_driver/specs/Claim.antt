@@ -35,7 +35,7 @@ use Rattle.hp_driver.specs.Lines.{lines_of}
 use Rattle.hp_driver.specs.PastOutcome.{unfolded_text}
 use Rattle.hp_driver.specs.Systems.{System, of_node, of_machine}
 use Rattle.hp_obc.specs.Steps.{Memory}
-use Rattle.hp_driver.specs.Asking.{AsksToChoose, AsksToRun, IsRunFor, run_words}
+use Rattle.hp_driver.specs.Asking.{AsksToRun, IsRunFor, run_words}
 use Rattle.hp_driver.specs.Checkpoints.{IsCheckpointOf, RefusesCheckpoint, memory_past}
 use Rattle.hp_obctext.specs.declared.memory.error.MemErr.{MemErr}
 use Rattle.hp_driver.specs.ClaimTerms.{Program, AllKept, IsFirst, Certifies, IsNoProof, IsUndecidable, IsTrace, DoesTheSame, Choose, IsOwnOf, IsTellerOf, Runs, Starts, IsReadAs, LacksFile}
@@ -75,8 +75,6 @@ module _ (words : List (List ℕ)) (files : Files) (input : List ℕ) where
     chosen_too_large : {file node name : List ℕ} {o : Obc} (limit : Limit) (p : Program files file) →
         AsksToRun words file node p.program → Choose p o → IsRunFor node name → IsPassed o name limit →
         Does [] (executor_line limit) files 1
-    not_built : {file : List ℕ} (p : Program files file) → AsksToChoose words file p.program → AllKept p →
-        Does [] not_built_line files 1
     -- 3. The first contract that is refused is lost: in its game the inputs force a violation within so many instants,
     -- and within no fewer. Behind the line stands its certificate, or that this is too long. Or it is undecidable.
     lost : {file behind : List ℕ} (n : Node) (instants : ℕ) (p : Program files file) → IsOverSource words file →

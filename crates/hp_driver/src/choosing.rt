@@ -5,24 +5,24 @@ ghost use Rattle.hp_controlled.specs.Chosen.{IsChosen, IsToldBy};
 ghost use Rattle.hp_exec.specs.declared.error.ExecErr.TheVariants.{NoNode};
 ghost use Rattle.hp_io.specs.Told.{Grows};
 ghost use Rattle.hp_obc.specs.Form.{TypesForm, machine_named};
+ghost use Rattle.hp_tree.specs.declared.program.Item.{Item};
+ghost use Rattle.hp_verdicts.specs.Decided.{AreKept};
 ghost use Rattle.hp_driver.specs.Faults.{TakeFaults, PutFaults, BothPutFaults};
-ghost use Rattle.hp_driver.specs.Follows.{ChoosingRun, ChoosingTell, ChosenOutcome, NodeRun, NodeTold, RefusedChosen};
+ghost use Rattle.hp_driver.specs.Follows.{IsArrangedText, ChoosingRun, ChoosingTell, ChosenOutcome, NodeRun, NodeTold, RefusedChosen};
 ghost use Rattle.hp_driver.specs.Happened.{Happened};
 ghost use Rattle.hp_driver.specs.Status.{code_of};
 ghost use Rattle.hp_driver.specs.Systems.{of_machine, that_tells};
 ghost use Rattle.hp_driver.specs.declared.telling.Ending.TheVariants.{Told};
 
 use crate::certificate::node_named;
-use crate::diagnostic::NOT_BUILT;
+use crate::compiling::chosen_machines;
 use crate::execution::Execution;
 use crate::machines::report_large;
 use crate::refuse::report_no_node;
-use crate::report::report;
 use crate::resources::Resources;
 use crate::run::run_trace;
 use crate::status::Status;
 use crate::telling::{Ending, Telling};
-use hp_controlled::{ControlledErr, controlled_machines};
 use hp_exec::ExecErr;
 use hp_io::{Console, Sink};
 use hp_native::{Answers, NativeExec};
@@ -134,6 +134,8 @@ pub(crate) fn run_choosing<N: Answers, C: Console, E: Sink>(
     console: &mut C,
     diag: &mut E,
 ) -> Status
+    requires arranged { (program : List Item) × IsArrangedText program ordered.now }
+    requires kept { AreKept ordered.now ordered.now }
     ensures outcome { Happened (C.events console.old) (C.events console.new) (C.left console.old) (C.left console.new) (E.took diag.old) (E.took diag.new)
         (λ log line. ChoosingRun node.now ordered.now log line (code_of result)) }
     ensures takes { TakeFaults (code_of result) (C.take_faults console.old) (C.take_faults console.new) }
@@ -145,10 +147,9 @@ pub(crate) fn run_choosing<N: Answers, C: Console, E: Sink>(
     // Laws: each line that the machines say is one that the program allows; where nothing is free but inputs, with the greatest permitted values. And the node has a machine of its name.
     machines_of_texts_choose_the_greatest();
     nodes_have_their_machines();
-    match controlled_machines(resources.alloc, ordered) {
+    match chosen_machines(resources.alloc, ordered) {
         Ok(machines) => run_node(resources, &machines, found, node, console, diag),
-        Err(ControlledErr::NotBuilt) => report(diag, NOT_BUILT, Status::Refused),
-        Err(ControlledErr::OutOfMemory) => Status::NoMemory,
+        Err(_) => Status::NoMemory,
     }
 }
 
@@ -211,6 +212,8 @@ pub(crate) fn tell_choosing<N: Answers, C: Console, E: Sink>(
     console: &mut C,
     diag: &mut E,
 ) -> Status
+    requires arranged { (program : List Item) × IsArrangedText program ordered.now }
+    requires kept { AreKept ordered.now ordered.now }
     ensures outcome { Happened (C.events console.old) (C.events console.new) (C.left console.old) (C.left console.new) (E.took diag.old) (E.took diag.new)
         (λ log line. ChoosingTell name.now ordered.now log line (code_of result)) }
     ensures takes { TakeFaults (code_of result) (C.take_faults console.old) (C.take_faults console.new) }
@@ -222,9 +225,8 @@ pub(crate) fn tell_choosing<N: Answers, C: Console, E: Sink>(
     // Laws: each line that the machines say is one that the program allows; where nothing is free but inputs, with the greatest permitted values. And the node has a machine of its name, as has its contract.
     machines_of_texts_choose_the_greatest();
     nodes_have_their_machines();
-    match controlled_machines(resources.alloc, ordered) {
+    match chosen_machines(resources.alloc, ordered) {
         Ok(machines) => tell_node(resources, &machines, node, name, console, diag),
-        Err(ControlledErr::NotBuilt) => report(diag, NOT_BUILT, Status::Refused),
-        Err(ControlledErr::OutOfMemory) => Status::NoMemory,
+        Err(_) => Status::NoMemory,
     }
 }
