@@ -20,6 +20,7 @@ pub mod Commanded
 pub mod Diagnostics
 pub mod Given
 pub mod PastOutcome
+pub mod Sweeping
 pub mod Outcome
 pub mod Checkpoints
 pub mod Asking

@@ -1,11 +1,12 @@
 //! The command `sweep`: a program of some tasks of which one may be active at a time is made, compiled and run on a trace that is made too, and what was true is counted.
-ghost use Rattle.std.specs.Prelude.{◌≡◌, ◌≢◌, ◌≤◌, ◌++◌, ℕ, length, take, drop, codes, decimal, IfOk, OnOk};
+ghost use Rattle.std.specs.Prelude.{◌≡◌, ◌≢◌, ◌≤◌, ◌++◌, length, take, drop, codes, decimal, IfOk, OnOk};
 ghost use Rattle.hp_io.specs.Faults.{Same};
 ghost use Rattle.hp_driver.specs.Command.{IsSummary, counted_line, spaced_numbers, summary_text};
 ghost use Rattle.hp_driver.specs.Faults.{BothPutFaults};
 ghost use Rattle.hp_driver.specs.Follows.{SweepOutcome};
 ghost use Rattle.hp_driver.specs.Happened.{Happened};
 ghost use Rattle.hp_driver.specs.Status.{code_of};
+ghost use Rattle.hp_driver.specs.Sweeping.{row, numbered, names_text, inputs_text, pair_text, apart_text, guarantee_text, task_text, heading_text, contract_text, body_text, tasks_text};
 
 use crate::diagnostic::NOT_BUILT;
 use crate::report::report;
@@ -76,64 +77,92 @@ fn add_number(text: &mut Vec<u8>, number: u64) -> Result<(), AllocError>
     text.extend_from_slice(buffer.format(number).as_bytes())
 }
 
-/// Adds what stands between two parts.
-fn add_between(text: &mut Vec<u8>, is_first: bool, between: &[u8]) -> Result<(), AllocError> {
-    if is_first {
-        return Ok(());
-    }
-    add(text, between)
-}
-
 /// Adds a name with a number.
 fn add_name(text: &mut Vec<u8>, name: &[u8], task: u64) -> Result<(), AllocError>
-    ensures { OnOk result (text.new.items ≡ text.old.items ++ (name.now ++ decimal task)) }
+    ensures { OnOk result (text.new.items ≡ text.old.items ++ numbered name.now task) }
 {
     add(text, name)?;
     add_number(text, task)
 }
 
 /// Adds this name with the number of each task, with a comma between.
-fn add_names(text: &mut Vec<u8>, name: &[u8], tasks: u64) -> Result<(), AllocError> {
-    for i in 0..tasks {
-        add_between(text, i == 0, b", ")?;
+fn add_names(text: &mut Vec<u8>, name: &[u8], tasks: u64) -> Result<(), AllocError>
+    requires { 1 ≤ tasks }
+    ensures { OnOk result (text.new.items ≡ text.old.items ++ names_text name.now tasks) }
+{
+    add_name(text, name, 1)?;
+    for i in 1..tasks {
+        add(text, b", ")?;
         add_name(text, name, i + 1)?;
     }
     Ok(())
 }
 
+/// Adds the request and the end of a task.
+fn add_pair_of_inputs(text: &mut Vec<u8>, task: u64) -> Result<(), AllocError>
+    ensures { OnOk result (text.new.items ≡ text.old.items ++ inputs_text task) }
+{
+    add_name(text, b"r", task)?;
+    add_name(text, b", e", task)
+}
+
 /// Adds the inputs: the request and the end of each task.
-fn add_inputs(text: &mut Vec<u8>, tasks: u64) -> Result<(), AllocError> {
-    for i in 0..tasks {
-        add_between(text, i == 0, b", ")?;
-        add_name(text, b"r", i + 1)?;
-        add_name(text, b", e", i + 1)?;
+fn add_inputs(text: &mut Vec<u8>, tasks: u64) -> Result<(), AllocError>
+    requires { 1 ≤ tasks }
+    ensures { OnOk result (text.new.items ≡ text.old.items ++ row (codes ", ") inputs_text tasks) }
+{
+    add_pair_of_inputs(text, 1)?;
+    for i in 1..tasks {
+        add(text, b", ")?;
+        add_pair_of_inputs(text, i + 1)?;
     }
     Ok(())
 }
 
 /// Adds that two tasks are not active at once.
-fn add_pair(text: &mut Vec<u8>, one: u64, other: u64) -> Result<(), AllocError> {
-    add_name(text, b"not (a", one)?;
-    add_name(text, b" & a", other)?;
+fn add_pair(text: &mut Vec<u8>, other: u64, task: u64) -> Result<(), AllocError>
+    ensures { OnOk result (text.new.items ≡ text.old.items ++ pair_text other task) }
+{
+    add_name(text, b"not (a", other)?;
+    add_name(text, b" & a", task)?;
     add(text, b")")
 }
 
-/// Adds that no two tasks are active at once.
-fn add_guarantee(text: &mut Vec<u8>, tasks: u64) -> Result<(), AllocError> {
-    if tasks < 2 {
-        return add(text, b"true");
-    }
-    for i in 0..tasks {
-        for j in i + 1..tasks {
-            add_between(text, i == 0 && j == 1, b" & ")?;
-            add_pair(text, i + 1, j + 1)?;
-        }
+/// Adds that the task behind so many others is active at once with none of them.
+fn add_apart(text: &mut Vec<u8>, others: u64) -> Result<(), AllocError>
+    requires some { 1 ≤ others }
+    requires few { others ≤ 8 }
+    ensures { OnOk result (text.new.items ≡ text.old.items ++ apart_text others) }
+{
+    add_pair(text, 1, others + 1)?;
+    for i in 1..others {
+        add(text, b" & ")?;
+        add_pair(text, i + 1, others + 1)?;
     }
     Ok(())
 }
 
-/// Adds the equation of a task.
-fn add_task(text: &mut Vec<u8>, task: u64) -> Result<(), AllocError> {
+/// Adds that no two tasks are active at once.
+fn add_guarantee(text: &mut Vec<u8>, tasks: u64) -> Result<(), AllocError>
+    requires some { 1 ≤ tasks }
+    requires few { tasks ≤ 8 }
+    ensures { OnOk result (text.new.items ≡ text.old.items ++ guarantee_text tasks) }
+{
+    if tasks < 2 {
+        return add(text, b"true");
+    }
+    add_apart(text, 1)?;
+    for i in 1..tasks - 1 {
+        add(text, b" & ")?;
+        add_apart(text, i + 1)?;
+    }
+    Ok(())
+}
+
+/// Adds what a task does.
+fn add_task(text: &mut Vec<u8>, task: u64) -> Result<(), AllocError>
+    ensures { OnOk result (text.new.items ≡ text.old.items ++ task_text task) }
+{
     add_name(text, b"  (a", task)?;
     add_name(text, b", s", task)?;
     add_name(text, b") = inlined delayable(r", task)?;
@@ -142,31 +171,76 @@ fn add_task(text: &mut Vec<u8>, task: u64) -> Result<(), AllocError> {
     add(text, b")")
 }
 
-/// Adds the equations of the tasks.
-fn add_tasks(text: &mut Vec<u8>, tasks: u64) -> Result<(), AllocError> {
-    for i in 0..tasks {
-        add_between(text, i == 0, b";\n")?;
+/// Adds what the tasks do.
+fn add_tasks(text: &mut Vec<u8>, tasks: u64) -> Result<(), AllocError>
+    requires { 1 ≤ tasks }
+    ensures { OnOk result (text.new.items ≡ text.old.items ++ row (codes ";\n") task_text tasks) }
+{
+    add_task(text, 1)?;
+    for i in 1..tasks {
+        add(text, b";\n")?;
         add_task(text, i + 1)?;
     }
     Ok(())
 }
 
+/// Adds the inputs and outputs of the tasks.
+fn add_heading(text: &mut Vec<u8>, tasks: u64) -> Result<(), AllocError>
+    requires { 1 ≤ tasks }
+    ensures { OnOk result (text.new.items ≡ text.old.items ++ heading_text tasks) }
+{
+    add(text, b"node tasks(")?;
+    add_inputs(text, tasks)?;
+    add(text, b" : bool) returns (")?;
+    add_names(text, b"a", tasks)?;
+    add(text, b", ")?;
+    add_names(text, b"s", tasks)?;
+    add(text, b" : bool)\n")
+}
+
+/// Adds what is enforced, and by which variables.
+fn add_contract(text: &mut Vec<u8>, tasks: u64) -> Result<(), AllocError>
+    requires some { 1 ≤ tasks }
+    requires few { tasks ≤ 8 }
+    ensures { OnOk result (text.new.items ≡ text.old.items ++ contract_text tasks) }
+{
+    add(text, b"contract enforce ")?;
+    add_guarantee(text, tasks)?;
+    add(text, b" with (")?;
+    add_names(text, b"c", tasks)?;
+    add(text, b" : bool)\n")
+}
+
+/// Adds what all tasks do.
+fn add_body(text: &mut Vec<u8>, tasks: u64) -> Result<(), AllocError>
+    requires { 1 ≤ tasks }
+    ensures { OnOk result (text.new.items ≡ text.old.items ++ body_text tasks) }
+{
+    add(text, b"let\n")?;
+    add_tasks(text, tasks)?;
+    add(text, b"\ntel\n")
+}
+
+/// Adds the program of so many tasks.
+fn add_program(text: &mut Vec<u8>, tasks: u64) -> Result<(), AllocError>
+    requires some { 1 ≤ tasks }
+    requires few { tasks ≤ 8 }
+    ensures { OnOk result (text.new.items ≡ text.old.items ++ tasks_text tasks) }
+{
+    add(text, TASK)?;
+    add_heading(text, tasks)?;
+    add_contract(text, tasks)?;
+    add_body(text, tasks)
+}
+
 /// The program of so many tasks.
-fn program_of(alloc: Global, tasks: u64) -> Result<Vec<u8>, AllocError> {
-    let mut text = Vec::from_slice(alloc, TASK)?;
-    add(&mut text, b"node tasks(")?;
-    add_inputs(&mut text, tasks)?;
-    add(&mut text, b" : bool) returns (")?;
-    add_names(&mut text, b"a", tasks)?;
-    add(&mut text, b", ")?;
-    add_names(&mut text, b"s", tasks)?;
-    add(&mut text, b" : bool)\ncontract enforce ")?;
-    add_guarantee(&mut text, tasks)?;
-    add(&mut text, b" with (")?;
-    add_names(&mut text, b"c", tasks)?;
-    add(&mut text, b" : bool)\nlet\n")?;
-    add_tasks(&mut text, tasks)?;
-    add(&mut text, b"\ntel\n")?;
+fn program_of(alloc: Global, tasks: u64) -> Result<Vec<u8>, AllocError>
+    requires some { 1 ≤ tasks }
+    requires few { tasks ≤ 8 }
+    ensures { IfOk result (λ text. text.items ≡ tasks_text tasks) }
+{
+    let mut text = Vec::new(alloc);
+    add_program(&mut text, tasks)?;
     Ok(text)
 }
 
@@ -204,7 +278,10 @@ fn machines_of(alloc: Global, program: &Program) -> Result<Obc, Stop> {
 }
 
 /// The machines of the program of so many tasks, made as `compile` makes them.
-fn machines_of_tasks(alloc: Global, tasks: u64) -> Result<Obc, Stop> {
+fn machines_of_tasks(alloc: Global, tasks: u64) -> Result<Obc, Stop>
+    requires some { 1 ≤ tasks }
+    requires few { tasks ≤ 8 }
+{
     let text = program_of(alloc, tasks)?;
     match front(alloc, &text) {
         Ok(ordered) => machines_of(alloc, &ordered.program),
@@ -305,6 +382,8 @@ fn counts_by(
 
 /// How often each output of so many tasks was true.
 fn counts_of(alloc: Global, sweep: Sweep, many: usize) -> Result<Vec<u64>, Stop>
+    requires some { 1 ≤ sweep.tasks }
+    requires few { sweep.tasks ≤ 8 }
     ensures { IfOk result (λ counts. length counts.items ≡ many) }
 {
     let machines = machines_of_tasks(alloc, sweep.tasks)?;
@@ -352,7 +431,8 @@ fn text_of(alloc: Global, counts: &[u64], tasks: usize) -> Result<Vec<u8>, Alloc
 
 /// The summary: how often each task was active, and how often each started.
 fn summary_of(alloc: Global, sweep: Sweep) -> Result<Vec<u8>, Stop>
-    requires { sweep.tasks ≤ 8 }
+    requires some { 1 ≤ sweep.tasks }
+    requires few { sweep.tasks ≤ 8 }
     ensures { IfOk result (λ text. IsSummary sweep.tasks text.items) }
 {
     let tasks = sweep.tasks as usize;
@@ -368,7 +448,8 @@ pub(crate) fn run_sweep<C: Console, E: Sink>(
     console: &mut C,
     diag: &mut E,
 ) -> Status
-    requires { sweep.tasks ≤ 8 }
+    requires some { 1 ≤ sweep.tasks }
+    requires few { sweep.tasks ≤ 8 }
     ensures outcome { Happened (C.events console.old) (C.events console.new) (C.left console.old) (C.left console.new) (E.took diag.old) (E.took diag.new)
         (λ log line. SweepOutcome sweep.tasks sweep.instants log line (code_of result)) }
     ensures status { code_of result ≢ 4 }

@@ -1,0 +1,63 @@
+-- What `sweep` runs: a program of some tasks, of which one may be active at a time.
+-- Source: own; delayable tasks, after Delaval, Marchand and Rutten (LCTES 2010).
+use Rattle.std.specs.Prelude.{ℕ, zero, suc, ◌+◌, List, [], ◌++◌, codes, decimal}
+
+-- the first so many parts, in order, with a text between two of them
+abbrev pub row : List ℕ → (ℕ → List ℕ) → ℕ → List ℕ
+row between part zero = []
+row between part (suc zero) = part 1
+row between part (suc (suc n)) = row between part (suc n) ++ (between ++ part (suc (suc n)))
+
+-- a name with a number
+abbrev pub numbered : List ℕ → ℕ → List ℕ
+numbered name n = name ++ decimal n
+
+-- a name with the number of each of so many tasks
+abbrev pub names_text : List ℕ → ℕ → List ℕ
+names_text name n = row (codes ", ") (numbered name) n
+
+-- a node waits where it is requested and not let run, and is active until it ends
+abbrev pub node_text : List ℕ
+node_text = codes "node delayable(r, c, e : bool) returns (a, s : bool)\nlet\n  automaton\n    state Idle do a = false; s = r & c\n      until r & c then Active | r & not c then Wait\n    state Wait do a = false; s = c\n      until c then Active\n    state Active do a = true; s = false\n      until e then Idle\n  end\ntel\n"
+
+-- the request and the end of a task
+abbrev pub inputs_text : ℕ → List ℕ
+inputs_text n = numbered (codes "r") n ++ numbered (codes ", e") n
+
+-- two tasks are not active at once
+abbrev pub pair_text : ℕ → ℕ → List ℕ
+pair_text other n = numbered (codes "not (a") other ++ numbered (codes " & a") n ++ codes ")"
+
+-- the task behind so many others is active at once with none of them
+abbrev pub apart_text : ℕ → List ℕ
+apart_text others = row (codes " & ") (λ other. pair_text other (others + 1)) others
+
+-- no two tasks are active at once
+abbrev pub guarantee_text : ℕ → List ℕ
+guarantee_text zero = codes "true"
+guarantee_text (suc zero) = codes "true"
+guarantee_text (suc (suc n)) = row (codes " & ") apart_text (suc n)
+
+-- what a task does
+abbrev pub task_text : ℕ → List ℕ
+task_text n =
+    numbered (codes "  (a") n ++ numbered (codes ", s") n ++ numbered (codes ") = inlined delayable(r") n
+    ++ numbered (codes ", c") n ++ numbered (codes ", e") n ++ codes ")"
+
+-- the inputs and outputs of the tasks
+abbrev pub heading_text : ℕ → List ℕ
+heading_text n =
+    codes "node tasks(" ++ row (codes ", ") inputs_text n ++ codes " : bool) returns (" ++ names_text (codes "a") n
+    ++ codes ", " ++ names_text (codes "s") n ++ codes " : bool)\n"
+
+-- what is enforced, and by which variables
+abbrev pub contract_text : ℕ → List ℕ
+contract_text n = codes "contract enforce " ++ guarantee_text n ++ codes " with (" ++ names_text (codes "c") n ++ codes " : bool)\n"
+
+-- what all tasks do
+abbrev pub body_text : ℕ → List ℕ
+body_text n = codes "let\n" ++ row (codes ";\n") task_text n ++ codes "\ntel\n"
+
+-- the source text of so many tasks
+abbrev pub tasks_text : ℕ → List ℕ
+tasks_text n = node_text ++ heading_text n ++ contract_text n ++ body_text n
