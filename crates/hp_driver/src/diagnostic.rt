@@ -20,7 +20,7 @@ use hp_verdicts::ContractErr;
 use itoa::Buffer;
 use std::alloc::{AllocError, Global};
 
-pub(crate) const NOT_BUILT: &[u8] = b"E2 not built\n";
+pub(crate) const NOT_SWEPT: &[u8] = b"E2 not swept\n";
 
 /// Writes a number behind what a line holds.
 fn add_number(line: &mut Vec<u8>, number: u64) -> Result<(), AllocError>
