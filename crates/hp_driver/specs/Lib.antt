@@ -22,6 +22,7 @@ pub mod Given
 pub mod PastOutcome
 pub mod Sweeping
 pub mod Swept
+pub mod Stopping
 pub mod Outcome
 pub mod Checkpoints
 pub mod Asking

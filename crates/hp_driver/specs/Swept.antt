@@ -1,21 +1,17 @@
 -- What a sweep says, and why it says nothing.
 -- Source: own.
-use Rattle.std.specs.Prelude.{◌≡◌, ◌≢◌, ⊤, ℕ, ◌*◌, List, length, codes, None, Some}
+use Rattle.std.specs.Prelude.{◌≡◌, ◌≢◌, ℕ, ◌*◌, List, length, None, Some}
 use Rattle.hp_base.specs.declared.limit.Limit.{Limit}
 use Rattle.hp_compile.specs.declared.refusal.Refusal.{Refusal}
-use Rattle.hp_exec.specs.Answers.{Executes, IsPassed}
-use Rattle.hp_exec.specs.Executors.{Executor}
+use Rattle.hp_exec.specs.Answers.{IsPassed}
 use Rattle.hp_obc.specs.Form.{machine_named}
 use Rattle.hp_obc.specs.Machines.{Machine, Obc}
-use Rattle.hp_obc.specs.Steps.{machine_behaviour}
 use Rattle.hp_verdicts.specs.declared.error.ContractErr.{ContractErr}
 use Rattle.hp_driver.specs.Command.{not_swept_line}
-use Rattle.hp_driver.specs.Compiled.{HasCircuit, IsCompiled, IsNotCompiled}
+use Rattle.hp_driver.specs.Compiled.{IsCompiled, IsNotCompiled}
 use Rattle.hp_driver.specs.Diagnostics.{contract_line, refusal_line}
-use Rattle.hp_driver.specs.Sweeping.{counts_behind, sweep_text, tasks_name, tasks_text}
+use Rattle.hp_driver.specs.Sweeping.{sweep_text, tasks_name, tasks_text}
 use Rattle.hp_driver.specs.declared.compile_error.CompileErr.TheVariants.{Refused, Contract}
-use Rattle.hp_driver.specs.declared.sweep.Stop.{Stop}
-use Rattle.hp_driver.specs.declared.sweep.Stop.TheVariants as stop
 
 -- The machine of the tasks is among these, with so many inputs and as many outputs.
 pub record HasTasks (many : ℕ) (o : Obc) : Type 0 where
@@ -43,29 +39,3 @@ pub data IsNotSwept (tasks : ℕ) : List ℕ → Type 0 where
   refused : (cause : Refusal) → IsNotCompiled (tasks_text tasks) (Refused cause) → IsNotSwept tasks (refusal_line cause)
   contract_refused : (cause : ContractErr) → IsNotCompiled (tasks_text tasks) (Contract cause) → IsNotSwept tasks (contract_line cause)
   not_run : {o : Obc} → IsCompiled (tasks_text tasks) o → IsNotRun (2 * tasks) o → IsNotSwept tasks not_swept_line
-
--- ---- of the code
-
--- the executor of the machine of the tasks, after a reset
-pub record IsOfTasks (many : ℕ) (o : Obc) (e : Executor) : Type 0 where
-  pub has : HasTasks many o
-  pub executes : Executes o tasks_name e
-  pub inputs : length e.signature.inputs ≡ many
-  pub outputs : length e.signature.outputs ≡ many
-
--- the counts of a run of the machine of the tasks
-pub record AreCounts (many instants : ℕ) (o : Obc) (counts : List ℕ) : Type 0 where
-  pub has : HasTasks many o
-  pub counted : counts ≡ counts_behind (machine_behaviour o tasks_name) many instants
-
--- why the machine of the tasks is not run
-abbrev pub StopsAt : ℕ → Obc → Stop → Type 0
-StopsAt many o stop.NotRun = IsNotRun many o
-StopsAt many o stop.OutOfMemory = ⊤
-StopsAt many o (stop.NotCompiled cause) = ⊥
-
--- why a sweep stops
-abbrev pub Stops : ℕ → Stop → Type 0
-Stops tasks (stop.NotCompiled cause) = IsNotCompiled (tasks_text tasks) cause × HasCircuit cause
-Stops tasks stop.NotRun = (o : Obc) × IsCompiled (tasks_text tasks) o × IsNotRun (2 * tasks) o
-Stops tasks stop.OutOfMemory = ⊤

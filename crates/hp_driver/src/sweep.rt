@@ -1,5 +1,5 @@
 //! The command `sweep`: a program of some tasks of which one may be active at a time is made, compiled and run on a trace that is made too, and what was true is counted.
-ghost use Rattle.std.specs.Prelude.{◌≡◌, ◌≢◌, ◌≤◌, ◌++◌, ◌+◌, ◌*◌, ℕ, List, [], length, take, drop, replicate, codes, decimal, IfOk, MatchResult, OnOk};
+ghost use Rattle.std.specs.Prelude.{◌≡◌, ◌≢◌, ◌≤◌, ◌++◌, ◌+◌, ◌*◌, ℕ, true, false, List, [], length, take, drop, replicate, codes, decimal, IfOk, MatchResult, OnOk};
 ghost use Rattle.hp_exec.specs.Executors.{Runs, kept};
 ghost use Rattle.hp_io.specs.Faults.{Same};
 ghost use Rattle.hp_io.specs.Told.{Grows};
@@ -10,9 +10,10 @@ ghost use Rattle.hp_driver.specs.Faults.{BothPutFaults, PutFaults};
 ghost use Rattle.hp_driver.specs.Follows.{SweepOutcome};
 ghost use Rattle.hp_driver.specs.Happened.{Happened};
 ghost use Rattle.hp_driver.specs.Status.{code_of};
+ghost use Rattle.hp_driver.specs.Stopping.{AreCounts, HasMany, HasOthers, IsOfTasks, Stops, StopsAt};
 ghost use Rattle.hp_driver.specs.Sweeping.{row, numbered, names_text, inputs_text, pair_text, apart_text, guarantee_text, task_text, heading_text, contract_text, body_text, tasks_text};
 ghost use Rattle.hp_driver.specs.Sweeping.{is_input, inputs_at, one_more, counted, counts_behind, sweep_text};
-ghost use Rattle.hp_driver.specs.Swept.{AreCounts, HasTasks, IsOfTasks, IsSwept, Stops, StopsAt};
+ghost use Rattle.hp_driver.specs.Swept.{HasTasks, IsSwept};
 
 use crate::compile_error::CompileErr;
 use crate::compiling::compile;
@@ -70,6 +71,32 @@ impl From<AllocError> for Stop {
 
     fn from(_error: AllocError) -> Stop {
         Stop::OutOfMemory
+    }
+}
+
+impl From<ExecErr> for Stop {
+    ghost use Rattle.std.specs.Prelude.{◌≡◌};
+    ghost use Rattle.hp_driver.specs.Stopping.{of_exec};
+
+    ghost from_gives = { λ error e. e ≡ of_exec error };
+
+    fn from(error: ExecErr) -> Stop {
+        match error {
+            ExecErr::NoNode => Stop::NotRun,
+            ExecErr::Limit(_) => Stop::NotRun,
+            ExecErr::OutOfMemory => Stop::OutOfMemory,
+        }
+    }
+}
+
+impl From<CompileErr> for Stop {
+    ghost use Rattle.std.specs.Prelude.{◌≡◌};
+    ghost use Rattle.hp_driver.specs.declared.sweep.Stop.TheVariants.{NotCompiled};
+
+    ghost from_gives = { λ cause e. e ≡ NotCompiled cause };
+
+    fn from(cause: CompileErr) -> Stop {
+        Stop::NotCompiled(cause)
     }
 }
 
@@ -346,7 +373,8 @@ fn run_instants(exec: &mut Exec, instants: u64, room: &mut Room)
     requires counts { length room.old.counts.items ≡ length room.old.outputs.items }
     requires places { length room.old.inputs.items ≤ 16 }
     requires instants { instants ≤ 1000000 }
-    ensures { (b : Behaviour) → Runs exec.old b → kept exec.old ≡ b.reset → room.old.counts.items ≡ replicate (length room.old.inputs.items) 0
+    ensures long { length room.new.counts.items ≡ length room.old.counts.items }
+    ensures counted { (b : Behaviour) → Runs exec.old b → kept exec.old ≡ b.reset → room.old.counts.items ≡ replicate (length room.old.inputs.items) 0
         → room.new.counts.items ≡ counts_behind b (length room.old.inputs.items) instants }
 {
     for i in 0..instants {
@@ -365,29 +393,30 @@ fn counts_by(
     requires outputs { many ≡ length exec.old.signature.outputs }
     requires places { many ≤ 16 }
     requires instants { instants ≤ 1000000 }
-    ensures { (b : Behaviour) → Runs exec.old b → kept exec.old ≡ b.reset → IfOk result (λ counts. counts.items ≡ counts_behind b many instants) }
+    ensures long { IfOk result (λ counts. length counts.items ≡ many) }
+    ensures counted { (b : Behaviour) → Runs exec.old b → kept exec.old ≡ b.reset → IfOk result (λ counts. counts.items ≡ counts_behind b many instants) }
 {
     let mut room = Room::new(alloc, many)?;
     run_instants(exec, instants, &mut room);
     Ok(room.counts)
 }
 
+/// Whether a machine has so many inputs and as many outputs.
+fn has_many(exec: &Exec, many: usize) -> bool
+    ensures yes { result ≡ true → HasMany many exec.now.signature }
+    ensures no { result ≡ false → HasOthers many exec.now.signature }
+{
+    let signature = exec.signature();
+    signature.inputs.len() == many && signature.outputs.len() == many
+}
+
 /// An executor of the machine of the tasks, if it has so many inputs and as many outputs.
 fn exec_of(alloc: Global, machines: &Obc, many: usize) -> Result<Exec, Stop>
     ensures { MatchResult result (IsOfTasks many machines.now) (StopsAt many machines.now) }
 {
-    let exec = match Exec::new(alloc, machines, TASKS) {
-        Ok(exec) => exec,
-        Err(ExecErr::OutOfMemory) => return Err(Stop::OutOfMemory),
-        Err(_) => return Err(Stop::NotRun),
-    };
-    if exec.signature().inputs.len() != many {
-        return Err(Stop::NotRun);
-    }
-    if exec.signature().outputs.len() != many {
-        return Err(Stop::NotRun);
-    }
-    Ok(exec)
+    let exec = Exec::new(alloc, machines, TASKS)?;
+    let has = has_many(&exec, many);
+    if has { Ok(exec) } else { Err(Stop::NotRun) }
 }
 
 /// How often each output of the machine of the tasks was true.
@@ -438,10 +467,8 @@ fn machines_of_tasks(alloc: Global, tasks: u64) -> Result<Obc, Stop>
     ensures { MatchResult result (IsCompiled (tasks_text tasks)) (Stops tasks) }
 {
     let text = program_of(alloc, tasks)?;
-    match compile(alloc, &text) {
-        Ok(machines) => Ok(machines),
-        Err(cause) => Err(Stop::NotCompiled(cause)),
-    }
+    let machines = compile(alloc, &text)?;
+    Ok(machines)
 }
 
 /// The summary of a run of these machines: how often each task was active, and how often each started.
