@@ -7,6 +7,7 @@ pub mod AlikeLaws
 pub mod CallLaws
 pub mod TellLaws
 pub mod Shown
+pub mod SweepTexts
 pub mod SweepLaws
 pub mod ChoosingLaws
 pub mod CompileLaws

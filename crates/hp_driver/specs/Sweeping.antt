@@ -45,17 +45,24 @@ guarantee_text zero = codes "true"
 guarantee_text (suc zero) = codes "true"
 guarantee_text (suc (suc n)) = row (codes " & ") apart_text (suc n)
 
+-- what a task gives, and what it takes
+abbrev pub results_text : ℕ → List ℕ
+results_text n = numbered (codes "  (a") n ++ numbered (codes ", s") n ++ codes ") = "
+
+abbrev pub call_text : ℕ → List ℕ
+call_text n = numbered (codes "inlined delayable(r") n ++ numbered (codes ", c") n ++ numbered (codes ", e") n ++ codes ")"
+
 -- what a task does
 abbrev pub task_text : ℕ → List ℕ
-task_text n =
-    numbered (codes "  (a") n ++ numbered (codes ", s") n ++ numbered (codes ") = inlined delayable(r") n
-    ++ numbered (codes ", c") n ++ numbered (codes ", e") n ++ codes ")"
+task_text n = results_text n ++ call_text n
+
+-- the outputs of the tasks: whether each is active, and whether each starts
+abbrev pub outputs_text : ℕ → List ℕ
+outputs_text n = codes " : bool) returns (" ++ names_text (codes "a") n ++ codes ", " ++ names_text (codes "s") n ++ codes " : bool)\n"
 
 -- the inputs and outputs of the tasks
 abbrev pub heading_text : ℕ → List ℕ
-heading_text n =
-    codes "node tasks(" ++ row (codes ", ") inputs_text n ++ codes " : bool) returns (" ++ names_text (codes "a") n
-    ++ codes ", " ++ names_text (codes "s") n ++ codes " : bool)\n"
+heading_text n = codes "node tasks(" ++ row (codes ", ") inputs_text n ++ outputs_text n
 
 -- what is enforced, and by which variables
 abbrev pub contract_text : ℕ → List ℕ

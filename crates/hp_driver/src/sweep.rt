@@ -11,7 +11,7 @@ ghost use Rattle.hp_driver.specs.Follows.{SweepOutcome};
 ghost use Rattle.hp_driver.specs.Happened.{Happened};
 ghost use Rattle.hp_driver.specs.Status.{code_of};
 ghost use Rattle.hp_driver.specs.Stopping.{AreCounts, HasMany, HasOthers, IsOfTasks, Stops, StopsAt};
-ghost use Rattle.hp_driver.specs.Sweeping.{row, numbered, names_text, inputs_text, pair_text, apart_text, guarantee_text, task_text, heading_text, contract_text, body_text, tasks_text};
+ghost use Rattle.hp_driver.specs.Sweeping.{row, numbered, names_text, inputs_text, pair_text, apart_text, guarantee_text, results_text, call_text, task_text, outputs_text, heading_text, contract_text, body_text, tasks_text};
 ghost use Rattle.hp_driver.specs.Sweeping.{is_input, inputs_at, one_more, counted, counts_behind, sweep_text};
 ghost use Rattle.hp_driver.specs.Swept.{HasTasks, IsSwept};
 
@@ -195,16 +195,31 @@ fn add_guarantee(text: &mut Vec<u8>, tasks: u64) -> Result<(), AllocError>
     Ok(())
 }
 
+/// Adds what a task gives.
+fn add_results(text: &mut Vec<u8>, task: u64) -> Result<(), AllocError>
+    ensures { OnOk result (text.new.items ≡ text.old.items ++ results_text task) }
+{
+    add_name(text, b"  (a", task)?;
+    add_name(text, b", s", task)?;
+    add(text, b") = ")
+}
+
+/// Adds what a task takes.
+fn add_call(text: &mut Vec<u8>, task: u64) -> Result<(), AllocError>
+    ensures { OnOk result (text.new.items ≡ text.old.items ++ call_text task) }
+{
+    add_name(text, b"inlined delayable(r", task)?;
+    add_name(text, b", c", task)?;
+    add_name(text, b", e", task)?;
+    add(text, b")")
+}
+
 /// Adds what a task does.
 fn add_task(text: &mut Vec<u8>, task: u64) -> Result<(), AllocError>
     ensures { OnOk result (text.new.items ≡ text.old.items ++ task_text task) }
 {
-    add_name(text, b"  (a", task)?;
-    add_name(text, b", s", task)?;
-    add_name(text, b") = inlined delayable(r", task)?;
-    add_name(text, b", c", task)?;
-    add_name(text, b", e", task)?;
-    add(text, b")")
+    add_results(text, task)?;
+    add_call(text, task)
 }
 
 /// Adds what the tasks do.
@@ -220,6 +235,18 @@ fn add_tasks(text: &mut Vec<u8>, tasks: u64) -> Result<(), AllocError>
     Ok(())
 }
 
+/// Adds the outputs of the tasks: whether each is active, and whether each starts.
+fn add_outputs(text: &mut Vec<u8>, tasks: u64) -> Result<(), AllocError>
+    requires { 1 ≤ tasks }
+    ensures { OnOk result (text.new.items ≡ text.old.items ++ outputs_text tasks) }
+{
+    add(text, b" : bool) returns (")?;
+    add_names(text, b"a", tasks)?;
+    add(text, b", ")?;
+    add_names(text, b"s", tasks)?;
+    add(text, b" : bool)\n")
+}
+
 /// Adds the inputs and outputs of the tasks.
 fn add_heading(text: &mut Vec<u8>, tasks: u64) -> Result<(), AllocError>
     requires { 1 ≤ tasks }
@@ -227,11 +254,7 @@ fn add_heading(text: &mut Vec<u8>, tasks: u64) -> Result<(), AllocError>
 {
     add(text, b"node tasks(")?;
     add_inputs(text, tasks)?;
-    add(text, b" : bool) returns (")?;
-    add_names(text, b"a", tasks)?;
-    add(text, b", ")?;
-    add_names(text, b"s", tasks)?;
-    add(text, b" : bool)\n")
+    add_outputs(text, tasks)
 }
 
 /// Adds what is enforced, and by which variables.
