@@ -9,6 +9,7 @@ pub mod TellLaws
 pub mod Shown
 pub mod SweepTexts
 pub mod SweepLaws
+pub mod StopLaws
 pub mod ChoosingLaws
 pub mod CompileLaws
 pub mod WordLaws

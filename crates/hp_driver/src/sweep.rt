@@ -5,7 +5,7 @@ ghost use Rattle.hp_io.specs.Faults.{Same};
 ghost use Rattle.hp_io.specs.Told.{Grows};
 ghost use Rattle.hp_obc.specs.Steps.{Behaviour};
 ghost use Rattle.hp_driver.specs.Command.{counted_line, spaced_numbers, summary_text};
-ghost use Rattle.hp_driver.specs.Compiled.{IsCompiled};
+ghost use Rattle.hp_driver.specs.Compiled.{HasCircuit, IsCompiled, IsNotCompiled};
 ghost use Rattle.hp_driver.specs.Faults.{BothPutFaults, PutFaults};
 ghost use Rattle.hp_driver.specs.Follows.{SweepOutcome};
 ghost use Rattle.hp_driver.specs.Happened.{Happened};
@@ -315,6 +315,7 @@ fn is_input(place: usize, instant: u64) -> bool
 }
 
 /// Fills in the inputs of an instant.
+#[tactic(auto, using(crate::proofs::SweepLaws::fill_next))]
 fn fill(instant: u64, inputs: &mut [Value])
     requires places { length inputs.old ≤ 16 }
     requires instant { instant ≤ 1000000 }
@@ -336,6 +337,7 @@ fn one_more(count: u64, output: Value) -> u64
 }
 
 /// Counts which outputs are true.
+#[tactic(auto, using(crate::proofs::SweepLaws::count_next))]
 fn count(outputs: &[Value], counts: &mut [u64])
     requires { length counts.old ≡ length outputs.now }
     ensures { counts.new ≡ counted counts.old outputs.now }
@@ -517,18 +519,33 @@ fn summary_of(alloc: Global, sweep: Sweep) -> Result<Vec<u8>, Stop>
     summary_by(alloc, sweep, &machines)
 }
 
+/// Reports why the program of the tasks is not compiled, or that there is no memory.
+fn report_cause<E: Sink>(alloc: Global, diag: &mut E, error: &CompileErr) -> Status
+    requires { HasCircuit error.now }
+    ensures told { (line : List ℕ) × Grows (E.took diag.old) (E.took diag.new) line
+        × ((tasks instants : ℕ) → IsNotCompiled (tasks_text tasks) error.now → SweepOutcome tasks instants [] line (code_of result)) }
+    ensures status { code_of result ≢ 4 }
+    ensures faults { PutFaults (code_of result) (E.faults diag.old) (E.faults diag.new) }
+{
+    match error {
+        CompileErr::Refused(refusal) => report_refusal(alloc, diag, refusal),
+        CompileErr::Contract(cause) => report_contract(alloc, diag, cause),
+        CompileErr::OutOfMemory => Status::NoMemory,
+    }
+}
+
 /// Reports why a sweep says nothing, or that there is no memory.
 fn report_stop<E: Sink>(alloc: Global, diag: &mut E, stop: &Stop) -> Status
     requires { (tasks : ℕ) × Stops tasks stop.now }
-    ensures told { (line : List ℕ) × Grows (E.took diag.old) (E.took diag.new) line × ((tasks instants : ℕ) → Stops tasks stop.now → SweepOutcome tasks instants [] line (code_of result)) }
+    ensures told { (line : List ℕ) × Grows (E.took diag.old) (E.took diag.new) line
+        × ((tasks instants : ℕ) → Stops tasks stop.now → SweepOutcome tasks instants [] line (code_of result)) }
     ensures status { code_of result ≢ 4 }
     ensures faults { PutFaults (code_of result) (E.faults diag.old) (E.faults diag.new) }
 {
     match stop {
-        Stop::NotCompiled(CompileErr::Refused(refusal)) => report_refusal(alloc, diag, refusal),
-        Stop::NotCompiled(CompileErr::Contract(cause)) => report_contract(alloc, diag, cause),
+        Stop::NotCompiled(cause) => report_cause(alloc, diag, cause),
         Stop::NotRun => report(diag, NOT_SWEPT, Status::Refused),
-        Stop::NotCompiled(CompileErr::OutOfMemory) | Stop::OutOfMemory => Status::NoMemory,
+        Stop::OutOfMemory => Status::NoMemory,
     }
 }
 
