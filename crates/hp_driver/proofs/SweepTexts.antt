@@ -20,3 +20,12 @@ pub guarantee_all : (tasks i : ℕ) → 1 ≤ i → i ≡ tasks - 1 → row (cod
 guarantee_all zero i h e = absurd (omega (arith, h, e))
 guarantee_all (suc zero) i h e = absurd (omega (arith, h, e))
 guarantee_all (suc (suc n)) i h e = let same : i ≡ suc n = omega (arith, e) in ap (row (codes " & ") apart_text) same
+
+-- three texts are written behind another, or five
+pub three : (start a b c t u v : List ℕ) → t ≡ start ++ a → u ≡ t ++ b → v ≡ u ++ c → v ≡ start ++ (a ++ b ++ c)
+three start a b c t u v e f g =
+    g ∙ ap (λ z. z ++ c) (f ∙ ap (λ z. z ++ b) e ∙ append_assoc start a b) ∙ append_assoc start (a ++ b) c
+
+pub five : (start a b c d x t u v w y : List ℕ) → t ≡ start ++ a → u ≡ t ++ b → v ≡ u ++ c → w ≡ v ++ d → y ≡ w ++ x → y ≡ start ++ (a ++ b ++ c ++ d ++ x)
+five start a b c d x t u v w y e f g h k =
+    k ∙ ap (λ z. z ++ x) (h ∙ ap (λ z. z ++ d) (three start a b c t u v e f g) ∙ append_assoc start (a ++ b ++ c) d) ∙ append_assoc start (a ++ b ++ c ++ d) x
