@@ -10,10 +10,11 @@ use Rattle.hp_exec.specs.Signatures.{kind_in_file}
 use Rattle.hp_exec.specs.declared.error.ExecErr.{ExecErr}
 use Rattle.hp_exec.specs.declared.error.ExecErr.TheVariants as executor
 use Rattle.hp_obc.specs.Machines.{Obc}
+use Rattle.hp_obc.specs.Steps.{Behaviour, Memory, Stepped}
 use Rattle.hp_obc.specs.declared.machine.Var.{Var}
 use Rattle.hp_driver.specs.Compiled.{HasCircuit, IsCompiled, IsNotCompiled}
 use Rattle.hp_driver.specs.Stopping.{HasMany, HasOthers, Stops, StopsAt, of_exec}
-use Rattle.hp_driver.specs.Sweeping.{counted, inputs_at, is_input, one_more, sweep_text, tasks_name, tasks_text}
+use Rattle.hp_driver.specs.Sweeping.{counted, counts_behind, inputs_at, is_input, memory_behind, one_more, sweep_text, tasks_name, tasks_text}
 use Rattle.hp_driver.specs.Swept.{HasTasks, IsNotRun, IsSwept}
 use Rattle.hp_driver.specs.declared.compile_error.CompileErr.{CompileErr}
 use Rattle.hp_driver.specs.declared.sweep.Stop.{Stop}
@@ -55,6 +56,23 @@ pub count_next : (counts : List ℕ) (outputs : List Value) (i x : ℕ) (v d : V
 count_next counts outputs i x v d h k e f =
     let same : suc i ≡ i + 1 = omega arith in
     subst (λ j. take j (set counts i x) ++ counted (drop j (set counts i x)) (drop j outputs) ≡ take i counts ++ counted (drop i counts) (drop i outputs)) same (count_at counts outputs i x v d h k e f)
+
+-- ---- the run
+
+module _ (b : Behaviour) (many n places : ℕ) (now : Memory) (e : places ≡ many) (h : now ≡ memory_behind b many n) where
+  step_next : b.step now (inputs_at (n + 1) places) ≡ b.step (memory_behind b many n) (inputs_at (suc n) many)
+  step_next =
+      let next : n + 1 ≡ suc n = omega arith in
+      ap (λ z. b.step z (inputs_at (n + 1) places)) h ∙ ap (λ p. b.step (memory_behind b many n) (inputs_at (n + 1) p)) e ∙ ap (λ j. b.step (memory_behind b many n) (inputs_at j many)) next
+
+  -- the memory behind one instant more, and the counts
+  pub memory_next : (b.step now (inputs_at (n + 1) places)).kept ≡ memory_behind b many (n + 1)
+  memory_next = let next : suc n ≡ n + 1 = omega arith in ap (λ (s : Stepped). s.kept) step_next ∙ ap (memory_behind b many) next
+
+  pub counts_next : (counts : List ℕ) → counts ≡ counts_behind b many n → counted counts (b.step now (inputs_at (n + 1) places)).outputs ≡ counts_behind b many (n + 1)
+  counts_next counts f =
+      let next : suc n ≡ n + 1 = omega arith in
+      ap (λ z. counted z (b.step now (inputs_at (n + 1) places)).outputs) f ∙ ap (λ (s : Stepped). counted (counts_behind b many n) s.outputs) step_next ∙ ap (counts_behind b many) next
 
 -- ---- the machine of the tasks
 

@@ -315,7 +315,6 @@ fn is_input(place: usize, instant: u64) -> bool
 }
 
 /// Fills in the inputs of an instant.
-#[tactic(auto, using(crate::proofs::SweepLaws::fill_next))]
 fn fill(instant: u64, inputs: &mut [Value])
     requires places { length inputs.old ≤ 16 }
     requires instant { instant ≤ 1000000 }
