@@ -1,0 +1,48 @@
+-- What the early bits of a node that chooses depend on at an instant.
+-- Source: own; in a step the early values come first, then the controller is asked, and then all else is computed (Delaval, Marchand and Rutten, LCTES 2010).
+use Rattle.std.specs.Prelude.{◌≡◌, ◌⊎◌, ◌-◌, ◌<◌, ◌≤◌, ℕ, List, length, Contains}
+use Rattle.std.specs.List.{AllByRecursion, range_with_len}
+use Rattle.hp_boolx.specs.Machine.{IsMachine}
+use Rattle.hp_flat.specs.Equations.{FlatEqn}
+use Rattle.law_equations.specs.Meaning.Scheduling.{AreBelow, DefinesNoInput, IsWithin}
+use Rattle.hp_abstract.specs.declared.abstracted.Abstraction.{Abstraction}
+use Rattle.hp_watch.specs.Watching.{Watched}
+use Rattle.hp_controller.specs.declared.decoding.Control.{Control}
+use Rattle.hp_controller.specs.Decoding.{HasBits, total_width}
+use Rattle.law_choices.specs.Depending.Dependence.{DependsOn}
+use Rattle.hp_controlled.specs.Choosing.{telling}
+use Rattle.hp_controlled.specs.Lacking.{HasCircularEqns}
+
+-- No variable depends on itself.
+abbrev pub IsStraight : List FlatEqn → Type 0
+IsStraight es = (v : ℕ) → DependsOn es v v → ⊥
+
+-- the controllable variables of the node that is watched: its last inputs
+abbrev pub controls_in : Watched → List Control → List ℕ
+controls_in w controls = range_with_len (w.node.inputs - length controls) (length controls)
+
+-- An early bit of the node that is watched is a controllable variable, or depends on one.
+pub record WaitsForChoice (w : Watched) (controls : List Control) : Type 0 where
+  pub early : ℕ
+  pub bit : Contains w.early early
+  pub control : ℕ
+  pub chosen : Contains (controls_in w controls) control
+  pub waits : (early ≡ control) ⊎ DependsOn w.node.eqns early control
+
+-- What is asked of the node that is watched: its numbers are those of its variables, no variable depends on itself, no input is defined, and its last inputs have the bits that the machine chooses.
+pub record CanAsk (w : Watched) (a : Abstraction) (controls : List Control) : Type 0 where
+  pub within : IsWithin w.node
+  pub straight : IsStraight w.node.eqns
+  pub no_inputs : DefinesNoInput w.node
+  pub early : AreBelow (length w.node.variables) w.early
+  pub late : AreBelow (length w.node.variables) w.late
+  pub machine : IsMachine a.machine
+  pub assume : a.assume < length a.machine.gates
+  pub enforce : a.enforce < length a.machine.gates
+  pub few : length controls ≤ w.node.inputs
+  pub bits : AllByRecursion (λ (c : Control). HasBits c.kind c.width) controls
+  pub widths : total_width controls ≡ a.machine.control
+
+-- So where equations of the node that chooses read each other in a circle, an early bit waits for the choice.
+abbrev pub CircleLaw : Type 0
+CircleLaw = (f : List ℕ) (w : Watched) (a : Abstraction) (controls : List Control) → CanAsk w a controls → HasCircularEqns (telling f w a controls).node → WaitsForChoice w controls
