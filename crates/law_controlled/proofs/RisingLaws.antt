@@ -16,7 +16,7 @@ use Rattle.hp_flat.specs.Equations.{Clock, FlatEqn}
 use Rattle.hp_flat.specs.Nodes.{FlatNode}
 use Rattle.law_equations.specs.Meaning.Fitting.{atom_variables}
 use Rattle.law_equations.specs.Meaning.Scheduling.{AreBelow, clock_variables, reads, right_reads}
-use Rattle.law_equations.proofs.MeaningLemmas.Lists.{each_first}
+use Rattle.law_equations.proofs.FollowedLemmas.Passing.{each_first}
 use Rattle.hp_watch.specs.Adding.{added_variable, next_variable, operator_eqn, some_value, type_at, with_eqn, with_operator, with_variable}
 use Rattle.hp_watch.specs.Lifting.{case_eqn, count_of, either, has_bit, lifted, spelled, Spelled, Valued, width_of, with_bit, with_bits, with_cases, with_code, with_each, with_either, with_spelling, with_step, with_test}
 use Rattle.hp_watch.specs.declared.watching.Free.{Free}

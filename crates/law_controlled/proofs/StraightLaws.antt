@@ -29,11 +29,11 @@ has_later x y ys e = by (nat_eq y x)
 
 pub has_one : (xs : List ℕ) (x : ℕ) → Contains xs x → has xs x ≡ true
 has_one [] x h = absurd (among (λ y. ⊥) [] x tt h)
-has_one (y ∷ ys) x h = by (Contains-append_cases (y ∷ []) ys x h)
+has_one (y ∷ ys) x h = by (λ c. has_one ys x c) (Contains-append_cases (y ∷ []) ys x h)
   where
-    by : Contains (y ∷ []) x ⊎ Contains ys x → has (y ∷ ys) x ≡ true
-    by (inl c) = has_here x y ys (among (λ z. y ≡ z) (y ∷ []) x (refl, tt) c)
-    by (inr c) = has_later x y ys (has_one ys x c)
+    by : (Contains ys x → has ys x ≡ true) → Contains (y ∷ []) x ⊎ Contains ys x → has (y ∷ ys) x ≡ true
+    by rest (inl c) = has_here x y ys (among (λ z. y ≡ z) (y ∷ []) x (refl, tt) c)
+    by rest (inr c) = has_later x y ys (rest c)
 
 -- ---- chains
 
@@ -140,11 +140,11 @@ module _ (k : ℕ) (es more : List FlatEqn) (low : StayBelow k es) (high : AreBe
       by : IsReadFor es v end ⊎ IsReadFor more v end → IsReadFor es v end
       by (inl r) = r
       by (inr r) = let h = high_read v end r in absurd (omega (arith, l, h))
-  low_chain v (w ∷ ws) end l c = by (read_cases es more v w c.0)
+  low_chain v (w ∷ ws) end l c = by (λ below. low_chain w ws end below c.1) (read_cases es more v w c.0)
     where
-      by : IsReadFor es v w ⊎ IsReadFor more v w → EquationChain es v (w ∷ ws) end
-      by (inl r) = (r, low_chain w ws end (low_read v w r).1 c.1)
-      by (inr r) = let h = high_read v w r in absurd (omega (arith, l, h))
+      by : (w < k → EquationChain es w ws end) → IsReadFor es v w ⊎ IsReadFor more v w → EquationChain es v (w ∷ ws) end
+      by rest (inl r) = (r, rest (low_read v w r).1)
+      by rest (inr r) = let h = high_read v w r in absurd (omega (arith, l, h))
 
   -- and one that ends above stays among the others
   high_chain : (v : ℕ) (vs : List ℕ) (end : ℕ) → k ≤ end → EquationChain (es ++ more) v vs end → EquationChain more v vs end
