@@ -182,10 +182,9 @@ module _ (f : List ℕ) (w : Watched) (a : Abstraction) (controls : List Control
 
   registers_full : AllByRecursion Full (register_eqns p.registers p.gates (length m.gates) m.init m.next)
   registers_full =
-      let M = can.machine in
-      let few = M.init in
+      let few = can.registers in
       let e = more in
-      each_other (IsRow V bits from (λ x y. ⊥)) Full (λ e h. row_full V bits from (λ x y. ⊥) e (omega (arith, more)) (λ x l u y no. absurd no) h) (register_eqns p.registers p.gates (length m.gates) m.init m.next)
+      each_other (IsRow V bits from (λ x y. ⊥)) Full (λ d h. row_full V bits from (λ x y. ⊥) d (omega (arith, e)) (λ x l u y no. absurd no) h) (register_eqns p.registers p.gates (length m.gates) m.init m.next)
       (registers-rows V p.gates (length m.gates) bits from m.init m.next (omega arith) (omega (arith, few)) (omega arith))
 
   -- a place that the question reads
@@ -410,19 +409,79 @@ module _ (f : List ℕ) (w : Watched) (a : Abstraction) (controls : List Control
 
   -- ---- registers, bits of the choice, and control variables
 
+  above : (v : ℕ) → Inner v → V ≤ v
+  above v (inl h) = h.0
+  above v (inr h) = let g = h.0 in omega (arith, g)
+
+  clash : (v : ℕ) → IsLow v → IsHigh v → ⊥
+  clash v (inl (inl h)) (inl g) = let u = h.1 in let l = g.0 in omega (arith, u, l)
+  clash v (inl (inl h)) (inr g) = let u = h.1 in let e = more in omega (arith, u, g, e)
+  clash v (inl (inr h)) (inl g) = let l = h.0 in let u = g.1 in omega (arith, u, l)
+  clash v (inl (inr h)) (inr g) = let u = h.1 in omega (arith, u, g)
+  clash v (inr h) (inl g) = let u = h.1 in let l = g.0 in let b = few in omega (arith, u, l, b)
+  clash v (inr h) (inr g) = let u = h.1 in let b = few in let e = more in omega (arith, u, g, b, e)
+
+  -- what an inner variable reads is an early bit, or an inner variable before it
+  inner_next : (v : ℕ) → Inner v → ((y : ℕ) → y < v → Inner y → Good y) → (y : ℕ) → IsReadFor w.node.eqns v y ⊎ Other v y → Good y
+  inner_next v i rest y (inl r) = let o = own_read v y r in let u = o.1 in let g = above v i in absurd (omega (arith, u, g))
+  inner_next v i rest y (inr (inl (low, inl c))) = early_good y c
+  inner_next v i rest y (inr (inl (low, inr (j, inl l)))) = let g = above v i in absurd (omega (arith, l, g))
+  inner_next v i rest y (inr (inl (low, inr (j, inr l)))) = rest y l j
+  inner_next v i rest y (inr (inr (high, l))) = absurd (clash v (inl i) high)
+
   inner_good : (k v : ℕ) → v < k → Inner v → Good v
   inner_good zero v l i = absurd (omega (arith, l))
-  inner_good (suc k) v l i = good_step v (λ y r. by y (read_is v y r))
-    where
-      above : V ≤ v
-      above = lies i
-        where
-          lies : Inner v → V ≤ v
-          lies (inl h) = h.0
-          lies (inr h) = let g = h.0 in omega (arith, g)
+  inner_good (suc k) v l i = good_step v (λ y r. inner_next v i (λ z u j. inner_good k z (omega (arith, l, u)) j) y (read_is v y r))
 
-      by : (y : ℕ) → IsReadFor w.node.eqns v y ⊎ Other v y → Good y
-      by y r = ?
+  control_next : (v : ℕ) → IsControl v → (y : ℕ) → IsReadFor w.node.eqns v y ⊎ Other v y → Good y
+  control_next v i y (inl r) = let o = own_read v y r in let l = o.0 in let u = i.1 in absurd (omega (arith, l, u))
+  control_next v i y (inr (inl (low, inl c))) = early_good y c
+  control_next v i y (inr (inl (low, inr (j, before)))) = inner_good (suc y) y (omega arith) j
+  control_next v i y (inr (inr (high, l))) = absurd (clash v (inr i) high)
+
+  control_good : (v : ℕ) → IsControl v → Good v
+  control_good v i = good_step v (λ y r. control_next v i y (read_is v y r))
+
+  -- ---- all others
+
+  own_good : (v : ℕ) → v < V → Good v
+  unfolding Meets
+  own_good v l c = by (split v c.0 v l c.1)
+    where
+      back : (x : ℕ) → (v ≡ x) ⊎ DependsOn w.node.eqns v x → DependsOn T x v → DependsOn T x x
+      back x (inl e) d = subst (DependsOn T x) e d
+      back x (inr g) d = depends-both T x v x d (depends_in_all v x g.0 g.1)
+
+      by : EquationChain w.node.eqns v c.0 v ⊎ Meets v v → WaitsForChoice w controls
+      by (inl d) = absurd (can.straight v (c.0, d))
+      by (inr h) = control_good h.0 h.1 (back h.0 h.2 h.3)
+
+  high_next : (v : ℕ) → IsHigh v → V ≤ v → ((y : ℕ) → y < v → Good y) → (y : ℕ) → IsReadFor w.node.eqns v y ⊎ Other v y → Good y
+  high_next v i g rest y (inl r) = let o = own_read v y r in let u = o.1 in absurd (omega (arith, u, g))
+  high_next v i g rest y (inr (inl o)) = absurd (clash v o.0 i)
+  high_next v i g rest y (inr (inr (high, l))) = rest y l
+
+  stands : (v : ℕ) → (v < V) ⊎ (Inner v ⊎ (IsHigh v × (V ≤ v)))
+  stands v = by (nat_lt v V) (nat_lt v gates) (nat_lt v from) (nat_lt v end) refl refl refl refl
+    where
+      by : (p q r s : Bool) → nat_lt v V ≡ p → nat_lt v gates ≡ q → nat_lt v from ≡ r → nat_lt v end ≡ s → (v < V) ⊎ (Inner v ⊎ (IsHigh v × (V ≤ v)))
+      by true q r s a b c d = inl (grind (arith, nat_tests, a))
+      by false true r s a b c d = inr (inl (inl (grind (arith, nat_tests, a), grind (arith, nat_tests, b))))
+      by false false true s a b c d = inr (inr (inl (grind (arith, nat_tests, b), grind (arith, nat_tests, c)), grind (arith, nat_tests, a)))
+      by false false false true a b c d = inr (inl (inr (grind (arith, nat_tests, c), grind (arith, nat_tests, d))))
+      by false false false false a b c d = inr (inr (inr (grind (arith, nat_tests, d)), grind (arith, nat_tests, a)))
+
+  any_good : (k v : ℕ) → v < k → Good v
+  any_good zero v l = absurd (omega (arith, l))
+  any_good (suc k) v l = by (stands v) (λ y u. any_good k y (omega (arith, l, u)))
+    where
+      by : (v < V) ⊎ (Inner v ⊎ (IsHigh v × (V ≤ v))) → ((y : ℕ) → y < v → Good y) → Good v
+      by (inl u) rest = own_good v u
+      by (inr (inl i)) rest = inner_good (suc v) v (omega arith) i
+      by (inr (inr h)) rest = good_step v (λ y r. high_next v h.0 h.1 rest y (read_is v y r))
+
+  pub waits : HasCircularEqns (telling f w a controls).node → WaitsForChoice w controls
+  waits circle = let c = circle_depends T (circle in_ranges) in any_good (suc c.0) c.0 (omega arith) c.1
 
 pub circle_law : CircleLaw
-circle_law f w a controls can circle = ?
+circle_law f w a controls can circle = waits f w a controls can circle

@@ -103,7 +103,7 @@ sum-more : (w : ℕ) (ws : List ℕ) → w + sum ws ≡ sum (w ∷ ws)
 sum-more w ws = let more = fold-from (0 + w) ws in omega (arith, more)
 
 -- as many controls as widths, with these widths, and with bits
-widths_are : (types : List ObcType) (vs : List Variable) (ws : List ℕ) (cs : List Control) → AreControls types vs ws cs → (length cs ≡ length ws) × (total_width cs ≡ sum ws) × AllByRecursion (λ (c : Control). HasBits c.kind c.width) cs
+pub widths_are : (types : List ObcType) (vs : List Variable) (ws : List ℕ) (cs : List Control) → AreControls types vs ws cs → (length cs ≡ length ws) × (total_width cs ≡ sum ws) × AllByRecursion (λ (c : Control). HasBits c.kind c.width) cs
 widths_are types vs [] [] are = (refl, refl, tt)
 widths_are types vs [] (c ∷ cs) are = absurd are
 widths_are types [] (w ∷ ws) cs are = absurd are

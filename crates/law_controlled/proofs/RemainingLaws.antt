@@ -85,10 +85,12 @@ use Rattle.hp_controlled.specs.Choosing.IsOwn.{that_stays, that_chooses}
 use Rattle.hp_controlled.specs.Compiled.{AreEquationsOf, AreObserved, contracts_of}
 use Rattle.hp_controlled.specs.Lacking.{ChoosesNot, FitContracts, HasCircularEquations, HasNoChosenMachines, LacksCompiled, LacksMachines, LacksNodes, LacksObservers, OneLacksMachines}
 use Rattle.hp_controlled.specs.Lacking.OneLacksMachines.{none_left, here, behind_a_node, behind_a_type}
+use Rattle.law_controlled.specs.Early.{CanAsk, CircleLaw}
 use Rattle.law_controlled.specs.Program.{MadeNodesLaw}
 use Rattle.law_controlled.specs.Remaining.{Hinders, IsHindered, Remaining, RemainingLaw}
-use Rattle.law_controlled.specs.Remaining.Hinders.{circular}
+use Rattle.law_controlled.specs.Remaining.Hinders.{waits}
 use Rattle.law_controlled.specs.Remaining.Remaining.{one_hindered}
+use Rattle.law_controlled.proofs.AskedLaws.{can_ask}
 use Rattle.law_controlled.proofs.BroughtLaws.{survey-in, survey-types}
 use Rattle.law_controlled.proofs.CircleLaws.{no_circle}
 use Rattle.law_controlled.proofs.FitLaws.{contracts_fit}
@@ -123,6 +125,7 @@ pub record RemainingLaws : Type 0 where
   pub formed : FormedLaws
   pub lettered : MachineNamesLaw
   pub clocks : nested.TextLaw
+  pub circle : CircleLaw
 
 -- ---- names of nodes
 
@@ -282,7 +285,8 @@ module _ (after : List Item) (k : Known) (enums : Enumerations) (places : List �
       (wells :
       (c : Contracted) → IsContracted types seen l.node c → (names : List (List ℕ)) → IsTurned types k names (lowered_node enums l.node) c.plant → IsMadeOf k (lowered_node enums l.node) c.plant → IsReadyMade types (calls_of types k) c.plant
       → ((f : List ℕ) → has_name names f ≡ true → is_new f ≡ false) → is_new c.plant.name ≡ false → (all : Callees) × AllByRecursion (EqnKinds types all c.chosen.node.variables) c.chosen.node.eqns)
-      (has_types : (c : Contract) → l.node.contract ≡ Some c → (own : Observed) → seen l.plant.name ≡ Some own → HasTypes l own) where
+      (has_types : (c : Contract) → l.node.contract ≡ Some c → (own : Observed) → seen l.plant.name ≡ Some own → HasTypes l own)
+      (asks : (a : Abstraction) → IsAbstractionOf after l.node a → a.machine.control ≡ sum a.machine.widths → (s : Suits types seen l.node l.plant a) → CanAsk s.watched a s.controls) where
     abbrev Left : Type 0
     Left = Hinders after types seen l.node l.plant
 
@@ -347,7 +351,9 @@ module _ (after : List Item) (k : Known) (enums : Enumerations) (places : List �
     chooses_not : (a : Abstraction) → IsTrue (is_some l.node.contract) → IsAbstractionOf after l.node a → ChoosesNot types seen l.node l.plant a → Left
     chooses_not a some is (ChoosesNot.long_name long) = absurd (omega (arith, long, short))
     chooses_not a some is (ChoosesNot.unsuited none) = absurd (none (all-suit a some is))
-    chooses_not a some is (ChoosesNot.circular s circle) = circular a some is s circle
+    chooses_not a some is (ChoosesNot.circular s circle) =
+        let mirror = laws.mirrors program after ranks order l.earlier l.node l.stands is.drawn a.machine is.is_drawn is.is_machine in
+        waits a some is s (laws.circle l.node.name s.watched a s.controls (asks a is mirror.control_are s) circle)
 
     no_nodes : IsTrue (is_some l.node.contract) → IsKept after l.node → LacksNodes after types seen l.node l.plant → Left
     no_nodes some kept (LacksNodes.refused e why k) = absurd (not_refused after l.node kept.machine kept.is_machine e k why)
@@ -487,7 +493,11 @@ module _ (laws : RemainingLaws) (program after : List Item) (ranks : List (List 
       (λ c has own its. (
         survey-types program after q.ready q.removable q.form q.short b.calls b.observable seen are same_places l.earlier l.node l.stands c has l.plant l.made (signed after (known_of low) (enumerations [] after) (places_of low) (types_of after) seen l) own its,
         survey-in program after q.ready q.removable q.form q.short b.calls b.observable seen are same_places l.earlier l.node l.stands c has l.plant l.made (signed after (known_of low) (enumerations [] after) (places_of low) (types_of after) seen l) own its,
-      )))
+      ))
+      (λ a is control s.
+      let made = l.made in
+      let known = l.known in
+      can_ask laws.formed.turn laws.made laws.observer program after q b.unsigned can_be seen are l.node l.plant l.names l.turned made l.ready l.signed (ap is_new made.name ∙ known.unsigned) a is control s))
   left (HasNoChosenMachines.formless ms are none) =
       let q = b.arranged in
       let e = are.equations in

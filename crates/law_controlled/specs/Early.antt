@@ -2,7 +2,6 @@
 -- Source: own; in a step the early values come first, then the controller is asked, and then all else is computed (Delaval, Marchand and Rutten, LCTES 2010).
 use Rattle.std.specs.Prelude.{◌≡◌, ◌⊎◌, ◌-◌, ◌<◌, ◌≤◌, ℕ, List, length, Contains}
 use Rattle.std.specs.List.{AllByRecursion, range_with_len}
-use Rattle.hp_boolx.specs.Machine.{IsMachine}
 use Rattle.hp_flat.specs.Equations.{FlatEqn}
 use Rattle.law_equations.specs.Meaning.Scheduling.{AreBelow, DefinesNoInput, IsWithin}
 use Rattle.hp_abstract.specs.declared.abstracted.Abstraction.{Abstraction}
@@ -36,7 +35,7 @@ pub record CanAsk (w : Watched) (a : Abstraction) (controls : List Control) : Ty
   pub no_inputs : DefinesNoInput w.node
   pub early : AreBelow (length w.node.variables) w.early
   pub late : AreBelow (length w.node.variables) w.late
-  pub machine : IsMachine a.machine
+  pub registers : length a.machine.init ≤ a.machine.registers
   pub assume : a.assume < length a.machine.gates
   pub enforce : a.enforce < length a.machine.gates
   pub few : length controls ≤ w.node.inputs

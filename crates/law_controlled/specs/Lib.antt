@@ -1,6 +1,7 @@
 pub mod Alike
 pub mod Allowed
 pub mod AtDepth
+pub mod Early
 pub mod Fitting
 pub mod Greatest
 pub mod Headed

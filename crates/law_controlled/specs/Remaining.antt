@@ -24,13 +24,14 @@ use Rattle.hp_abstract.specs.Abstractions.{IsAbstractionOf}
 use Rattle.hp_watch.specs.Watching.{Observing}
 use Rattle.hp_verdicts.specs.Decided.{AreKept}
 use Rattle.law_games.specs.ReadyGames.Laws.{Stands}
-use Rattle.hp_controlled.specs.Choosing.{Suits, telling}
+use Rattle.hp_controlled.specs.Choosing.{Suits}
 use Rattle.hp_controlled.specs.Compiled.{AreEquationsOf, AreObserved}
-use Rattle.hp_controlled.specs.Lacking.{HasCircularEqns, HasNoChosenMachines}
+use Rattle.hp_controlled.specs.Lacking.{HasNoChosenMachines}
+use Rattle.law_controlled.specs.Early.{WaitsForChoice}
 
--- Of a node with a contract, of which these are the clocked equations: equations of the node that chooses read each other in a circle.
+-- Of a node with a contract, of which these are the clocked equations: an early bit of it depends at an instant on a controllable variable, which is chosen when the early bits are known.
 pub data Hinders (program : List Item) (types : List ObcType) (observers : Observing) (node : Node) (n : FlatNode) : Type 0 where
-  circular : (a : Abstraction) → IsTrue (is_some node.contract) → IsAbstractionOf program node a → (s : Suits types observers node n a) → HasCircularEqns (telling node.name s.watched a s.controls).node → Hinders program types observers node n
+  waits : (a : Abstraction) → IsTrue (is_some node.contract) → IsAbstractionOf program node a → (s : Suits types observers node n a) → WaitsForChoice s.watched s.controls → Hinders program types observers node n
 
 -- A node of the program, of which these are the clocked equations, where something is in the way.
 pub record IsHindered (program : List Item) (types : List ObcType) (observers : Observing) : Type 0 where

@@ -42,4 +42,5 @@ returns c = remaining_law (record {
   };
   lettered = c.machines_are_spelled.ensures.names;
   clocks = c.clocks_of_texts_are_short.ensures;
+  circle = c.circles_pass_early_bits.ensures;
 })
