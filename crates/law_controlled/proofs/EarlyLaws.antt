@@ -30,9 +30,9 @@ use Rattle.hp_controlled.specs.Choosing.{asking, controller_name, first_gate, te
 use Rattle.hp_controlled.specs.Lacking.{HasCircularEqns}
 use Rattle.law_choices.specs.Depending.Dependence.{DependsOn, EquationChain, IsReadFor}
 use Rattle.law_choices.proofs.AddingLemmas.Adding.{both}
-use Rattle.law_choices.proofs.AddingLemmas.Rows.{each_range, range_has}
+use Rattle.law_choices.proofs.AddingLemmas.Rows.{each_range}
 use Rattle.law_choices.proofs.AddingLemmas.Steps.{among, higher}
-use Rattle.law_choices.proofs.ClosedLemmas.ClosedLaws.{each_other}
+use Rattle.law_choices.proofs.ClosedLemmas.ClosedLaws.{each_other, first_one, later_one}
 use Rattle.law_controlled.specs.Early.{CanAsk, CircleLaw, controls_in, WaitsForChoice}
 use Rattle.law_controlled.proofs.AskingLaws.{controls-count, controls-rows, Decodes, gates-rows, IsRow, MayRead, question-reads, registers-rows, row-within}
 use Rattle.law_controlled.proofs.EmbeddedLaws.{reads-below}
@@ -72,6 +72,15 @@ module _ (k : ℕ) where
 copy-eqns : (x : ℕ) (n : FlatNode) → (with_copy x n).eqns ≡ n.eqns ++ operator_eqn (next_variable n) [] Copy (Read x ∷ []) ∷ []
 unfolding with_variable with_eqn
 copy-eqns x n = refl
+
+-- a number of a row
+in_range : (low many x : ℕ) → low ≤ x → x < low + many → Contains (range_with_len low many) x
+in_range low zero x l u = absurd (omega (arith, l, u))
+in_range low (suc many) x l u = by (nat_lt low x) refl (λ m. in_range (low + 1) many x m (omega (arith, u)))
+  where
+    by : (b : Bool) → nat_lt low x ≡ b → (low + 1 ≤ x → Contains (range_with_len (low + 1) many) x) → Contains (range_with_len low (suc many)) x
+    by true e rest = later_one low x (range_with_len (low + 1) many) (rest (grind (arith, nat_tests, e)))
+    by false e rest = let same : low ≡ x = grind (arith, nat_tests, e, l) in subst (λ y. Contains (low ∷ range_with_len (low + 1) many) y) same (first_one low (range_with_len (low + 1) many))
 
 -- ---- the node that chooses
 
@@ -357,11 +366,11 @@ module _ (f : List ℕ) (w : Watched) (a : Abstraction) (controls : List Control
 
   -- a variable is a control variable, or depends on one in the node that is watched; this one depends on the end
   Meets : ℕ → ℕ → Type 0
-  Meets v end = (c : ℕ) × IsControl c × ((v ≡ c) ⊎ DependsOn w.node.eqns v c) × DependsOn T c end
+  Meets v last = (c : ℕ) × IsControl c × ((v ≡ c) ⊎ DependsOn w.node.eqns v c) × DependsOn T c last
 
-  meets_later : (v y end : ℕ) → IsReadFor w.node.eqns v y → Meets y end → Meets v end
+  meets_later : (v y last : ℕ) → IsReadFor w.node.eqns v y → Meets y last → Meets v last
   unfolding Meets
-  meets_later v y end r h = (h.0, h.1, inr (by h.2), h.3)
+  meets_later v y last r h = (h.0, h.1, inr (by h.2), h.3)
     where
       by : (y ≡ h.0) ⊎ DependsOn w.node.eqns y h.0 → DependsOn w.node.eqns v h.0
       by (inl e) = depends-read w.node.eqns v h.0 (subst (IsReadFor w.node.eqns v) e r)
@@ -375,20 +384,20 @@ module _ (f : List ℕ) (w : Watched) (a : Abstraction) (controls : List Control
   other_control v y l (inr (inl h, b)) = let g = h.0 in absurd (omega (arith, g, l))
   other_control v y l (inr (inr h, b)) = let e = more in absurd (omega (arith, h, l, e))
 
-  split : (v : ℕ) (vs : List ℕ) (end : ℕ) → v < V → EquationChain T v vs end → EquationChain w.node.eqns v vs end ⊎ Meets v end
+  split : (v : ℕ) (vs : List ℕ) (last : ℕ) → v < V → EquationChain T v vs last → EquationChain w.node.eqns v vs last ⊎ Meets v last
   unfolding Meets
-  split v [] end l c = by (read_is v end c)
+  split v [] last l c = by (read_is v last c)
     where
-      by : IsReadFor w.node.eqns v end ⊎ Other v end → IsReadFor w.node.eqns v end ⊎ Meets v end
+      by : IsReadFor w.node.eqns v last ⊎ Other v last → IsReadFor w.node.eqns v last ⊎ Meets v last
       by (inl r) = inl r
-      by (inr o) = inr (v, other_control v end l o, inl refl, ([], c))
-  split v (y ∷ ys) end l c = by (read_is v y c.0) (λ below. split y ys end below c.1)
+      by (inr o) = inr (v, other_control v last l o, inl refl, ([], c))
+  split v (y ∷ ys) last l c = by (read_is v y c.0) (λ below. split y ys last below c.1)
     where
-      rest : (r : IsReadFor w.node.eqns v y) → EquationChain w.node.eqns y ys end ⊎ Meets y end → EquationChain w.node.eqns v (y ∷ ys) end ⊎ Meets v end
+      rest : (r : IsReadFor w.node.eqns v y) → EquationChain w.node.eqns y ys last ⊎ Meets y last → EquationChain w.node.eqns v (y ∷ ys) last ⊎ Meets v last
       rest r (inl d) = inl (r, d)
-      rest r (inr h) = inr (meets_later v y end r h)
+      rest r (inr h) = inr (meets_later v y last r h)
 
-      by : IsReadFor w.node.eqns v y ⊎ Other v y → (y < V → EquationChain w.node.eqns y ys end ⊎ Meets y end) → EquationChain w.node.eqns v (y ∷ ys) end ⊎ Meets v end
+      by : IsReadFor w.node.eqns v y ⊎ Other v y → (y < V → EquationChain w.node.eqns y ys last ⊎ Meets y last) → EquationChain w.node.eqns v (y ∷ ys) last ⊎ Meets v last
       by (inl r) next = rest r (next (own_read v y r).2)
       by (inr o) next = inr (v, other_control v y l o, inl refl, (y ∷ ys, c))
 
@@ -405,7 +414,7 @@ module _ (f : List ℕ) (w : Watched) (a : Abstraction) (controls : List Control
           let l = there.0 in
           let u = there.1 in
           let taken = can.few in
-          record { early = v; bit = is; control = h.0; chosen = range_has first (length controls) h.0 l (omega (arith, u, taken)); waits = h.2 }
+          record { early = v; bit = is; control = h.0; chosen = in_range first (length controls) h.0 l (omega (arith, u, taken)); waits = h.2 }
 
   -- ---- registers, bits of the choice, and control variables
 

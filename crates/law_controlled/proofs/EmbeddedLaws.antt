@@ -57,11 +57,11 @@ came-moved by (x ∷ xs) = (inr (x, refl, first_one x xs), came-more by xs (x �
 
 moved-variables : (by : ℕ) (clock : Clock) → clock_variables (moved_clock by clock) ≡ moved_all by (clock_variables clock)
 moved-variables by [] = refl
-moved-variables by (on ∷ clock) = ap (λ xs. on.0 + by ∷ xs) (moved-variables by clock)
+moved-variables by (on ∷ clock) = ap (λ xs. (on.0 + by) ∷ xs) (moved-variables by clock)
 
 moved-atoms : (by : ℕ) (args : List Atom) → flat_map atom_variables (map (moved_atom by) args) ≡ moved_all by (flat_map atom_variables args)
 moved-atoms by [] = refl
-moved-atoms by (Read x ∷ args) = ap (λ xs. x + by ∷ xs) (moved-atoms by args)
+moved-atoms by (Read x ∷ args) = ap (λ xs. (x + by) ∷ xs) (moved-atoms by args)
 moved-atoms by (Fixed v ∷ args) = moved-atoms by args
 
 moved-reads : (by : ℕ) (r : Right) → right_reads (moved_right by r) ≡ moved_all by (right_reads r)

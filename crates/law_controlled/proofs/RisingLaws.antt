@@ -184,9 +184,11 @@ gets-tests t value (suc k) n l =
     let last = operator-longer ty.Bool Eq args m in
     (gets-both n m (with_test t value k m) g (gets-operator ty.Bool Eq args m (omega (arith, l, more), tt)), omega (arith, long, last))
 
-has-or : (bit test : ℕ) (n : FlatNode) (b : Bool) → bit < length n.variables → test < length n.variables
-    → Has n (if b then record { node = with_operator ty.Bool Or (Read bit ∷ Read test ∷ []) n; value = next_variable n } else record { node = n; value = bit }).node
-    (if b then record { node = with_operator ty.Bool Or (Read bit ∷ Read test ∷ []) n; value = next_variable n } else record { node = n; value = bit }).value
+-- whether one of two is true, or the first of them
+abbrev or_value : ℕ → ℕ → FlatNode → Bool → Valued
+or_value bit test n b = if b then record { node = with_operator ty.Bool Or (Read bit ∷ Read test ∷ []) n; value = next_variable n } else record { node = n; value = bit }
+
+has-or : (bit test : ℕ) (n : FlatNode) (b : Bool) → bit < length n.variables → test < length n.variables → Has n (or_value bit test n b).node (or_value bit test n b).value
 has-or bit test n true l m =
     let last = operator-longer ty.Bool Or (Read bit ∷ Read test ∷ []) n in
     record { gets = gets-operator ty.Bool Or (Read bit ∷ Read test ∷ []) n (l, (m, tt)); below = omega (arith, last) }
