@@ -1,7 +1,6 @@
 -- What is asked of the node that is watched, where the program of a text is compiled.
 use Rattle.std.proofs.Common.{◌≡◌, ◌≤◌, ◌<◌, ℕ, ◌+◌, Bool, List, [], ◌∷◌, ◌++◌, length, map, drop, Option, None, Some, refl, sym, ap, ap₂, subst, ◌∙◌, arith}
 use Rattle.std.specs.Prelude.{⊤, false, true, slice_index_or, sum}
-use Rattle.std.specs.List.{AllByRecursion}
 use Rattle.std.proofs.lemmas.List.{length-append}
 use Rattle.hp_circuit.specs.declared.circuit.Role.{Role}
 use Rattle.hp_circuit.specs.declared.circuit.Role.TheVariants as role
@@ -9,13 +8,13 @@ use Rattle.hp_circuit.specs.declared.circuit.Shape.{Shape}
 use Rattle.hp_circuit.specs.declared.circuit.Slot.{Slot}
 use Rattle.hp_circuit.specs.declared.given.Given.{Given}
 use Rattle.hp_circuit.specs.declared.kind.Kind.TheVariants.{Registers}
-use Rattle.hp_circuit.specs.Kinds.{bits_of, kind_of, own, role_kind}
+use Rattle.hp_circuit.specs.Kinds.{bits_of, own, role_kind}
 use Rattle.hp_circuit.specs.Machines.{joined, role_init, slot_init}
 use Rattle.hp_circuit.specs.Shapes.{shape_width}
 use Rattle.hp_circuit.proofs.NumberLaws.{length_bits}
 use Rattle.hp_obc.specs.Form.{has_name, TypesForm}
 use Rattle.hp_obc.specs.Machines.{ObcType}
-use Rattle.hp_tree.specs.Meaning.{controls_of, types_of}
+use Rattle.hp_tree.specs.Meaning.{types_of}
 use Rattle.hp_tree.specs.Programs.{Contract, Node, TypeDecl}
 use Rattle.hp_tree.specs.declared.program.Item.{Item}
 use Rattle.hp_tree.specs.declared.program.Item.TheVariants.{NodeItem, TypeItem}
@@ -27,7 +26,7 @@ use Rattle.hp_flat.specs.Nodes.{FlatNode}
 use Rattle.law_equations.specs.Made.Making.{Known}
 use Rattle.law_equations.specs.Made.Types.{obc_types}
 use Rattle.law_equations.specs.Meaning.Kinding.{Callees}
-use Rattle.law_equations.specs.Meaning.Scheduling.{AreBelow, IsRanked}
+use Rattle.law_equations.specs.Meaning.Scheduling.{IsRanked}
 use Rattle.hp_complete.specs.Declaring.{known_of}
 use Rattle.hp_complete.specs.Made.{AreMadeOf, IsMadeOf}
 use Rattle.hp_abstract.specs.declared.abstracted.Abstraction.{Abstraction}

@@ -1,7 +1,6 @@
 -- The equations of a node that asks its controller, in the order in which they read each other.
-use Rattle.std.proofs.Common.{◌≡◌, ◌⊎◌, inl, inr, ℕ, zero, suc, ◌+◌, ◌-◌, ◌<◌, ◌≤◌, Bool, true, false, if◌then◌else◌, nat_lt, List, [], ◌∷◌, ◌++◌, length, map, slice_get, Option, None, Some, refl, sym, ap, subst, ◌∙◌, arith}
-use Rattle.std.specs.Prelude.{Contains}
-use Rattle.std.specs.List.{AllByRecursion, flat_map, range_with_len}
+use Rattle.std.proofs.Common.{◌≡◌, ◌⊎◌, inl, inr, ℕ, zero, suc, ◌+◌, ◌<◌, ◌≤◌, Bool, true, false, if◌then◌else◌, nat_lt, List, [], ◌∷◌, ◌++◌, length, map, refl, arith}
+use Rattle.std.specs.List.{AllByRecursion, flat_map}
 use Rattle.std.proofs.lemmas.Bool.Decides.{nat_tests}
 use Rattle.std.proofs.lemmas.List.{length-append}
 use Rattle.hp_base.specs.declared.value.Value.TheVariants.{B}
@@ -21,11 +20,10 @@ use Rattle.hp_controller.specs.declared.decoding.ControlKind.{ControlKind}
 use Rattle.hp_controller.specs.declared.decoding.ControlKind.TheVariants.{Truth, Constructor}
 use Rattle.hp_controller.specs.Controllers.{added_variable, equation}
 use Rattle.hp_controller.specs.Decoding.{control_eqns, controls_eqns, HasBits, total_width, tree}
-use Rattle.hp_controller.specs.Gates.{gate_args, gate_at, gate_eqns, gate_op, place_of, variable_at}
-use Rattle.hp_controller.specs.Steps.{asking_eqn, register_eqn, register_eqns}
+use Rattle.hp_controller.specs.Gates.{gate_args, gate_at, gate_eqns, gate_op, variable_at}
+use Rattle.hp_controller.specs.Steps.{register_eqn, register_eqns}
 use Rattle.law_choices.proofs.AddingLemmas.Adding.{both}
-use Rattle.law_choices.proofs.AddingLemmas.Rows.{each_range}
-use Rattle.law_choices.proofs.AddingLemmas.Steps.{among, higher}
+use Rattle.law_choices.proofs.AddingLemmas.Steps.{higher}
 use Rattle.law_choices.proofs.ClosedLemmas.ClosedLaws.{each_other}
 
 -- ---- rows

@@ -1,5 +1,5 @@
 -- Where equations of the node that chooses read each other in a circle, an early bit waits for the choice.
-use Rattle.std.proofs.Common.{◌≡◌, ◌⊎◌, inl, inr, ℕ, zero, suc, ◌+◌, ◌-◌, ◌<◌, ◌≤◌, Bool, true, false, nat_lt, List, [], ◌∷◌, ◌++◌, length, map, refl, sym, ap, subst, ◌∙◌, arith}
+use Rattle.std.proofs.Common.{◌≡◌, ◌⊎◌, inl, inr, ℕ, zero, suc, ◌+◌, ◌-◌, ◌<◌, ◌≤◌, Bool, true, false, nat_lt, List, [], ◌∷◌, ◌++◌, length, refl, sym, ap, subst, ◌∙◌, arith}
 use Rattle.std.specs.Prelude.{All, Contains}
 use Rattle.std.specs.List.{AllByRecursion, flat_map, range_with_len}
 use Rattle.std.proofs.lemmas.Bool.Decides.{nat_tests}
@@ -16,7 +16,6 @@ use Rattle.hp_flat.specs.Nodes.{FlatNode}
 use Rattle.law_equations.specs.Meaning.Fitting.{atom_variables, operands}
 use Rattle.law_equations.specs.Meaning.Scheduling.{AreBelow, clock_variables, EqnWithin, reads}
 use Rattle.hp_complete.specs.Ranges as ranges
-use Rattle.hp_complete.specs.Ordering.{IsCircular}
 use Rattle.hp_abstract.specs.declared.abstracted.Abstraction.{Abstraction}
 use Rattle.hp_watch.specs.Adding.{next_variable, operator_eqn, with_copy, with_eqn, with_variable}
 use Rattle.hp_watch.specs.Watching.{Watched}
@@ -33,8 +32,8 @@ use Rattle.law_choices.proofs.AddingLemmas.Adding.{both}
 use Rattle.law_choices.proofs.AddingLemmas.Rows.{each_range}
 use Rattle.law_choices.proofs.AddingLemmas.Steps.{among, higher}
 use Rattle.law_choices.proofs.ClosedLemmas.ClosedLaws.{each_other, first_one, later_one}
-use Rattle.law_controlled.specs.Early.{CanAsk, CircleLaw, controls_in, WaitsForChoice}
-use Rattle.law_controlled.proofs.AskingLaws.{controls-count, controls-rows, Decodes, gates-rows, IsRow, MayRead, question-reads, registers-rows, row-within}
+use Rattle.law_controlled.specs.Early.{CanAsk, CircleLaw, WaitsForChoice}
+use Rattle.law_controlled.proofs.AskingLaws.{controls-count, controls-rows, Decodes, gates-rows, IsRow, MayRead, question-reads, registers-rows}
 use Rattle.law_controlled.proofs.EmbeddedLaws.{reads-below}
 use Rattle.law_controlled.proofs.RisingLaws.{operator-longer}
 use Rattle.law_controlled.proofs.StraightLaws.{circle_depends, depends-behind, depends-both, depends-read}

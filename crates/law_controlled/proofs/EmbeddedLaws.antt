@@ -1,5 +1,5 @@
 -- Observers are put among the equations of a node such that no variable depends on itself.
-use Rattle.std.proofs.Common.{◌≡◌, ◌⊎◌, inl, inr, ℕ, zero, suc, ◌+◌, ◌-◌, ◌<◌, ◌≤◌, List, [], ◌∷◌, ◌++◌, length, map, slice_get, Option, None, Some, refl, sym, ap, subst, ◌∙◌, arith}
+use Rattle.std.proofs.Common.{◌≡◌, ◌⊎◌, inl, inr, ℕ, ◌+◌, ◌-◌, ◌<◌, ◌≤◌, List, [], ◌∷◌, ◌++◌, length, map, refl, sym, ap, subst, ◌∙◌, arith}
 use Rattle.std.specs.Prelude.{Contains}
 use Rattle.std.specs.List.{AllByRecursion, flat_map}
 use Rattle.std.proofs.lemmas.List.{append-nil, append_assoc}
@@ -12,14 +12,14 @@ use Rattle.hp_flat.specs.Equations.{Clock, Right, operator, register, called, Fl
 use Rattle.hp_flat.specs.Nodes.{FlatNode}
 use Rattle.law_equations.specs.Meaning.Fitting.{atom_variables, operands}
 use Rattle.law_equations.specs.Meaning.Scheduling.{AreBelow, clock_variables, DefinesNoInput, EqnWithin, IsWithin, reads, right_reads}
-use Rattle.hp_watch.specs.Adding.{next_variable, operator_eqn, with_eqn, with_variable}
+use Rattle.hp_watch.specs.Adding.{operator_eqn, with_eqn, with_variable}
 use Rattle.hp_watch.specs.Embedding.{embedded, moved_all, moved_atom, moved_clock, moved_eqn, moved_right, Site, with_inputs, with_moved, with_room, with_variables}
 use Rattle.law_choices.specs.Depending.Dependence.{EquationChain, IsReadFor}
 use Rattle.law_choices.proofs.AddingLemmas.Adding.{both}
 use Rattle.law_choices.proofs.AddingLemmas.Steps.{among, higher}
 use Rattle.law_choices.proofs.ClosedLemmas.ClosedLaws.{each_other, first_one, later_one}
 use Rattle.law_controlled.specs.Early.{IsStraight}
-use Rattle.law_controlled.proofs.RisingLaws.{gets-sound, IsSound, longer-variable, operator-rising, Rises, rises-eqn, rising-behind, rising-below, Rising, rising-straight, stay-higher}
+use Rattle.law_controlled.proofs.RisingLaws.{IsSound, longer-variable, operator-rising, Rises, rises-eqn, rising-behind, rising-below, rising-straight, stay-higher}
 use Rattle.law_controlled.proofs.StraightLaws.{AreBehind, StayBelow, straight_behind}
 
 -- ---- what an equation reads is among what stands in it

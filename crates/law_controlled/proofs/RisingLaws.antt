@@ -3,7 +3,6 @@ use Rattle.std.proofs.Common.{◌≡◌, ℕ, zero, suc, ◌+◌, ◌<◌, ◌�
 use Rattle.std.specs.Prelude.{◌==◌}
 use Rattle.std.specs.List.{AllByRecursion, flat_map, range_with_len}
 use Rattle.std.proofs.lemmas.List.{append-nil, append_assoc, length-append}
-use Rattle.hp_base.specs.declared.value.Value.{Value}
 use Rattle.hp_base.specs.declared.value.Value.TheVariants.{B, E}
 use Rattle.hp_obc.specs.Machines.{ObcType}
 use Rattle.hp_obc.specs.declared.command.ObcOp.{ObcOp}
@@ -18,7 +17,7 @@ use Rattle.law_equations.specs.Meaning.Fitting.{atom_variables}
 use Rattle.law_equations.specs.Meaning.Scheduling.{AreBelow, clock_variables, reads, right_reads}
 use Rattle.law_equations.proofs.FollowedLemmas.Passing.{each_first}
 use Rattle.hp_watch.specs.Adding.{added_variable, next_variable, operator_eqn, some_value, type_at, with_eqn, with_operator, with_variable}
-use Rattle.hp_watch.specs.Lifting.{case_eqn, count_of, either, has_bit, lifted, spelled, Spelled, Valued, width_of, with_bit, with_bits, with_cases, with_code, with_each, with_either, with_spelling, with_step, with_test}
+use Rattle.hp_watch.specs.Lifting.{case_eqn, count_of, either, has_bit, lifted, spelled, Valued, width_of, with_bit, with_bits, with_cases, with_each, with_either, with_spelling, with_step, with_test}
 use Rattle.hp_watch.specs.declared.watching.Free.{Free}
 use Rattle.hp_watch.specs.Watching.{clock_by, clock_of, spelled_place, Watched, with_place, with_places}
 use Rattle.law_choices.proofs.AddingLemmas.Adding.{both}

@@ -12,17 +12,16 @@ use Rattle.hp_flat.specs.declared.node.Variable.{Variable}
 use Rattle.hp_flat.specs.Equations.{Clock, Right, operator, register, called, FlatEqn}
 use Rattle.hp_flat.specs.Nodes.{FlatNode}
 use Rattle.law_equations.specs.Meaning.Fitting.{atom_variables, operands}
-use Rattle.law_equations.specs.Meaning.Kinding.{Callees, EqnKinds, HaveKinds, kinds_at, RightHasKinds, variable_kind}
+use Rattle.law_equations.specs.Meaning.Kinding.{Callees, EqnKinds, HaveKinds, RightHasKinds, variable_kind}
 use Rattle.law_equations.specs.Meaning.Reactions.{inputs_of}
 use Rattle.law_equations.specs.Meaning.Scheduling.{AreBelow, clock_variables, EqnWithin, IsRanked, IsWithin}
 use Rattle.hp_watch.specs.declared.watching.Free.{Free}
 use Rattle.hp_watch.specs.Embedding.{embedded, Site}
-use Rattle.hp_watch.specs.Watching.{args_of, called_by, IsWatched, Observed, Observing, own_site, Placed, placed, reads, site_of, Surveyed, surveyed, unwatched, walked, Watched, watched_by, with_called, with_observer}
+use Rattle.hp_watch.specs.Watching.{args_of, called_by, IsWatched, Observed, Observing, own_site, Placed, placed, reads, site_of, Surveyed, surveyed, unwatched, walked, Watched, with_called, with_observer}
 use Rattle.law_choices.specs.Adding.Choosing.{IsOfNode}
 use Rattle.law_choices.specs.Adding.Lifts.{HaveBytes}
 use Rattle.law_choices.specs.Adding.Surveyed.{AllSuit, Suits}
 use Rattle.law_choices.specs.Adding.Watched.{IsFree}
-use Rattle.law_choices.proofs.AddingLemmas.Adding.{both}
 use Rattle.law_choices.proofs.AddingLemmas.Choosing.{seen_in}
 use Rattle.law_choices.proofs.AddingLemmas.Rows.{each_range}
 use Rattle.law_choices.proofs.AddingLemmas.Steps.{higher}
