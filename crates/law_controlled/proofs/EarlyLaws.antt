@@ -210,8 +210,7 @@ module _ (f : List ℕ) (w : Watched) (a : Abstraction) (controls : List Control
       let args = register_places m p ++ w.early in
       let P : ℕ → Type 0 = λ y. ((V ≤ y) × (y < bits)) ⊎ Contains w.early y in
       let e = more in
-      let Q : ℕ → Type 0 = λ y. y < L in
-      (
+      let Q : ℕ → Type 0 = λ y. y < L in (
         inr (each_range (λ x. AllByRecursion (Other x) (reads question)) bits m.control (λ x l u. question-reads (Other x) args (each_other P (Other x) (λ y h. one x l u y h) args all_asked))),
         record {
           targets = each_range Q bits m.control (λ x l u. omega (arith, u, e));
@@ -329,8 +328,7 @@ module _ (f : List ℕ) (w : Watched) (a : Abstraction) (controls : List Control
   own_read : (v y : ℕ) → IsReadFor w.node.eqns v y → (past ≤ v) × (v < V) × (y < V)
   own_read v y r =
       let i = can.within in
-      let e = among (EqnWithin V) w.node.eqns r.0 i.eqns r.1 in
-      (
+      let e = among (EqnWithin V) w.node.eqns r.0 i.eqns r.1 in (
         among (λ x. past ≤ x) (r.0).targets v (among (λ (e : FlatEqn). AllByRecursion (λ x. past ≤ x) e.targets) w.node.eqns r.0 can.no_inputs r.1) r.2,
         among (λ x. x < V) (r.0).targets v e.targets r.2,
         among (λ x. x < V) (reads r.0) y (reads-below V r.0 e) r.3,
