@@ -42,6 +42,7 @@ pub mod ShortLaws
 pub mod SightLaws
 pub mod StraightLaws
 pub mod ToldLaws
+pub mod WaitLaws
 pub mod WatchedLaws
 pub mod WellMadeLaws
 pub mod WorkedLaws

@@ -1,6 +1,6 @@
 -- What the early bits of a node that chooses depend on at an instant.
 -- Source: own; in a step the early values come first, then the controller is asked, and then all else is computed (Delaval, Marchand and Rutten, LCTES 2010).
-use Rattle.std.specs.Prelude.{◌≡◌, ◌⊎◌, ◌-◌, ◌<◌, ◌≤◌, ℕ, List, length, Contains}
+use Rattle.std.specs.Prelude.{◌≡◌, ◌⊎◌, ◌-◌, ◌<◌, ◌≤◌, ℕ, List, [], ◌∷◌, length, Contains}
 use Rattle.std.specs.List.{AllByRecursion, range_with_len}
 use Rattle.hp_flat.specs.Equations.{FlatEqn}
 use Rattle.law_equations.specs.Meaning.Scheduling.{AreBelow, DefinesNoInput, IsWithin}
@@ -8,6 +8,7 @@ use Rattle.hp_abstract.specs.declared.abstracted.Abstraction.{Abstraction}
 use Rattle.hp_watch.specs.Watching.{Watched}
 use Rattle.hp_controller.specs.declared.decoding.Control.{Control}
 use Rattle.hp_controller.specs.Decoding.{HasBits, total_width}
+use Rattle.law_choices.specs.Adding.Worked.{free_machine, free_node, one_control}
 use Rattle.law_choices.specs.Depending.Dependence.{DependsOn}
 use Rattle.hp_controlled.specs.Choosing.{telling}
 use Rattle.hp_controlled.specs.Lacking.{HasCircularEqns}
@@ -45,3 +46,12 @@ pub record CanAsk (w : Watched) (a : Abstraction) (controls : List Control) : Ty
 -- So where equations of the node that chooses read each other in a circle, an early bit waits for the choice.
 abbrev pub CircleLaw : Type 0
 CircleLaw = (f : List ℕ) (w : Watched) (a : Abstraction) (controls : List Control) → CanAsk w a controls → HasCircularEqns (telling f w a controls).node → WaitsForChoice w controls
+
+-- ---- a node that gives its controllable variable, where the controller is to know what is given
+
+abbrev pub some_watched : Watched
+some_watched = record { node = free_node; early = 1 ∷ []; late = [] }
+
+-- All that is asked of it is met, and the early bit waits for the choice.
+abbrev pub SomeWaitsLaw : Type 0
+SomeWaitsLaw = (a : Abstraction) → a.machine ≡ free_machine → a.assume ≡ 0 → a.enforce ≡ 0 → CanAsk some_watched a one_control × WaitsForChoice some_watched one_control

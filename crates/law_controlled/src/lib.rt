@@ -4,7 +4,7 @@
 #![tactic(auto)]
 
 ghost use Rattle.law_controlled.specs.Allowed.{AllowedLaw};
-ghost use Rattle.law_controlled.specs.Early.{CircleLaw};
+ghost use Rattle.law_controlled.specs.Early.{CircleLaw, SomeWaitsLaw};
 ghost use Rattle.law_controlled.specs.Headed.{HeadedLaw};
 ghost use Rattle.law_controlled.specs.Machines.{MadeMachinesLaw, TurnMachinesLaw};
 ghost use Rattle.law_controlled.specs.Mirrored.{MirroredLaw};
@@ -206,6 +206,11 @@ pub fn programs_that_choose_have_one_list_of_machines()
 /// Where equations of the node that chooses read each other in a circle, an early bit of the node that is watched depends at that instant on a controllable variable: the controller is asked when early bits are known, and all else that the node gets reads what stands before it.
 pub fn circles_pass_early_bits()
     ensures { CircleLaw }
+{}
+
+/// A worked node of which an early bit is its controllable variable: what is asked of it is met, and the bit waits for the choice.
+pub fn a_worked_wait()
+    ensures { SomeWaitsLaw }
 {}
 
 /// Where the contracts of the program of an accepted text are kept, few causes are left for which the compiler would have no machines of it: clocked equations of its nodes, and of the observers of contracts, read each other in no circle; those of nodes, and of all that is made of them, are regular, each contract has as many comparisons as its clocked equations, names are short, no machine is refused or forced to violate its contract, as many places and bits are seen of each node as its machine is told of, each controllable variable has the bits of its type, and machines have form.
