@@ -21,7 +21,6 @@ use Rattle.law_equations.specs.Followed.Premises.{names}
 use Rattle.law_equations.specs.Made.Making.{Known, numbers_from}
 use Rattle.law_equations.specs.Meaning.Instants.{Instant, holds}
 use Rattle.law_equations.specs.Meaning.Kinding.{Callees, IsWellMade}
-use Rattle.law_equations.specs.Meaning.Reactions.{has}
 use Rattle.law_equations.specs.Meaning.Scheduling.{AreBelow, IsWithin}
 use Rattle.law_equations.specs.Meaning.Solving.{IsExclusive, NoOther}
 use Rattle.law_equations.specs.Shaped.Shaped.{IsShort}

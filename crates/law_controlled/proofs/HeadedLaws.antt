@@ -1,5 +1,5 @@
 -- What the machines of nodes that choose are called, take and give.
-use Rattle.std.proofs.Common.{◌≡◌, inl, inr, ℕ, zero, suc, ◌+◌, ◌<◌, ◌≤◌, Bool, true, false, if◌then◌else◌, List, [], ◌∷◌, ◌++◌, length, map, take, drop, Option, None, Some, refl, sym, ap, ap₂, subst, ◌∙◌, arith}
+use Rattle.std.proofs.Common.{◌≡◌, inl, inr, ℕ, zero, suc, ◌+◌, ◌<◌, Bool, true, false, if◌then◌else◌, List, [], ◌∷◌, ◌++◌, length, map, take, drop, Option, None, Some, refl, sym, ap, ap₂, subst, ◌∙◌, arith}
 use Rattle.std.specs.Prelude.{◌-◌, IsSome, IsTrue, is_some, slice_get, slice_index_or}
 use Rattle.std.specs.Str.{bytes_eq}
 use Rattle.std.proofs.lemmas.List.{append_assoc, append-nil, length-map, map-append, take-append-drop}
@@ -10,7 +10,7 @@ use Rattle.hp_obc.specs.Machines.{Machine, Obc, ObcType}
 use Rattle.hp_tree.specs.Meaning.{controls_of, node_among}
 use Rattle.hp_tree.specs.Programs.{Node}
 use Rattle.hp_tree.specs.declared.program.Item.{Item}
-use Rattle.hp_tree.specs.declared.program.Item.TheVariants.{NodeItem, TypeItem}
+use Rattle.hp_tree.specs.declared.program.Item.TheVariants.{NodeItem}
 use Rattle.hp_automata.specs.Lowering.{Enumerations, enumerations, lowered_item, lowered_node, lowered_program, types_of}
 use Rattle.law_automata.proofs.LoweredLemmas.Apart.{bytes_same, same_bytes}
 use Rattle.hp_complete.specs.Signatures.{AreFlat, IsSigned, numbered, type_names, variable_of, variables_of}
@@ -27,8 +27,8 @@ use Rattle.hp_watch.specs.Adding.{added_variable, next_variable, with_copy, with
 use Rattle.hp_watch.specs.Growing.{Grows}
 use Rattle.hp_watch.specs.Watching.{Observing, Watched}
 use Rattle.hp_watch.proofs.GrowLaws.{larger}
-use Rattle.hp_controlled.specs.Chosen.{AreControlledMachines, IsChosen, IsToldBy, own_heading}
-use Rattle.hp_controlled.specs.Choosing.{AreNodesOf, AreOfContract, IsOwn, Telling, asking, contract_name, first_gate, telling, told_outputs}
+use Rattle.hp_controlled.specs.Chosen.{IsChosen, IsToldBy, own_heading}
+use Rattle.hp_controlled.specs.Choosing.{AreOfContract, IsOwn, Telling, asking, contract_name, first_gate, told_outputs}
 use Rattle.hp_controlled.specs.Choosing.AreNodesOf.{without_contract, with_contract}
 use Rattle.hp_controlled.specs.Choosing.IsOwn.{that_stays, that_chooses}
 use Rattle.hp_controlled.specs.Compiled.{AreNodes}

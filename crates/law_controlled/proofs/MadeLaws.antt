@@ -12,7 +12,6 @@ use Rattle.hp_flat.specs.declared.node.FlatTy.{FlatTy}
 use Rattle.hp_flat.specs.declared.node.FlatTy.TheVariants as flat
 use Rattle.hp_flat.specs.declared.node.Variable.{Variable}
 use Rattle.hp_flat.specs.Nodes.{FlatNode}
-use Rattle.law_equations.specs.Meaning.Kinding.{constructors}
 use Rattle.hp_boolx.specs.Machine.{Machine, IsMachine}
 use Rattle.hp_abstract.specs.declared.abstracted.Abstraction.{Abstraction}
 use Rattle.hp_watch.specs.Adding.{added_variable, type_of, next_variable, with_copy, with_variable, with_eqn}
@@ -23,7 +22,7 @@ use Rattle.hp_controller.specs.declared.decoding.Control.{Control}
 use Rattle.hp_controller.specs.declared.decoding.ControlKind.{ControlKind}
 use Rattle.hp_controller.specs.declared.decoding.ControlKind.TheVariants.{Truth, Constructor}
 use Rattle.hp_controller.specs.Decoding.{HasBits, total_width}
-use Rattle.hp_controlled.specs.Choosing.{AreControls, AreNodesOf, AreOfContract, IsChoosing, IsOwn, Suits, Telling, asking, constructor_kind, contract_name, control_kind, controller_name, first_gate, telling, told_outputs}
+use Rattle.hp_controlled.specs.Choosing.{AreControls, AreNodesOf, AreOfContract, IsChoosing, IsOwn, Suits, Telling, asking, constructor_kind, contract_name, control_kind, controller_name, first_gate, told_outputs}
 use Rattle.hp_controlled.specs.Choosing.AreNodesOf.{without_contract, with_contract}
 use Rattle.hp_controlled.specs.Choosing.IsOwn.{that_stays, that_chooses}
 use Rattle.hp_controlled.specs.Compiled.AreNodes.{of_none, of_a_type, of_a_node}

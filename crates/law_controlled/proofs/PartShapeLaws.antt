@@ -9,7 +9,6 @@ use Rattle.hp_flat.specs.declared.equation.Atom.TheVariants.{Variable as Read, V
 use Rattle.hp_flat.specs.declared.node.Variable.{Variable}
 use Rattle.hp_flat.specs.Equations.{Clock, Right, operator, register, called, FlatEqn}
 use Rattle.hp_flat.specs.Nodes.{FlatNode}
-use Rattle.law_equations.specs.Followed.Premises.{names}
 use Rattle.law_equations.specs.Meaning.Fitting.{atom_variables, operands}
 use Rattle.law_equations.specs.Meaning.Kinding.{AtomHasKind, Callees, EqnKinds, HasArm, HasValue, HaveKinds, RightHasKinds, kinds_at, variable_kind}
 use Rattle.law_equations.specs.Meaning.Reactions.{has}

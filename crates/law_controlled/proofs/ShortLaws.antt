@@ -23,7 +23,6 @@ use Rattle.hp_watch.specs.Lifting.{Valued, case_eqn, count_of, either, lifted, w
 use Rattle.hp_watch.specs.Watching.{IsWatched, Observed, Observing, Placed, Watched, called_by, clock_by, clock_of, own_site, placed, site_of, spelled_place, surveyed, unwatched, walked, with_called, with_called_at, with_observer, with_place, with_places}
 use Rattle.hp_watch.specs.declared.watching.Free.{Free}
 use Rattle.hp_controller.specs.Controlled.{controlled, decoded_controls, placing_of}
-use Rattle.hp_controller.specs.Controllers.{equation}
 use Rattle.hp_controller.specs.Decoding.{control_eqns, controls_eqns, tree}
 use Rattle.hp_controller.specs.Gates.{gate_eqns}
 use Rattle.hp_controller.specs.Steps.{asking_eqn, places, register_eqns, register_places, step_eqns}
