@@ -1,5 +1,5 @@
 -- What is asked of the node that is watched, where the program of a text is compiled.
-use Rattle.std.proofs.Common.{◌≡◌, ◌≤◌, ◌<◌, ℕ, ◌+◌, Bool, List, [], ◌∷◌, ◌++◌, length, map, drop, Option, None, Some, refl, sym, ap, ap₂, subst, ◌∙◌, arith}
+use Rattle.std.proofs.Common.{◌≡◌, ◌⊎◌, inl, inr, ◌≤◌, ◌<◌, ℕ, ◌+◌, ◌-◌, Bool, List, [], ◌∷◌, ◌++◌, length, map, drop, Option, None, Some, refl, sym, ap, ap₂, subst, ◌∙◌, arith}
 use Rattle.std.specs.Prelude.{⊤, false, true, slice_index_or, sum}
 use Rattle.std.proofs.lemmas.List.{length-append}
 use Rattle.hp_circuit.specs.declared.circuit.Role.{Role}
@@ -14,7 +14,7 @@ use Rattle.hp_circuit.specs.Shapes.{shape_width}
 use Rattle.hp_circuit.proofs.NumberLaws.{length_bits}
 use Rattle.hp_obc.specs.Form.{has_name, TypesForm}
 use Rattle.hp_obc.specs.Machines.{ObcType}
-use Rattle.hp_tree.specs.Meaning.{types_of}
+use Rattle.hp_tree.specs.Meaning.{controls_of, types_of}
 use Rattle.hp_tree.specs.Programs.{Contract, Node, TypeDecl}
 use Rattle.hp_tree.specs.declared.program.Item.{Item}
 use Rattle.hp_tree.specs.declared.program.Item.TheVariants.{NodeItem, TypeItem}
@@ -54,7 +54,7 @@ use Rattle.law_controlled.specs.Early.{CanAsk}
 use Rattle.law_controlled.proofs.MadeLaws.{widths_are}
 use Rattle.law_controlled.proofs.ObserverLaws.{found_by, observers_suit_by}
 use Rattle.law_controlled.proofs.StraightLaws.{ranked_straight}
-use Rattle.law_controlled.proofs.WatchedLaws.{AllCanBePut, watched_sound}
+use Rattle.law_controlled.proofs.WatchedLaws.{AllCanBePut, watched_apart, watched_sound}
 
 -- ---- registers
 
@@ -137,6 +137,14 @@ module _ (laws : TurnLaws) (made_law : CompiledMadeLaw) (observer_law : Observer
       abbrev w : Watched
       w = s.watched
 
+      -- the controllable variables are the inputs behind those of the node itself
+      counted : length s.controls ≡ length (controls_of node.contract)
+      counted = (widths_are types (drop (length node.inputs) n.variables) a.machine.widths s.controls s.are).0 ∙ s.widths
+
+      apart_in : w.node.inputs ≡ n.inputs → (x : ℕ) → (x < length node.inputs) ⊎ (n.inputs ≤ x) → (x < w.node.inputs - length s.controls) ⊎ (w.node.inputs ≤ x)
+      apart_in same x (inl u) = let count = counted in let inputs = s.inputs in inl (omega (arith, u, same, count, inputs))
+      apart_in same x (inr l) = inr (omega (arith, l, same))
+
       pub can_ask : CanAsk w a s.controls
       can_ask =
           let sees = s.sees in
@@ -148,6 +156,7 @@ module _ (laws : TurnLaws) (made_law : CompiledMadeLaw) (observer_law : Observer
           let well = built.well in
           let grows = keeps.grows in
           let sound = watched_sound types all r.clock seen node n of suit.0 puts bytes is_early w sees.is_watched made.ranked in
+          let apart = watched_apart types all r.clock seen node n of suit.0 puts bytes is_early w sees.is_watched made.ranked in
           let V = length w.node.variables in
           let widths = widths_are types (drop (length node.inputs) n.variables) a.machine.widths s.controls s.are in
           let count = widths.0 in
@@ -160,6 +169,7 @@ module _ (laws : TurnLaws) (made_law : CompiledMadeLaw) (observer_law : Observer
             straight = sound.straight;
             no_inputs = well.no_inputs;
             early = below w.early has.early;
+            apart = each_other (λ x. (x < length node.inputs) ⊎ (n.inputs ≤ x)) (λ x. (x < w.node.inputs - length s.controls) ⊎ (w.node.inputs ≤ x)) (apart_in grows.inputs) w.early apart;
             late = below w.late has.late;
             registers = registers_few after node a is;
             assume = let assume = is.assume in assume.there;

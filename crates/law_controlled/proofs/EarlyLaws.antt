@@ -32,7 +32,7 @@ use Rattle.law_choices.proofs.AddingLemmas.Adding.{both}
 use Rattle.law_choices.proofs.AddingLemmas.Rows.{each_range}
 use Rattle.law_choices.proofs.AddingLemmas.Steps.{among, higher}
 use Rattle.law_choices.proofs.ClosedLemmas.ClosedLaws.{each_other, first_one, later_one}
-use Rattle.law_controlled.specs.Early.{CanAsk, CircleLaw, WaitsForChoice}
+use Rattle.law_controlled.specs.Early.{CanAsk, CircleLaw, controls_in, WaitsForChoice}
 use Rattle.law_controlled.proofs.AskingLaws.{controls-count, controls-rows, Decodes, gates-rows, IsRow, MayRead, question-reads, registers-rows}
 use Rattle.law_controlled.proofs.EmbeddedLaws.{reads-below}
 use Rattle.law_controlled.proofs.RisingLaws.{operator-longer}
@@ -406,12 +406,23 @@ module _ (f : List ℕ) (w : Watched) (a : Abstraction) (controls : List Control
     where
       by : EquationChain w.node.eqns v c.0 v ⊎ Meets v v → WaitsForChoice w controls
       by (inl d) = absurd (can.straight v (c.0, d))
-      by (inr h) =
-          let there = h.1 in
-          let l = there.0 in
-          let u = there.1 in
-          let taken = can.few in
-          record { early = v; bit = is; control = h.0; chosen = in_range first (length controls) h.0 l (omega (arith, u, taken)); waits = h.2 }
+      by (inr h) = record { early = v; bit = is; control = h.0; chosen = numbered h.1; waits = other_one h.1 h.2 }
+        where
+          numbered : IsControl h.0 → Contains (controls_in w controls) h.0
+          numbered there =
+              let l = there.0 in
+              let u = there.1 in
+              let taken = can.few in
+              in_range first (length controls) h.0 l (omega (arith, u, taken))
+
+          -- it is no controllable variable itself
+          clear : IsControl h.0 → v ≡ h.0 → (v < first) ⊎ (past ≤ v) → ⊥
+          clear there e (inl b) = let l = there.0 in omega (arith, e, b, l)
+          clear there e (inr b) = let u = there.1 in omega (arith, e, b, u)
+
+          other_one : IsControl h.0 → (v ≡ h.0) ⊎ DependsOn w.node.eqns v h.0 → DependsOn w.node.eqns v h.0
+          other_one there (inl e) = absurd (clear there e (among (λ x. (x < first) ⊎ (past ≤ x)) w.early v can.apart is))
+          other_one there (inr d) = d
 
   -- ---- registers, bits of the choice, and control variables
 

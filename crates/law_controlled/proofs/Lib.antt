@@ -1,6 +1,7 @@
 pub mod AddedLaws
 pub mod AlikeLaws
 pub mod AllowedLaws
+pub mod ApartLaws
 pub mod AskedLaws
 pub mod AskingLaws
 pub mod BareLaws

@@ -155,7 +155,7 @@ pub record Has (n other : FlatNode) (x : ℕ) : Type 0 where
   pub below : x < length other.variables
 
 module _ (types : List ObcType) where
-  gets-lifted : (steps clock : Clock) (x : ℕ) (n : FlatNode) → AreBelow (length n.variables) (clock_variables clock) → AreBelow (length n.variables) (clock_variables steps) → x < length n.variables → Has n (lifted types clock steps x n).node (lifted types clock steps x n).value
+  pub gets-lifted : (steps clock : Clock) (x : ℕ) (n : FlatNode) → AreBelow (length n.variables) (clock_variables clock) → AreBelow (length n.variables) (clock_variables steps) → x < length n.variables → Has n (lifted types clock steps x n).node (lifted types clock steps x n).value
   gets-lifted [] clock x n c s l = record { gets = gets-self n; below = l }
   gets-lifted (step ∷ steps) clock x n c s l =
       let first = gets-lifted steps (clock ++ step ∷ []) x n (step-below (length n.variables) clock step c s.0) s.1 l in
@@ -268,7 +268,7 @@ clock-below k i [] h = tt
 clock-below k zero (e ∷ es) h = each_first (λ x. x < k) (clock_variables e.clock) (e.restart ++ right_reads e.right) (let first = h.0 in first.1)
 clock-below k (suc i) (e ∷ es) h = clock-below k i es h.1
 
-free-below : (n : FlatNode) (o : Option ℕ) → IsSound n → AreBelow (length n.variables) (clock_variables (clock_of n o))
+pub free-below : (n : FlatNode) (o : Option ℕ) → IsSound n → AreBelow (length n.variables) (clock_variables (clock_of n o))
 free-below n None s = tt
 free-below n (Some i) s = clock-below (length n.variables) i n.eqns s.below
 
@@ -281,11 +281,14 @@ module _ (types : List ObcType) where
   placed-node f true w = refl
   placed-node f false w = refl
 
+  pub place-gets : (f : Free) (b : Bool) (w : Watched) → f.variable < length w.node.variables → IsSound w.node → Gets w.node (with_place types f b w).node
+  place-gets f b w l s = subst (λ m. Gets w.node m) (sym (placed-node f b w)) (gets-place types f w.node l (free-below w.node f.eqn s))
+
   pub places-sound : (k : ℕ) (fs : List Free) (bs : List Bool) (w : Watched) → k ≤ length w.node.variables → FreeBelow k fs → IsSound w.node → IsSound (with_places types fs bs w).node
   places-sound k [] bs w l h s = s
   places-sound k (f ∷ fs) [] w l h s = s
   places-sound k (f ∷ fs) (b ∷ bs) w l h s =
       let low = h.0 in
-      let g : Gets w.node (with_place types f b w).node = subst (λ m. Gets w.node m) (sym (placed-node f b w)) (gets-place types f w.node (omega (arith, low, l)) (free-below w.node f.eqn s)) in
+      let g = place-gets f b w (omega (arith, low, l)) s in
       let more = g.longer in
       places-sound k fs bs (with_place types f b w) (omega (arith, l, more)) h.1 (gets-sound w.node (with_place types f b w).node g s)

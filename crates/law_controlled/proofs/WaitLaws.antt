@@ -1,5 +1,5 @@
 -- A worked node of which an early bit waits for the choice.
-use Rattle.std.proofs.Common.{◌≤◌, inr, [], length, refl, sym, ap, subst, arith}
+use Rattle.std.proofs.Common.{◌≤◌, inr, length, refl, sym, ap, subst, arith}
 use Rattle.hp_boolx.specs.Machine.{Machine}
 use Rattle.law_equations.specs.Meaning.Scheduling.{IsWithin}
 use Rattle.law_choices.specs.Adding.Worked.{free_node, handed_on}
@@ -18,6 +18,7 @@ some_waits_law a same assume enforce =
         straight = descends_straight free_node.eqns (((omega arith, tt), tt), tt);
         no_inputs = ((omega arith, tt), tt);
         early = (omega arith, tt);
+        apart = (inr (omega arith), tt);
         late = tt;
         registers = subst (λ (m : Machine). length m.init ≤ m.registers) (sym same) (omega arith);
         assume = omega (arith, assume, gates);
@@ -26,5 +27,5 @@ some_waits_law a same assume enforce =
         bits = (refl, tt);
         widths = ap (λ (m : Machine). m.control) (sym same);
       },
-      record { early = 1; bit = first_one 1 []; control = 0; chosen = first_one 0 []; waits = inr ([], (handed_on, first_one handed_on [], first_one 1 [], first_one 0 [])) },
+      record { early = 1; bit = first_one 1 []; control = 0; chosen = first_one 0 []; waits = ([], (handed_on, first_one handed_on [], first_one 1 [], first_one 0 [])) },
     )

@@ -1,5 +1,5 @@
 -- In the node that is watched no variable depends on itself.
-use Rattle.std.proofs.Common.{◌≡◌, ℕ, zero, suc, ◌+◌, ◌≤◌, ◌<◌, Bool, List, [], ◌∷◌, ◌++◌, length, map, slice_get, Option, None, Some, refl, sym, ap, subst, ◌∙◌, arith}
+use Rattle.std.proofs.Common.{◌≡◌, ◌⊎◌, inl, inr, ℕ, zero, suc, ◌+◌, ◌≤◌, ◌<◌, Bool, List, [], ◌∷◌, ◌++◌, length, map, slice_get, Option, None, Some, refl, sym, ap, subst, ◌∙◌, arith}
 use Rattle.std.specs.List.{AllByRecursion, flat_map, range_with_len}
 use Rattle.std.proofs.lemmas.List.{append_assoc, length-append, length-map}
 use Rattle.std.proofs.lemmas.List.FromFn.{length-range_with_len}
@@ -16,8 +16,8 @@ use Rattle.law_equations.specs.Meaning.Kinding.{Callees, EqnKinds, HaveKinds, Ri
 use Rattle.law_equations.specs.Meaning.Reactions.{inputs_of}
 use Rattle.law_equations.specs.Meaning.Scheduling.{AreBelow, clock_variables, EqnWithin, IsRanked, IsWithin}
 use Rattle.hp_watch.specs.declared.watching.Free.{Free}
-use Rattle.hp_watch.specs.Embedding.{embedded, Site}
-use Rattle.hp_watch.specs.Watching.{args_of, called_by, IsWatched, Observed, Observing, own_site, Placed, placed, reads, site_of, Surveyed, surveyed, unwatched, walked, Watched, with_called, with_observer}
+use Rattle.hp_watch.specs.Embedding.{embedded, shift_of, Site}
+use Rattle.hp_watch.specs.Watching.{args_of, called_by, free_inputs, free_placed, IsWatched, moved_free, Observed, Observing, own_site, Placed, placed, reads, site_of, Surveyed, surveyed, unwatched, walked, Watched, with_called, with_observer}
 use Rattle.law_choices.specs.Adding.Choosing.{IsOfNode}
 use Rattle.law_choices.specs.Adding.Lifts.{HaveBytes}
 use Rattle.law_choices.specs.Adding.Surveyed.{AllSuit, Suits}
@@ -27,6 +27,8 @@ use Rattle.law_choices.proofs.AddingLemmas.Rows.{each_range}
 use Rattle.law_choices.proofs.AddingLemmas.Steps.{higher}
 use Rattle.law_choices.proofs.AddingLemmas.Surveyed.{at_number, get_front, get_some}
 use Rattle.law_choices.proofs.ClosedLemmas.ClosedLaws.{each_other}
+use Rattle.law_choices.proofs.AddingLemmas.Adding.{both}
+use Rattle.law_controlled.proofs.ApartLaws.{FreeApart, inputs-apart, moved-apart, placed-apart, places-apart, StandsApart}
 use Rattle.law_controlled.proofs.EmbeddedLaws.{CanBePut, embedded-front, embedded-longer, embedded-sound, IsSite, within-below}
 use Rattle.law_controlled.proofs.RisingLaws.{FreeBelow, IsSound, places-sound}
 use Rattle.law_controlled.proofs.StraightLaws.{ranked_straight}
@@ -172,6 +174,30 @@ module _ (types : List ObcType) (callees : Callees) (clock : ℕ → Clock) (obs
       let w = within in
       subst (λ o. IsPut (with_called observers o p).node) (sym at) (put_call p e.0 rest (at_number (EqnWithin V) n.eqns k e.0 e.1 w.eqns) (at_number (EqnKinds types callees n.variables) n.eqns k e.0 e.1 well.kinds))
 
+  -- ---- what is no controllable variable
+
+  -- an input of the node itself, or none of its inputs
+  abbrev pub IsApart : ℕ → Type 0
+  IsApart x = (x < inputs) ⊎ (n.inputs ≤ x)
+
+  behind_apart : (x : ℕ) → V ≤ x → IsApart x
+  behind_apart x l = let w = within in let few = w.inputs in inr (omega (arith, l, few))
+
+  observer_shifts : (o : Option Observed) (site : Site) (p : Placed) → V ≤ length p.node.variables → AllByRecursion (StandsApart IsApart) p.shifts → AllByRecursion (StandsApart IsApart) (with_observer o site p).shifts
+  observer_shifts None site p l h = both (StandsApart IsApart) p.shifts (None ∷ []) h (tt, tt)
+  observer_shifts (Some o) site p l h = both (StandsApart IsApart) p.shifts (Some (shift_of o.node site p.node) ∷ []) h ((λ x m. behind_apart x (omega (arith, l, m))), tt)
+
+  called_shifts : (e : Option FlatEqn) (p : Placed) → V ≤ length p.node.variables → AllByRecursion (StandsApart IsApart) p.shifts → AllByRecursion (StandsApart IsApart) (with_called observers e p).shifts
+  called_shifts None p l h = observer_shifts None (record { clock = []; restart = []; inputs = [] }) p l h
+  called_shifts (Some e) p l h = observer_shifts (called_by observers e.right) (site_of e) p l h
+
+  all_shifts : (m : FlatNode) → IsPut m → (k : ℕ) → k ≤ length n.eqns → AllByRecursion (StandsApart IsApart) (placed observers k m).shifts
+  all_shifts m h zero l = tt
+  all_shifts m h (suc k) l =
+      let p = placed observers k m in
+      let rest = all_put m h k (omega (arith, l)) in
+      called_shifts (slice_get p.node.eqns k) p rest.longer (all_shifts m h k (omega (arith, l)))
+
   -- ---- what is watched
 
   module _ (bytes : HaveBytes types) (is_early : List Bool) (w : Watched) (is : IsWatched types observers node is_early n w) (ranked : IsRanked n.eqns) where
@@ -190,6 +216,37 @@ module _ (types : List ObcType) (callees : Callees) (clock : ℕ → Clock) (obs
         let seen = seen_in types callees clock observers node is_early n w bytes of_node suit is in
         let k = seen.keeps in
         each_other (IsFree types its.node k.clocks) (λ (f : Free). f.variable < length its.node.variables) (λ f i. let there = i.there in there.variable) its.free seen.free
+
+    its_apart : FreeApart IsApart its.free
+    its_apart =
+        let fits = is.fits in
+        let own = fits.own in
+        let i = within in
+        let seen = seen_in types callees clock observers node is_early n w bytes of_node suit is in
+        let k = seen.keeps in
+        let b = k.built in
+        let well = b.well in
+        let grows = k.grows in
+        let same = grows.inputs in
+        let begins = begun own fits.has (record { below = within-below V n.eqns i.eqns; straight = ranked_straight n.eqns ranked }) in
+        let shifts = all_shifts (embedded own.node (own_site inputs n) n) begins (length n.eqns) (omega arith) in
+        let p = placed observers (length n.eqns) (embedded own.node (own_site inputs n) n) in
+        let P : Free → Type 0 = λ (f : Free). IsApart f.variable in
+        let targets : AllByRecursion (λ (e : FlatEqn). AllByRecursion IsApart e.targets) p.node.eqns =
+        each_other (λ (e : FlatEqn). AllByRecursion (λ x. p.node.inputs ≤ x) e.targets) (λ (e : FlatEqn). AllByRecursion IsApart e.targets)
+        (λ e h. each_other (λ x. p.node.inputs ≤ x) IsApart (λ x l. inr (omega (arith, l, same))) e.targets h) p.node.eqns well.no_inputs in
+        let first = inputs-apart IsApart n inputs (λ x u. inl u) in
+        let second = moved-apart IsApart (shift_of own.node (own_site inputs n) n) own.free behind_apart in
+        both P (free_inputs n inputs ++ map (moved_free (shift_of own.node (own_site inputs n) n)) own.free) (flat_map (free_placed observers p) (walked node n))
+        (both P (free_inputs n inputs) (map (moved_free (shift_of own.node (own_site inputs n) n)) own.free) first second) (placed-apart IsApart observers p targets shifts (walked node n))
+
+    -- no early bit is a controllable variable
+    pub watched_apart : AllByRecursion IsApart w.early
+    watched_apart =
+        let fits = is.fits in
+        let i = within in
+        let p = all_put (embedded fits.own.node (own_site inputs n) n) (begun fits.own fits.has (record { below = within-below V n.eqns i.eqns; straight = ranked_straight n.eqns ranked })) (length n.eqns) (omega arith) in
+        subst (λ (z : Watched). AllByRecursion IsApart z.early) (sym is.is) (places-apart IsApart V behind_apart types (length its.node.variables) its.free is_early (unwatched its.node) (omega arith) p.longer its_free its_apart its_sound tt)
 
     pub watched_sound : IsSound w.node
     watched_sound = subst (λ (z : Watched). IsSound z.node) (sym is.is) (places-sound types (length its.node.variables) its.free is_early (unwatched its.node) (omega arith) its_free its_sound)

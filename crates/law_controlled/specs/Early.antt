@@ -21,20 +21,21 @@ IsStraight es = (v : ℕ) → DependsOn es v v → ⊥
 abbrev pub controls_in : Watched → List Control → List ℕ
 controls_in w controls = range_with_len (w.node.inputs - length controls) (length controls)
 
--- An early bit of the node that is watched is a controllable variable, or depends on one.
+-- An early bit of the node that is watched depends on a controllable variable.
 pub record WaitsForChoice (w : Watched) (controls : List Control) : Type 0 where
   pub early : ℕ
   pub bit : Contains w.early early
   pub control : ℕ
   pub chosen : Contains (controls_in w controls) control
-  pub waits : (early ≡ control) ⊎ DependsOn w.node.eqns early control
+  pub waits : DependsOn w.node.eqns early control
 
--- What is asked of the node that is watched: its numbers are those of its variables, no variable depends on itself, no input is defined, and its last inputs have the bits that the machine chooses.
+-- What is asked of the node that is watched: its numbers are those of its variables, no variable depends on itself, no input is defined, no early bit is one of its last inputs, and these have the bits that the machine chooses.
 pub record CanAsk (w : Watched) (a : Abstraction) (controls : List Control) : Type 0 where
   pub within : IsWithin w.node
   pub straight : IsStraight w.node.eqns
   pub no_inputs : DefinesNoInput w.node
   pub early : AreBelow (length w.node.variables) w.early
+  pub apart : AllByRecursion (λ x. (x < w.node.inputs - length controls) ⊎ (w.node.inputs ≤ x)) w.early
   pub late : AreBelow (length w.node.variables) w.late
   pub registers : length a.machine.init ≤ a.machine.registers
   pub assume : a.assume < length a.machine.gates
