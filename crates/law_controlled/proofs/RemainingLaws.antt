@@ -87,9 +87,7 @@ use Rattle.hp_controlled.specs.Lacking.{ChoosesNot, FitContracts, HasCircularEqu
 use Rattle.hp_controlled.specs.Lacking.OneLacksMachines.{none_left, here, behind_a_node, behind_a_type}
 use Rattle.law_controlled.specs.Early.{CanAsk, CircleLaw}
 use Rattle.law_controlled.specs.Program.{MadeNodesLaw}
-use Rattle.law_controlled.specs.Remaining.{Hinders, IsHindered, Remaining, RemainingLaw}
-use Rattle.law_controlled.specs.Remaining.Hinders.{waits}
-use Rattle.law_controlled.specs.Remaining.Remaining.{one_hindered}
+use Rattle.law_controlled.specs.Remaining.{Remaining, RemainingLaw, OneWaitsForChoice}
 use Rattle.law_controlled.proofs.AskedLaws.{can_ask}
 use Rattle.law_controlled.proofs.BroughtLaws.{survey-in, survey-types}
 use Rattle.law_controlled.proofs.CircleLaws.{no_circle}
@@ -288,7 +286,7 @@ module _ (after : List Item) (k : Known) (enums : Enumerations) (places : List �
       (has_types : (c : Contract) → l.node.contract ≡ Some c → (own : Observed) → seen l.plant.name ≡ Some own → HasTypes l own)
       (asks : (a : Abstraction) → IsAbstractionOf after l.node a → a.machine.control ≡ sum a.machine.widths → (s : Suits types seen l.node l.plant a) → CanAsk s.watched a s.controls) where
     abbrev Left : Type 0
-    Left = Hinders after types seen l.node l.plant
+    Left = OneWaitsForChoice after types seen
 
     short : length l.node.name ≤ 255
     short = let known = l.known in known.is_short
@@ -353,7 +351,17 @@ module _ (after : List Item) (k : Known) (enums : Enumerations) (places : List �
     chooses_not a some is (ChoosesNot.unsuited none) = absurd (none (all-suit a some is))
     chooses_not a some is (ChoosesNot.circular s circle) =
         let mirror = laws.mirrors program after ranks order l.earlier l.node l.stands is.drawn a.machine is.is_drawn is.is_machine in
-        waits a some is s (laws.circle l.node.name s.watched a s.controls (asks a is mirror.control_are s) circle)
+        record {
+          node = l.node;
+          plant = l.plant;
+          earlier = l.earlier;
+          stands = l.stands;
+          has_contract = some;
+          abstraction = a;
+          is_abstraction = is;
+          suits = s;
+          waits = laws.circle l.node.name s.watched a s.controls (asks a is mirror.control_are s) circle;
+        }
 
     no_nodes : IsTrue (is_some l.node.contract) → IsKept after l.node → LacksNodes after types seen l.node l.plant → Left
     no_nodes some kept (LacksNodes.refused e why k) = absurd (not_refused after l.node kept.machine kept.is_machine e k why)
@@ -397,8 +405,8 @@ module _ (after : List Item) (k : Known) (enums : Enumerations) (places : List �
         by these (with_contract controller own told some are) none =
             absurd (none (nodes_regular controller own told are))
 
-    hindered : IsHindered after types seen
-    hindered = record { node = l.node; plant = l.plant; earlier = l.earlier; stands = l.stands; hinders = no_machines l.lacks }
+    left_of_one : Left
+    left_of_one = no_machines l.lacks
 
 -- ---- programs
 
@@ -484,8 +492,8 @@ module _ (laws : RemainingLaws) (program after : List Item) (ranks : List (List 
         are_kept = b.kept;
         are_named = λ f h. h;
       }) lacks in
-      one_hindered plants seen equations are
-      (hindered after (known_of low) (enumerations [] after) (places_of low) (types_of after) seen laws program ranks b.order form
+      let one =
+      left_of_one after (known_of low) (enumerations [] after) (places_of low) (types_of after) seen laws program ranks b.order form
       (λ x. ap (λ names. numbered 0 names x) (names_of_types low ∙ ap (λ ds. map (λ (d : TypeDecl). d.name) ds) (types_low (enumerations [] after) after))) refl are l
       (λ c is names t made ready signed plain.
       let well = chosen_well laws.formed.turn laws.made laws.observer program after q b.unsigned can_be seen are l.node c is names t made ready signed plain in
@@ -497,7 +505,8 @@ module _ (laws : RemainingLaws) (program after : List Item) (ranks : List (List 
       (λ a is control s.
       let made = l.made in
       let known = l.known in
-      can_ask laws.formed.turn laws.made laws.observer program after q b.unsigned can_be seen are l.node l.plant l.names l.turned made l.ready l.signed (ap is_new made.name ∙ known.unsigned) a is control s))
+      can_ask laws.formed.turn laws.made laws.observer program after q b.unsigned can_be seen are l.node l.plant l.names l.turned made l.ready l.signed (ap is_new made.name ∙ known.unsigned) a is control s) in
+      record { plants = plants; observers = seen; equations = equations; observed = are; one = one }
   left (HasNoChosenMachines.formless ms are none) =
       let q = b.arranged in
       let e = are.equations in

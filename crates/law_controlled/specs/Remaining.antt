@@ -29,21 +29,25 @@ use Rattle.hp_controlled.specs.Compiled.{AreEquationsOf, AreObserved}
 use Rattle.hp_controlled.specs.Lacking.{HasNoChosenMachines}
 use Rattle.law_controlled.specs.Early.{WaitsForChoice}
 
--- Of a node with a contract, of which these are the clocked equations: an early bit of it depends at an instant on a controllable variable, which is chosen when the early bits are known.
-pub data Hinders (program : List Item) (types : List ObcType) (observers : Observing) (node : Node) (n : FlatNode) : Type 0 where
-  waits : (a : Abstraction) → IsTrue (is_some node.contract) → IsAbstractionOf program node a → (s : Suits types observers node n a) → WaitsForChoice s.watched s.controls → Hinders program types observers node n
-
--- A node of the program, of which these are the clocked equations, where something is in the way.
-pub record IsHindered (program : List Item) (types : List ObcType) (observers : Observing) : Type 0 where
+-- A node of the program with a contract, of which these are the clocked equations: an early bit of it depends at an instant on a controllable variable, which is chosen when the early bits are known.
+pub record OneWaitsForChoice (program : List Item) (types : List ObcType) (observers : Observing) : Type 0 where
   pub node : Node
   pub plant : FlatNode
   pub earlier : List Item
   pub stands : Stands program earlier node
-  pub hinders : Hinders program types observers node plant
+  pub has_contract : IsTrue (is_some node.contract)
+  pub abstraction : Abstraction
+  pub is_abstraction : IsAbstractionOf program node abstraction
+  pub suits : Suits types observers node plant abstraction
+  pub waits : WaitsForChoice suits.watched suits.controls
 
--- Something is in the way of one node.
-pub data Remaining (program : List Item) : Type 0 where
-  one_hindered : (plants : List FlatNode) (observers : Observing) → AreEquationsOf program plants → AreObserved program observers → IsHindered program (obc_types_of program) observers → Remaining program
+-- So it is of one node.
+pub record Remaining (program : List Item) : Type 0 where
+  pub plants : List FlatNode
+  pub observers : Observing
+  pub equations : AreEquationsOf program plants
+  pub observed : AreObserved program observers
+  pub one : OneWaitsForChoice program (obc_types_of program) observers
 
 -- Nothing else is in the way of the machines of the program of a text that the judgements accept, whose points have ranks and whose contracts are kept.
 abbrev pub RemainingLaw : Type 0
