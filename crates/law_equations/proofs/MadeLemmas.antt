@@ -6,6 +6,7 @@ pub mod CallLaws
 pub mod ClockLaws
 pub mod DefinitionLaws
 pub mod ExpressionLaws
+pub mod LabelLaws
 pub mod LastLaws
 pub mod LayerLaws
 pub mod MadeLaw
