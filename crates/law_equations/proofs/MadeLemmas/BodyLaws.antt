@@ -12,7 +12,7 @@ use Rattle.hp_tree.specs.Instant.{Step, Named, Equations, Head, Tail, Right as R
 use Rattle.hp_tree.specs.Meaning.{declares, defines, some_defines, arms_define, block_defines}
 use Rattle.law_equations.specs.Flattened.Flatten.{FlatName, At, When, on, steps, ats, Rows, copies, Prefix, below, Scope, is_false, inside_at, lasts_at, arms_rows, flat_gives, flat_defined, flat_expr, flat_scope, flat_equations, flat_equation, flat_arms, unless}
 use Rattle.law_equations.specs.Flattened.Numbered.{AreRows, AreSteps}
-use Rattle.law_equations.specs.Made.Labels.{Label, expr_labels, block_labels, eqns_labels, eqn_labels, arms_labels}
+use Rattle.law_equations.specs.Made.Labels.{expr_labels, block_labels, eqns_labels, eqn_labels, arms_labels}
 use Rattle.law_equations.specs.Made.Making.{Known, Sketch, Site, Sight, Layer, Standing, Body, Inner, Seen, next, on_site, cons_number, or_entry, over, hidden, names_of_arms, names_of_block, is_in, each_once, given_by, bind, link_all, in_block, restart_site, with_flag, sketch_expr, sketch_block, sketch_eqns, sketch_eqn, sketch_arms}
 use Rattle.law_equations.specs.Made.Blocks.{IsPlain, ArePlain, OnePlain, ArmsPlain, Either, ReadyBlock, ReadyEqns, ReadyEqn, ReadyArms, SaysOf, LayerSays}
 use Rattle.law_equations.specs.Made.Sights.{Entry}

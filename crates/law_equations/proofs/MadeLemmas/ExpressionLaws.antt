@@ -21,7 +21,7 @@ use Rattle.law_equations.specs.Flattened.Flat.{Arg, name, value, Right, Op, Regi
 use Rattle.law_equations.specs.Flattened.Flatten.{FlatName, At, IsFirst, Held, When, steps, Rows, row, copies, Prefix, below, Scope, under, obc_one, obc_two, constant_in, args_at, ats, flat_expr, flat_exprs, flat_parts, parts_at, only_row, output_row, fby_row, plan_two, unless}
 use Rattle.law_equations.specs.Flattened.Numbered.{AreSteps, AreArgs, IsArg, IsRight, AreRows, StandFor}
 use Rattle.law_equations.specs.Made.Keeping.{IsKept, FbyKeeps, ExprKeeps, ExprsKeep, PartsKeep}
-use Rattle.law_equations.specs.Made.Labels.{Label, calling, compares_or_calls, expr_labels, exprs_labels, parts_labels, output_places, with_comparison}
+use Rattle.law_equations.specs.Made.Labels.{Label, calling, compares_or_calls, expr_labels, exprs_labels, parts_labels, output_places}
 use Rattle.law_equations.specs.Made.Making.{Known, Sketch, Site, Sight, Made, next, with_eqn, new_variable, value_of, atom_of, copy_of, type_at, first_value, type_of_value, type_one, type_two, front_steps, constant_value, cons_number, outputs_of, with_outputs, flag_at, register_at, off_site, on_site, tested, part_at, or_new, fby_at, called_at, first_output, by_constant, sketch_expr, sketch_exprs, sketch_parts}
 use Rattle.law_equations.specs.Made.Standing.{Knows, Agrees, IsNamed, Sees, IsAt, IsFlagged, defs, IsBounded, IsDone, Steps, IsMade, AreLabelled, Promises, Promised, Remembers, HasOne, ByConstant, Ready, ReadyParts, ReadyAll}
 use Rattle.law_equations.proofs.MadeLemmas.StepLaws.{both, same, value-steps, length_more, split_at, defs-same, defs-new, rows-more}

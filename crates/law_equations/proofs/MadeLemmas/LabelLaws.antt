@@ -3,7 +3,7 @@ use Rattle.std.proofs.Common.{◌≡◌, ℕ, ◌+◌, Bool, true, false, if◌t
 use Rattle.std.proofs.lemmas.List.{append-nil, append_assoc}
 use Rattle.hp_base.specs.declared.span.Span.{Span}
 use Rattle.hp_tree.specs.Blocks.{Decl}
-use Rattle.hp_tree.specs.Instant.{Named, Instance, Place}
+use Rattle.hp_tree.specs.Instant.{Place}
 use Rattle.hp_tree.specs.Operators.{is_comparison}
 use Rattle.hp_tree.specs.declared.expr.Op1.{Op1}
 use Rattle.hp_tree.specs.declared.expr.Op1.TheVariants.{Not, Neg}
@@ -12,9 +12,9 @@ use Rattle.hp_tree.specs.declared.expr.Op2.TheVariants as op
 use Rattle.hp_flat.specs.declared.equation.Atom.{Atom}
 use Rattle.hp_flat.specs.Equations.{operator, FlatEqn}
 use Rattle.law_equations.specs.Flattened.Flatten.{FlatName, At, Prefix, ats, obc_one, obc_two}
-use Rattle.law_equations.specs.Made.Labels.{Label, comparison, calling, IsMadeAt, AreMadeAt, compares, compares_or_calls, events, output_places, with_comparison}
+use Rattle.law_equations.specs.Made.Labels.{Label, comparison, IsMadeAt, AreMadeAt, compares, compares_or_calls, events, output_places, with_comparison}
 use Rattle.law_equations.specs.Made.Laws.{unplaced}
-use Rattle.law_equations.specs.Made.Making.{Sketch, Site, Sight, Layer, bind, bind_all, bind_outputs, output_left, others, given_by, link_all, numbers_from, own_name, own_names}
+use Rattle.law_equations.specs.Made.Making.{Sketch, Site, Sight, Layer, bind, bind_all, bind_outputs, output_left, others, given_by, link_all, numbers_from}
 use Rattle.law_equations.specs.Made.Standing.{Agrees, AreLabelled}
 use Rattle.law_equations.proofs.MadeLemmas.CallLaws.{output_names}
 

@@ -9,7 +9,7 @@ use Rattle.hp_tree.specs.Expressions.{Expr, constant, variable, last_of, one, tw
 use Rattle.hp_tree.specs.Blocks.{Block, block, Eqns, no_eqn, more_eqns, Eqn, define, switch, reset, automaton, Arms, no_arm, more_arms}
 use Rattle.hp_tree.specs.Instant.{Body as BodyOf, Named, Equations, Head, Tail, Right as RightOf, Test, Arms as ArmsOf, First, Second, Third, Args, Instance, Place}
 use Rattle.hp_flat.specs.Equations.{Right, operator, register, called, FlatEqn}
-use Rattle.law_equations.specs.Flattened.Flatten.{FlatName, At, ats, Prefix, below, obc_two, constant_in, is_false}
+use Rattle.law_equations.specs.Flattened.Flatten.{FlatName, ats, Prefix, below, obc_two, constant_in, is_false}
 
 -- ---- equations
 
