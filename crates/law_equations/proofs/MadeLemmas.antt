@@ -6,6 +6,8 @@ pub mod CallLaws
 pub mod ClockLaws
 pub mod DefinitionLaws
 pub mod ExpressionLaws
+pub mod LabelLaws
+pub mod LabelsWorked
 pub mod LastLaws
 pub mod LayerLaws
 pub mod MadeLaw

@@ -12,6 +12,7 @@ use Rattle.law_equations.specs.Made.Keeping.{LastsKept}
 use Rattle.law_equations.specs.Made.Standing.{Knows, Agrees, IsNamed, Sees, IsAt, defs, IsBounded, Steps, IsDone, Promised, Remembers, EqnsMade, AreApart, AreThere}
 use Rattle.law_equations.specs.Flattened.Numbered.{AreRows, StandFor}
 use Rattle.law_equations.proofs.MadeLemmas.StepLaws.{split_at}
+use Rattle.law_equations.proofs.MadeLemmas.LabelLaws.{same-labelled}
 use Rattle.law_equations.proofs.MadeLemmas.PromiseLaws.{joined}
 use Rattle.law_equations.proofs.MadeLemmas.LayerLaws.{in-eqns, once-in, names-once, is_owned, owned, flats, flats_length, OwnMade, own-made, flats_kept}
 use Rattle.law_equations.proofs.MadeLemmas.LastLaws.{Alike, alike_value, Here, alike-all, flag-all, Remembering, remembered-made}
@@ -175,8 +176,16 @@ module _ (types : List TypeDecl) (outputs : List ℕ → List (List ℕ)) (k : K
 
   pub layer-made : (sc lsc : Scope) → LastsKept memory.keeps types ds here ck rs → Promised memory.keeps d after.1 (λ means. Around means sc lsc → LayerMade means sc lsc)
   layer-made sc lsc keep =
+      let owned_names : Promised memory.keeps d owning.1 (λ means. Agrees means (next d) (flats here (owned standing ds names))) =
+      record {
+        names = flats here (owned standing ds names);
+        kept = flats_kept memory.keeps here (owned standing ds names);
+        grown = grows;
+        labelled = λ means a. same-labelled means d.eqns owning.1.eqns own.eqns;
+        facts = λ means a. a;
+      } in
       joined d owning.1 after.1 (λ means. Agrees means (next d) (flats here (owned standing ds names))) (Remembering types outputs k knows F memory at out here ck rs ds lsc owning after) _
-      (record { names = flats here (owned standing ds names); kept = flats_kept memory.keeps here (owned standing ds names); grown = grows; facts = λ means a. a })
+      owned_names
       (remembered-made types outputs k knows F memory at out here ck rs ds lsc owning plain.0 here_owned keep)
       (λ means a r s.
       let made = r (bounded_owning s.bounded) s.site (λ x q. let h = owns x q in owned_value means a x h.0 h.1) (λ x. subst (λ o. IsNamed means o (lsc x)) (sym (last_kept x)) (s.lasts x)) in

@@ -12,11 +12,13 @@ use Rattle.hp_tree.specs.Instant.{Step, Named, Equations, Head, Tail, Right as R
 use Rattle.hp_tree.specs.Meaning.{declares, defines, some_defines, arms_define, block_defines}
 use Rattle.law_equations.specs.Flattened.Flatten.{FlatName, At, When, on, steps, ats, Rows, copies, Prefix, below, Scope, is_false, inside_at, lasts_at, arms_rows, flat_gives, flat_defined, flat_expr, flat_scope, flat_equations, flat_equation, flat_arms, unless}
 use Rattle.law_equations.specs.Flattened.Numbered.{AreRows, AreSteps}
+use Rattle.law_equations.specs.Made.Labels.{expr_labels, block_labels, eqns_labels, eqn_labels, arms_labels}
 use Rattle.law_equations.specs.Made.Making.{Known, Sketch, Site, Sight, Layer, Standing, Body, Inner, Seen, next, on_site, cons_number, or_entry, over, hidden, names_of_arms, names_of_block, is_in, each_once, given_by, bind, link_all, in_block, restart_site, with_flag, sketch_expr, sketch_block, sketch_eqns, sketch_eqn, sketch_arms}
 use Rattle.law_equations.specs.Made.Blocks.{IsPlain, ArePlain, OnePlain, ArmsPlain, Either, ReadyBlock, ReadyEqns, ReadyEqn, ReadyArms, SaysOf, LayerSays}
 use Rattle.law_equations.specs.Made.Sights.{Entry}
 use Rattle.law_equations.specs.Made.Keeping.{LastsKept, ExprKeeps, BlockKeeps, EqnsKeep, EqnKeeps, ArmsKeep}
-use Rattle.law_equations.specs.Made.Standing.{Knows, IsNamed, Sees, IsAt, IsFlagged, defs, Steps, Promised, Remembers, Ready, EqnsMade, AreApart, AreThere}
+use Rattle.law_equations.specs.Made.Standing.{Knows, IsNamed, Sees, IsAt, IsFlagged, defs, Steps, Promises, Remembers, Ready, EqnsMade, AreApart, AreThere}
+use Rattle.law_equations.proofs.MadeLemmas.LabelLaws.{labelled-both, links-labelled}
 use Rattle.law_equations.proofs.MadeLemmas.PromiseLaws.{joined, other, none, on-steps}
 use Rattle.law_equations.proofs.MadeLemmas.ExpressionLaws.{Owns, Makes, expr-made}
 use Rattle.law_equations.proofs.MadeLemmas.BlockSteps.{nothing-made, steps-first, in-turn}
@@ -195,7 +197,7 @@ module _ (types : List TypeDecl) (outputs : List ℕ → List (List ℕ)) (k : K
   BlockStep b =
       (see : Sight) (sc lsc : Scope) (at : Site) (here : Prefix) (ck : When) (rs : List Place) (d : Sketch) → Owns at [] → ((p : Place) → F (At (here p)) ≡ flat_scope types outputs fill b sc lsc here ck rs p)
       → ReadyBlock k fill Inner see at b here d → BlockKeeps memory.keeps types fill b sc lsc here ck rs → IsPlain b → IsInjective here
-      → Promised memory.keeps d (sketch_block k Inner see at b d).1 (λ means. St see sc lsc at ck rs d means → InnerMade means b here d (sketch_block k Inner see at b d) ck rs)
+      → Promises memory.keeps d (sketch_block k Inner see at b d).1 (block_labels outputs b here) (λ means. St see sc lsc at ck rs d means → InnerMade means b here d (sketch_block k Inner see at b d) ck rs)
 
   again : (at other : Site) (means : ℕ → FlatName) (w : When) (rs : List Place) → at.clock ≡ other.clock → at.restart ≡ other.restart → IsAt means at w rs → IsAt means other w rs
   again at other means w rs e f i =
@@ -251,7 +253,7 @@ module _ (types : List TypeDecl) (outputs : List ℕ → List (List ℕ)) (k : K
     within_b x = if block_defines b x then lsc x else sc x
 
     always_on : ((p : Place) → F (At (here (BodyOf ∷ p))) ≡ flat_scope types outputs fill b within_b lsc (below BodyOf here) ck rs p) → ReadyBlock k fill Inner inside_b at b (below BodyOf here) d → BlockKeeps memory.keeps types fill b within_b lsc (below BodyOf here) ck rs
-        → Promised memory.keeps d (unfolded true) (EqnDo (reset s b e) ds see sc lsc at here ck rs d (unfolded true))
+        → Promises memory.keeps d (unfolded true) (block_labels outputs b (below BodyOf here)) (EqnDo (reset s b e) ds see sc lsc at here ck rs d (unfolded true))
     always_on cov ready keep =
         let m = sketch_block k Inner inside_b at b d in
         let p = step inside_b within_b lsc at (below BodyOf here) ck rs d own cov ready keep plain (below_injective here BodyOf inj) in
@@ -259,6 +261,7 @@ module _ (types : List TypeDecl) (outputs : List ℕ → List (List ℕ)) (k : K
           names = p.names;
           kept = p.kept;
           grown = link_next see at m.0 names_b m.1 ∙ p.grown;
+          labelled = λ means a. labelled-both means d.eqns m.1.eqns (unfolded true).eqns (p.labelled means a) (links-labelled means see at m.0 names_b m.1);
           facts = λ means a st apart there.
               let inner = p.facts means a (st.0, inside_sees means see sc lsc names_b (block_defines b) in_b st.1, st.2, st.3) in
               as_reset means (unfolded true)
@@ -271,17 +274,25 @@ module _ (types : List TypeDecl) (outputs : List ℕ → List (List ℕ)) (k : K
         → ((p : Place) → F (At (here (BodyOf ∷ p))) ≡ flat_scope types outputs fill b within_b lsc (below BodyOf here) ck (here (Test ∷ []) ∷ rs) p)
         → Ready k fill see at e (below Test here) d → ReadyBlock k fill Inner inside_b (in_block (restart_site at (sketch_expr k see at e d).1)) b (below BodyOf here) (with_flag None (sketch_expr k see at e d).0)
         → ExprKeeps memory.keeps types fill e [] sc (below Test here) ck rs → BlockKeeps memory.keeps types fill b within_b lsc (below BodyOf here) ck (here (Test ∷ []) ∷ rs)
-        → Promised memory.keeps d (unfolded false) (EqnDo (reset s b e) ds see sc lsc at here ck rs d (unfolded false))
+        → Promises memory.keeps d (unfolded false) (λ rest. expr_labels outputs e (below Test here) (block_labels outputs b (below BodyOf here) rest)) (EqnDo (reset s b e) ds see sc lsc at here ck rs d (unfolded false))
     restarted cov_test cov ready_test ready keep_test keep =
         let t = sketch_expr k see at e d in
         let site = in_block (restart_site at t.1) in
         let m = sketch_block k Inner inside_b site b (with_flag None t.0) in
         let rs' = here (Test ∷ []) ∷ rs in
         let p = step inside_b within_b lsc site (below BodyOf here) ck rs' (with_flag None t.0) (own_base (restart_site at t.1)) cov ready keep plain (below_injective here BodyOf inj) in
+        let q : Promises memory.keeps t.0 (unfolded false) (block_labels outputs b (below BodyOf here)) (λ means. St inside_b within_b lsc site ck rs' (with_flag None t.0) means → InnerMade means b (below BodyOf here) (with_flag None t.0) m ck rs') =
+        record {
+          names = p.names;
+          kept = p.kept;
+          grown = link_next see at m.0 names_b (with_flag t.0.flag m.1) ∙ p.grown;
+          labelled = λ means a. labelled-both means t.0.eqns m.1.eqns (unfolded false).eqns (p.labelled means a) (links-labelled means see at m.0 names_b (with_flag t.0.flag m.1));
+          facts = p.facts;
+        } in
         joined d t.0 (unfolded false) (Makes types outputs k knows fill F memory see sc lsc at ck ck rs d t (At (here (Test ∷ []))))
         (λ means. St inside_b within_b lsc site ck rs' (with_flag None t.0) means → InnerMade means b (below BodyOf here) (with_flag None t.0) m ck rs') _
         (expr-made types outputs k knows fill F memory e [] sc lsc (below Test here) ck rs see at d own cov_test ready_test keep_test)
-        (record { names = p.names; kept = p.kept; grown = link_next see at m.0 names_b (with_flag t.0.flag m.1) ∙ p.grown; facts = p.facts })
+        q
         (λ means a g st apart there.
         let i = a st in
         let on_site : IsAt means site ck rs' = record { clock = st.2.clock; restart = ap (map means) (reverse-append at.restart (t.1 ∷ [])) ∙ ap₂ (λ x xs. x ∷ xs) i.value st.2.restart } in
@@ -297,7 +308,7 @@ module _ (types : List TypeDecl) (outputs : List ℕ → List (List ℕ)) (k : K
         there_b))
 
     reset_made : ((p : Place) → F (At (here p)) ≡ flat_equation types outputs fill ds (reset s b e) sc lsc here ck rs p) → ReadyEqn k fill see at ds (reset s b e) here d → EqnKeeps memory.keeps types fill ds (reset s b e) sc lsc here ck rs → (c : Bool) → is_false e ≡ c
-        → Promised memory.keeps d (unfolded c) (EqnDo (reset s b e) ds see sc lsc at here ck rs d (unfolded c))
+        → Promises memory.keeps d (unfolded c) (λ rest. if c then block_labels outputs b (below BodyOf here) rest else expr_labels outputs e (below Test here) (block_labels outputs b (below BodyOf here) rest)) (EqnDo (reset s b e) ds see sc lsc at here ck rs d (unfolded c))
     reset_made cov ready keep true q =
         always_on (λ p. subst (λ c. F (At (here (BodyOf ∷ p))) ≡ flat_scope types outputs fill b within_b lsc (below BodyOf here) ck (if c then rs else here (Test ∷ []) ∷ rs) p) q (cov (BodyOf ∷ p)))
         (subst (λ c. Either c (ReadyBlock k fill Inner inside_b at b (below BodyOf here) d)
@@ -317,10 +328,10 @@ module _ (types : List TypeDecl) (outputs : List ℕ → List (List ℕ)) (k : K
   standing_made : (standing : Standing) (ds : List Decl) (es : Eqns) (see : Sight) (sc lsc : Scope) (at : Site) (here : Prefix) (ck : When) (rs : List Place) (d : Sketch) (plain : IsPlain (block ds es)) → IsInjective here
       → ((p : Place) → F (At (here p)) ≡ flat_scope types outputs fill (block ds es) sc lsc here ck rs p) → LastsKept memory.keeps types ds here ck rs
       → (let s = after types outputs k knows F memory standing see at here ck rs ds es d plain in
-      Promised memory.keeps s.1 (sketch_eqns k (over s.0 see) at ds es s.1) (EqnsDo es ds (over s.0 see) (inside_at es sc here) (lasts_at types ds lsc here ck rs) at (below Equations here) ck rs s.1))
+      Promises memory.keeps s.1 (sketch_eqns k (over s.0 see) at ds es s.1) (eqns_labels outputs es (below Equations here)) (EqnsDo es ds (over s.0 see) (inside_at es sc here) (lasts_at types ds lsc here ck rs) at (below Equations here) ck rs s.1))
       → (let s = after types outputs k knows F memory standing see at here ck rs ds es d plain in
       let e = sketch_eqns k (over s.0 see) at ds es s.1 in
-      Promised memory.keeps d e
+      Promises memory.keeps d e (block_labels outputs (block ds es) here)
       (λ means. Around types outputs k knows F memory standing see at here ck rs ds es d plain means sc lsc → IsFlagged means d.flag ck rs → AreThere see (Outer standing ds es) d
       → LayerMade types outputs k knows F memory standing see at here ck rs ds es d plain means sc lsc
       × EqnsMade F means see (Outer standing ds es) (flat_defined types outputs fill ds es (inside_at es sc here) (lasts_at types ds lsc here ck rs) (below Equations here) ck rs) d e ck rs))
@@ -371,7 +382,7 @@ module _ (types : List TypeDecl) (outputs : List ℕ → List (List ℕ)) (k : K
 
     pub eqns-made : (es : Eqns) (ds : List Decl) (see : Sight) (sc lsc : Scope) (at : Site) (here : Prefix) (ck : When) (rs : List Place) (d : Sketch) → Owns at []
         → ((p : Place) → F (At (here p)) ≡ flat_equations types outputs fill ds es sc lsc here ck rs p) → ReadyEqns k fill see at ds es here d → EqnsKeep memory.keeps types fill ds es sc lsc here ck rs → ArePlain es → IsInjective here
-        → Promised memory.keeps d (sketch_eqns k see at ds es d) (EqnsDo es ds see sc lsc at here ck rs d)
+        → Promises memory.keeps d (sketch_eqns k see at ds es d) (eqns_labels outputs es here) (EqnsDo es ds see sc lsc at here ck rs d)
     eqns-made no_eqn ds see sc lsc at here ck rs d own cov ready keep plain inj =
         none d _ (λ means st apart there. nothing-made k F means see ck rs (λ x. false) (λ x. []) d st.0 st.3 (λ x q. absurd cc))
     eqns-made (more_eqns e es) ds see sc lsc at here ck rs d own cov ready keep plain inj =
@@ -392,7 +403,7 @@ module _ (types : List TypeDecl) (outputs : List ℕ → List (List ℕ)) (k : K
 
     pub eqn-made : (e : Eqn) (ds : List Decl) (see : Sight) (sc lsc : Scope) (at : Site) (here : Prefix) (ck : When) (rs : List Place) (d : Sketch) → Owns at []
         → ((p : Place) → F (At (here p)) ≡ flat_equation types outputs fill ds e sc lsc here ck rs p) → ReadyEqn k fill see at ds e here d → EqnKeeps memory.keeps types fill ds e sc lsc here ck rs → OnePlain e → IsInjective here
-        → Promised memory.keeps d (sketch_eqn k see at ds e d) (EqnDo e ds see sc lsc at here ck rs d (sketch_eqn k see at ds e d))
+        → Promises memory.keeps d (sketch_eqn k see at ds e d) (eqn_labels outputs e here) (EqnDo e ds see sc lsc at here ck rs d (sketch_eqn k see at ds e d))
     eqn-made (define s ys e) ds see sc lsc at here ck rs d own cov ready keep plain inj =
         definition-made types outputs k knows fill F memory s ds ys e sc lsc here ck rs see at d own (λ p. cov (RightOf ∷ p)) ready keep plain
     eqn-made (switch s e arms) ds see sc lsc at here ck rs d own cov ready keep plain inj =
@@ -421,7 +432,7 @@ module _ (types : List TypeDecl) (outputs : List ℕ → List (List ℕ)) (k : K
 
     pub arms-made : (arms : Arms) (names : List (List ℕ)) (see inside : Sight) (sc within lsc : Scope) (at : Site) (t : ℕ) (test : FlatName) (here : Prefix) (ck : When) (rs : List Place) (d : Sketch) → Once names
         → ((p : Place) → F (At (here p)) ≡ flat_arms types outputs fill arms test within lsc here ck rs p) → ReadyArms k fill see inside at names t arms here d → ArmsKeep memory.keeps types fill arms test within lsc here ck rs → ArmsPlain arms → IsInjective here
-        → Promised memory.keeps d (sketch_arms k see inside at names t arms d) (ArmsDo arms names see inside sc within lsc at t test here ck rs d)
+        → Promises memory.keeps d (sketch_arms k see inside at names t arms d) (arms_labels outputs arms here) (ArmsDo arms names see inside sc within lsc at t test here ck rs d)
     arms-made no_arm names see inside sc within lsc at t test here ck rs d once cov ready keep plain inj =
         none d _ (λ means st i s apart there. nothing-made k F means see ck rs (is_in names) (λ x. []) d st.0 st.3 (λ x q. refl))
     arms-made (more_arms c b s arms) names see inside sc within lsc at t test here ck rs d once cov ready keep plain inj =
@@ -431,8 +442,16 @@ module _ (types : List TypeDecl) (outputs : List ℕ → List (List ℕ)) (k : K
         let d' = with_flag d.flag (link_all see site m.0 names m.1) in
         let f = sketch_arms k see inside at names t arms d' in
         let p = block-made b inside within lsc (in_block site) (below Head here) w rs (with_flag None d) (own_base site) (λ p. cov (Head ∷ p)) ready.0 keep.0 plain.0 (below_injective here Head inj) in
+        let q : Promises memory.keeps d d' (block_labels outputs b (below Head here)) (λ means. St inside within lsc (in_block site) w rs (with_flag None d) means → InnerMade means b (below Head here) (with_flag None d) m w rs) =
+        record {
+          names = p.names;
+          kept = p.kept;
+          grown = link_grown see site m.0 names d.flag d m.1 (length p.names) p.grown;
+          labelled = λ means a. labelled-both means d.eqns m.1.eqns d'.eqns (p.labelled means a) (links-labelled means see site m.0 names m.1);
+          facts = p.facts;
+        } in
         joined d d' f (λ means. St inside within lsc (in_block site) w rs (with_flag None d) means → InnerMade means b (below Head here) (with_flag None d) m w rs) (ArmsDo arms names see inside sc within lsc at t test (below Tail here) ck rs d') _
-        (record { names = p.names; kept = p.kept; grown = link_grown see site m.0 names d.flag d m.1 (length p.names) p.grown; facts = p.facts })
+        q
         (arms-made arms names see inside sc within lsc at t test (below Tail here) ck rs d' once (λ p. cov (Tail ∷ p)) ready.1 keep.1 plain.1 (below_injective here Tail inj))
         (λ means a g st is inner_seen apart there.
         let on_arm : IsAt means site w rs = on-steps means at t (cons_number k c) (cons_of types c) test ck rs st.2 is (sym (knows.constructors c)) in
@@ -446,7 +465,7 @@ module _ (types : List TypeDecl) (outputs : List ℕ → List (List ℕ)) (k : K
   -- the body of a node
   pub body-made : (ds : List Decl) (es : Eqns) (see : Sight) (sc lsc : Scope) (at : Site) (here : Prefix) (ck : When) (rs : List Place) (d : Sketch) (plain : IsPlain (block ds es)) → Owns at []
       → ((p : Place) → F (At (here p)) ≡ flat_scope types outputs fill (block ds es) sc lsc here ck rs p) → ReadyBlock k fill Body see at (block ds es) here d → BlockKeeps memory.keeps types fill (block ds es) sc lsc here ck rs → IsInjective here
-      → Promised memory.keeps d (sketch_block k Body see at (block ds es) d).1
+      → Promises memory.keeps d (sketch_block k Body see at (block ds es) d).1 (block_labels outputs (block ds es) here)
       (λ means. Around types outputs k knows F memory Body see at here ck rs ds es d plain means sc lsc → IsFlagged means d.flag ck rs → AreThere see (Outer Body ds es) d
       → LayerMade types outputs k knows F memory Body see at here ck rs ds es d plain means sc lsc
       × EqnsMade F means see (Outer Body ds es) (flat_defined types outputs fill ds es (inside_at es sc here) (lasts_at types ds lsc here ck rs) (below Equations here) ck rs) d (sketch_block k Body see at (block ds es) d).1 ck rs)

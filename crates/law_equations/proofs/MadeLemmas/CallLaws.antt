@@ -74,7 +74,7 @@ module _ (k : Known) where
       let more : next (with_new o.name (flat_type k.types o.ty) d) ≡ next d + 1 = length_more d.variables _ in
       outs-next os (with_new o.name (flat_type k.types o.ty) d) ∙ omega (arith, more)
 
-  outs_eqns : (os : List Decl) (d : Sketch) → (with_outputs k os d).eqns ≡ d.eqns
+  pub outs_eqns : (os : List Decl) (d : Sketch) → (with_outputs k os d).eqns ≡ d.eqns
   outs_eqns [] d = refl
   outs_eqns (o ∷ os) d = outs_eqns os (with_new o.name (flat_type k.types o.ty) d)
 

@@ -14,14 +14,16 @@ use Rattle.hp_tree.specs.Operators.{cons_of}
 use Rattle.hp_tree.specs.Instant.{Named, Right as RightOf, Args, Instance, Place, Clock}
 use Rattle.hp_tree.specs.Meaning.{is_among, clock_of}
 use Rattle.law_equations.specs.Flattened.Flatten.{FlatName, At, Nowhere, When, on, Rows, copies, Prefix, below, Scope, under, args_at, output_at, right_at, flat_expr}
+use Rattle.law_equations.specs.Made.Labels.{expr_labels}
 use Rattle.law_equations.specs.Made.Making.{Known, Sketch, Site, Sight, next, tested, on_site, cons_number, outputs_of, called_at, sketch_expr, sketch_exprs, enter_path, path_for, bind, bind_all, bind_outputs, output_left, others, sketch_right, sketch_definition}
 use Rattle.law_equations.specs.Made.Keeping.{ExprKeeps, ExprsKeep}
-use Rattle.law_equations.specs.Made.Standing.{Knows, Agrees, IsNamed, IsAt, IsFlagged, IsBounded, Steps, IsMade, Promised, Remembers, Ready, ReadyAll, ReadyRight, EqnsMade, AreApart, AreThere}
+use Rattle.law_equations.specs.Made.Standing.{Knows, Agrees, IsNamed, IsAt, IsFlagged, IsBounded, Steps, IsMade, Promises, Promised, Remembers, Ready, ReadyAll, ReadyRight, EqnsMade, AreApart, AreThere}
 use Rattle.law_equations.proofs.MadeLemmas.BindLaws.{Binding, binds, takes, TakesOnce, AllNamed, binds-made}
 use Rattle.law_equations.proofs.MadeLemmas.BlockSteps.{steps-first}
 use Rattle.law_equations.proofs.MadeLemmas.CallLaws.{output_names}
 use Rattle.law_equations.proofs.MadeLemmas.ClockLaws.{clock-path, under-path, path-length}
 use Rattle.law_equations.proofs.MadeLemmas.ExpressionLaws.{Owns, Starts, ArgsMade, expr-made, args-made, call_made}
+use Rattle.law_equations.proofs.MadeLemmas.LabelLaws.{labelled-both, all-labelled, outputs-labelled}
 use Rattle.law_equations.proofs.MadeLemmas.PromiseLaws.{joined, none, on-steps, tested-made}
 use Rattle.law_equations.proofs.MadeLemmas.StepLaws.{both, same}
 
@@ -156,7 +158,7 @@ module _ (types : List TypeDecl) (outputs : List ℕ → List (List ℕ)) (k : K
   plain_right : (e : Expr) (ys : List (List ℕ × Span)) (clock : Clock) (sc lsc : Scope) (here : Prefix) (ck : When) (rs : List Place) (see : Sight) (at : Site) (d : Sketch) → Owns at clock
       → ((p : Place) → F (At (here p)) ≡ flat_expr types outputs fill e clock sc lsc here ck rs p) → Ready k fill see at e here d → ExprKeeps memory.keeps types fill e clock sc here ck rs → LeftsOnce ys
       → ((x : List ℕ) → right_at types outputs fill ys e here x ≡ At (here []))
-      → Promised memory.keeps d (bind_all see at ys (sketch_expr k see at e d).1 (sketch_expr k see at e d).0)
+      → Promises memory.keeps d (bind_all see at ys (sketch_expr k see at e d).1 (sketch_expr k see at e d).0) (expr_labels outputs e here)
       (λ means. BodyStarts see sc lsc at (under types sc clock ck) ck rs d means → AreApart see (is_among ys) → AreThere see (is_among ys) d
       → EqnsMade F means see (is_among ys) (DefinitionRows ys e here (under types sc clock ck) rs) d (bind_all see at ys (sketch_expr k see at e d).1 (sketch_expr k see at e d).0) ck rs)
   plain_right e ys clock sc lsc here ck rs see at d own cov ready keep once right =
@@ -169,6 +171,7 @@ module _ (types : List TypeDecl) (outputs : List ℕ → List (List ℕ)) (k : K
         names = p.names;
         kept = p.kept;
         grown = all_next ys see at x.1 x.0 ∙ p.grown;
+        labelled = λ means a. labelled-both means d.eqns x.0.eqns (bind_all see at ys x.1 x.0).eqns (p.labelled means a) (all-labelled means see at ys x.1 x.0);
         facts = λ means a st apart there.
             let i = p.facts means a st in
             let made = binds-made k F means see ck w rs at (right_at types outputs fill ys e here) bs x.0 i.steps.bounded i.flag st.2 (all_once ys x.1 once)
@@ -192,7 +195,7 @@ module _ (types : List TypeDecl) (outputs : List ℕ → List (List ℕ)) (k : K
   -- a call, whose outputs stand for names in turn
   call_right : (s : Span) (f : List ℕ) (inlined : Bool) (es : Exprs) (ys : List (List ℕ × Span)) (clock : Clock) (sc lsc : Scope) (here : Prefix) (ck : When) (rs : List Place) (see : Sight) (at : Site) (d : Sketch) → Owns at clock
       → ((p : Place) → F (At (here p)) ≡ flat_expr types outputs fill (call s f inlined es) clock sc lsc here ck rs p) → ReadyAll k fill see at es (below Args here) d → ExprsKeep memory.keeps types fill es clock sc (below Args here) ck rs → LeftsOnce ys
-      → Promised memory.keeps d (sketch_right k see at ys (call s f inlined es) d)
+      → Promises memory.keeps d (sketch_right k see at ys (call s f inlined es) d) (expr_labels outputs (call s f inlined es) here)
       (λ means. BodyStarts see sc lsc at (under types sc clock ck) ck rs d means → AreApart see (is_among ys) → AreThere see (is_among ys) d
       → EqnsMade F means see (is_among ys) (DefinitionRows ys (call s f inlined es) here (under types sc clock ck) rs) d (sketch_right k see at ys (call s f inlined es) d) ck rs)
   call_right s f inlined es ys clock sc lsc here ck rs see at d own cov ready keep once =
@@ -211,6 +214,7 @@ module _ (types : List TypeDecl) (outputs : List ℕ → List (List ℕ)) (k : K
         names = p.names;
         kept = p.kept;
         grown = outputs_next ys see at c.1 os c.0 ∙ p.grown;
+        labelled = λ means a. labelled-both means d.eqns c.0.eqns (bind_outputs see at ys c.1 os c.0).eqns (p.labelled means a) (outputs-labelled means see at ys c.1 os c.0);
         facts = λ means a st apart there.
             let r = p.facts means a st in
             let made = binds-made k F means see ck w rs at target bs c.0 r.0.bounded r.1 st.2 (outputs_once ys c.1 os once)
@@ -233,7 +237,7 @@ module _ (types : List TypeDecl) (outputs : List ℕ → List (List ℕ)) (k : K
 
   right_made : (e : Expr) (ys : List (List ℕ × Span)) (clock : Clock) (sc lsc : Scope) (here : Prefix) (ck : When) (rs : List Place) (see : Sight) (at : Site) (d : Sketch) → Owns at clock
       → ((p : Place) → F (At (here p)) ≡ flat_expr types outputs fill e clock sc lsc here ck rs p) → ReadyRight k fill see at e here d → ExprKeeps memory.keeps types fill e clock sc here ck rs → LeftsOnce ys
-      → Promised memory.keeps d (sketch_right k see at ys e d)
+      → Promises memory.keeps d (sketch_right k see at ys e d) (expr_labels outputs e here)
       (λ means. BodyStarts see sc lsc at (under types sc clock ck) ck rs d means → AreApart see (is_among ys) → AreThere see (is_among ys) d
       → EqnsMade F means see (is_among ys) (DefinitionRows ys e here (under types sc clock ck) rs) d (sketch_right k see at ys e d) ck rs)
   right_made (constant s c) ys clock sc lsc here ck rs see at d own cov ready keep once = plain_right (constant s c) ys clock sc lsc here ck rs see at d own cov ready keep once (λ x. refl)
@@ -254,7 +258,7 @@ module _ (types : List TypeDecl) (outputs : List ℕ → List (List ℕ)) (k : K
   pub definition-made : (s : Span) (ds : List Decl) (ys : List (List ℕ × Span)) (e : Expr) (sc lsc : Scope) (here : Prefix) (ck : When) (rs : List Place) (see : Sight) (at : Site) (d : Sketch) → Owns at []
       → ((p : Place) → F (At (here (RightOf ∷ p))) ≡ flat_expr types outputs fill e (clock_of ds ys e) sc lsc (below RightOf here) ck rs p)
       → ReadyRight k fill see (enter_path k see (path_for ds ys e) at d).0 e (below RightOf here) (enter_path k see (path_for ds ys e) at d).1 → ExprKeeps memory.keeps types fill e (clock_of ds ys e) sc (below RightOf here) ck rs → LeftsOnce ys
-      → Promised memory.keeps d (sketch_definition k see at ds ys e d)
+      → Promises memory.keeps d (sketch_definition k see at ds ys e d) (expr_labels outputs e (below RightOf here))
       (λ means. BodyStarts see sc lsc at ck ck rs d means → AreApart see (is_among ys) → AreThere see (is_among ys) d
       → EqnsMade F means see (is_among ys) (DefinitionRows ys e (below RightOf here) (under types sc (clock_of ds ys e) ck) rs) d (sketch_definition k see at ds ys e d) ck rs)
   definition-made s ds ys e sc lsc here ck rs see at d own cov ready keep once =

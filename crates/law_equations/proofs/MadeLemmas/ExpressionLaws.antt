@@ -18,14 +18,16 @@ use Rattle.hp_flat.specs.declared.equation.Atom.{Atom}
 use Rattle.hp_flat.specs.declared.equation.Atom.TheVariants.{Variable, Value as Fixed}
 use Rattle.hp_flat.specs.Equations.{Right as Given, operator, register, FlatEqn}
 use Rattle.law_equations.specs.Flattened.Flat.{Arg, name, value, Right, Op, Register}
-use Rattle.law_equations.specs.Flattened.Flatten.{FlatName, At, IsFirst, Held, When, steps, Rows, row, copies, Prefix, below, Scope, under, obc_one, obc_two, constant_in, args_at, flat_expr, flat_exprs, flat_parts, parts_at, only_row, output_row, fby_row, plan_two, unless}
+use Rattle.law_equations.specs.Flattened.Flatten.{FlatName, At, IsFirst, Held, When, steps, Rows, row, copies, Prefix, below, Scope, under, obc_one, obc_two, constant_in, args_at, ats, flat_expr, flat_exprs, flat_parts, parts_at, only_row, output_row, fby_row, plan_two, unless}
 use Rattle.law_equations.specs.Flattened.Numbered.{AreSteps, AreArgs, IsArg, IsRight, AreRows, StandFor}
 use Rattle.law_equations.specs.Made.Keeping.{IsKept, FbyKeeps, ExprKeeps, ExprsKeep, PartsKeep}
-use Rattle.law_equations.specs.Made.Making.{Known, Sketch, Site, Sight, Made, next, with_eqn, new_variable, value_of, atom_of, copy_of, type_at, first_value, type_of_value, type_one, type_two, front_steps, constant_value, cons_number, outputs_of, flag_at, register_at, off_site, on_site, tested, part_at, or_new, fby_at, called_at, first_output, by_constant, sketch_expr, sketch_exprs, sketch_parts}
-use Rattle.law_equations.specs.Made.Standing.{Knows, Agrees, IsNamed, Sees, IsAt, IsFlagged, defs, IsBounded, IsDone, Steps, IsMade, Promised, Remembers, HasOne, ByConstant, Ready, ReadyParts, ReadyAll}
+use Rattle.law_equations.specs.Made.Labels.{Label, calling, compares_or_calls, expr_labels, exprs_labels, parts_labels, output_places}
+use Rattle.law_equations.specs.Made.Making.{Known, Sketch, Site, Sight, Made, next, with_eqn, new_variable, value_of, atom_of, copy_of, type_at, first_value, type_of_value, type_one, type_two, front_steps, constant_value, cons_number, outputs_of, with_outputs, flag_at, register_at, off_site, on_site, tested, part_at, or_new, fby_at, called_at, first_output, by_constant, sketch_expr, sketch_exprs, sketch_parts}
+use Rattle.law_equations.specs.Made.Standing.{Knows, Agrees, IsNamed, Sees, IsAt, IsFlagged, defs, IsBounded, IsDone, Steps, IsMade, AreLabelled, Promises, Promised, Remembers, HasOne, ByConstant, Ready, ReadyParts, ReadyAll}
 use Rattle.law_equations.proofs.MadeLemmas.StepLaws.{both, same, value-steps, length_more, split_at, defs-same, defs-new, rows-more}
-use Rattle.law_equations.proofs.MadeLemmas.CallLaws.{output_names, outputs_kept, names-length, outs-next, outs-flag, call-steps}
-use Rattle.law_equations.proofs.MadeLemmas.PromiseLaws.{joined, none, one-value, one-variable, on-steps, off-steps, flag-made, tested-made}
+use Rattle.law_equations.proofs.MadeLemmas.CallLaws.{output_names, outputs_kept, names-length, outs-next, outs-flag, outs_eqns, call-steps}
+use Rattle.law_equations.proofs.MadeLemmas.LabelLaws.{one-is-none, labelled-both, same-labelled, other-labelled, event-labelled, two-labelled, outputs-are}
+use Rattle.law_equations.proofs.MadeLemmas.PromiseLaws.{joined, none, labelled-value, one-value, one-variable, on-steps, off-steps, flag-made, tested-made}
 
 -- a site has the steps of an expression's clock beside those of its block
 abbrev pub Owns : Site → Clock → Type 0
@@ -54,12 +56,13 @@ module _ (types : List TypeDecl) (outputs : List ℕ → List (List ℕ)) (k : K
     pub onward : (d : Sketch) (m : Made) (a : FlatName) (means : ℕ → FlatName) → S d means → IsMade F means d m a ck rs → S m.0 means
     onward d m a means s i = (i.steps.bounded, s.1, s.2, i.flag)
 
-    -- a last equation behind others
-    pub finish : (d e : Sketch) (t : FlatTy) (given : Given) (right : Right FlatName) (a : FlatName) (A : (ℕ → FlatName) → Type 0) → F a ≡ Some (row w rs right ∷ []) → IsKept memory.keeps a → Promised memory.keeps d e A
+    -- a last equation behind others, with what it is made of
+    finish_labelled : {L N : List Label → List Label} (d e : Sketch) (t : FlatTy) (given : Given) (right : Right FlatName) (a : FlatName) (A : (ℕ → FlatName) → Type 0)
+        → ((means : ℕ → FlatName) → means (next e) ≡ a → AreLabelled means e.eqns (value_of at t given e).0.eqns N) → F a ≡ Some (row w rs right ∷ []) → IsKept memory.keeps a → Promises memory.keeps d e L A
         → ((means : ℕ → FlatName) → A means → S d means → Steps F means d e × IsFlagged means e.flag ck rs × IsRight means 0 given right)
-        → Promised memory.keeps d (value_of at t given e).0 (M d (value_of at t given e) a)
-    finish d e t given right a A f keep p h =
-        joined d e (value_of at t given e).0 A (λ means. means (next e) ≡ a) (M d (value_of at t given e) a) p (one-value memory.keeps at (codes "e") t given e a keep)
+        → Promises memory.keeps d (value_of at t given e).0 (λ rest. L (N rest)) (M d (value_of at t given e) a)
+    finish_labelled {L} {N} d e t given right a A l f keep p h =
+        joined d e (value_of at t given e).0 A (λ means. means (next e) ≡ a) (M d (value_of at t given e) a) p (labelled-value at (codes "e") t given e a keep l)
         (λ means b m s.
         let r = h means b s in
         record {
@@ -68,11 +71,17 @@ module _ (types : List TypeDecl) (outputs : List ℕ → List (List ℕ)) (k : K
           flag = r.1;
         })
 
+    -- one that neither compares nor calls
+    pub finish : {L : List Label → List Label} (d e : Sketch) (t : FlatTy) (given : Given) (right : Right FlatName) (a : FlatName) (A : (ℕ → FlatName) → Type 0) → compares_or_calls given ≡ false → F a ≡ Some (row w rs right ∷ []) → IsKept memory.keeps a
+        → Promises memory.keeps d e L A → ((means : ℕ → FlatName) → A means → S d means → Steps F means d e × IsFlagged means e.flag ck rs × IsRight means 0 given right)
+        → Promises memory.keeps d (value_of at t given e).0 L (M d (value_of at t given e) a)
+    finish d e t given right a A quiet f keep p h = finish_labelled d e t given right a A (λ means m. other-labelled means e.eqns _ quiet) f keep p h
+
     -- one equation
-    pub alone : (d : Sketch) (t : FlatTy) (given : Given) (right : Right FlatName) (a : FlatName) → F a ≡ Some (row w rs right ∷ []) → IsKept memory.keeps a → ((means : ℕ → FlatName) → S d means → IsRight means 0 given right)
+    pub alone : (d : Sketch) (t : FlatTy) (given : Given) (right : Right FlatName) (a : FlatName) → compares_or_calls given ≡ false → F a ≡ Some (row w rs right ∷ []) → IsKept memory.keeps a → ((means : ℕ → FlatName) → S d means → IsRight means 0 given right)
         → Promised memory.keeps d (value_of at t given d).0 (M d (value_of at t given d) a)
-    alone d t given right a f keep h =
-        finish d d t given right a (λ means. ⊤) f keep (none d (λ means. ⊤) (λ means. tt)) (λ means b s. (same F means d s.0, s.3, h means s))
+    alone d t given right a quiet f keep h =
+        finish d d t given right a (λ means. ⊤) quiet f keep (none d (λ means. ⊤) (λ means. tt)) (λ means b s. (same F means d s.0, s.3, h means s))
 
   named_arg : (means : ℕ → FlatName) (o : Option ℕ) (a : FlatName) → IsNamed means o a → IsArg means (atom_of o) (name a)
   named_arg means None a h = (refl, h)
@@ -81,7 +90,7 @@ module _ (types : List TypeDecl) (outputs : List ℕ → List (List ℕ)) (k : K
   abbrev pair : (A G : (ℕ → FlatName) → Type 0) → (ℕ → FlatName) → Type 0
   pair A G means = A means × G means
 
-  pub in-turn : (d e f : Sketch) (A G : (ℕ → FlatName) → Type 0) → Promised memory.keeps d e A → Promised memory.keeps e f G → Promised memory.keeps d f (λ means. A means × G means)
+  pub in-turn : {L N : List Label → List Label} (d e f : Sketch) (A G : (ℕ → FlatName) → Type 0) → Promises memory.keeps d e L A → Promises memory.keeps e f N G → Promises memory.keeps d f (λ rest. L (N rest)) (λ means. A means × G means)
   in-turn d e f A G p q = joined d e f A G (λ means. A means × G means) p q (λ means a g. (a, g))
 
   -- a clock without its innermost step
@@ -122,16 +131,17 @@ module _ (types : List TypeDecl) (outputs : List ℕ → List (List ℕ)) (k : K
       (Ready k fill see at b (below Second here) d)
       → FbyKeeps memory.keeps types fill o here (under types sc clock ck) rs (ExprKeeps memory.keeps types fill a clock sc (below First here) ck rs) (ExprKeeps memory.keeps types fill b clock sc (below Second here) ck rs)
       → (((p : Place) → F (At (here (First ∷ p))) ≡ flat_expr types outputs fill a clock sc lsc (below First here) ck rs p) → Ready k fill see at a (below First here) d → ExprKeeps memory.keeps types fill a clock sc (below First here) ck rs
-      → Promised memory.keeps d (sketch_expr k see at a d).0 (Makes see sc lsc at (under types sc clock ck) ck rs d (sketch_expr k see at a d) (At (here (First ∷ [])))))
-      → ((e : Sketch) → Ready k fill see at b (below Second here) e → ExprKeeps memory.keeps types fill b clock sc (below Second here) ck rs → Promised memory.keeps e (sketch_expr k see at b e).0 (Makes see sc lsc at (under types sc clock ck) ck rs e (sketch_expr k see at b e) (At (here (Second ∷ [])))))
-      → Promised memory.keeps d (by_constant o (fby_at at (sketch_expr k see at a d).1 (sketch_expr k see at b (sketch_expr k see at a d).0)) (λ c. register_at at (constant_value k c) (sketch_expr k see at b d).1 (sketch_expr k see at b d).0)).0
+      → Promises memory.keeps d (sketch_expr k see at a d).0 (expr_labels outputs a (below First here)) (Makes see sc lsc at (under types sc clock ck) ck rs d (sketch_expr k see at a d) (At (here (First ∷ [])))))
+      → ((e : Sketch) → Ready k fill see at b (below Second here) e → ExprKeeps memory.keeps types fill b clock sc (below Second here) ck rs → Promises memory.keeps e (sketch_expr k see at b e).0 (expr_labels outputs b (below Second here)) (Makes see sc lsc at (under types sc clock ck) ck rs e (sketch_expr k see at b e) (At (here (Second ∷ [])))))
+      → Promises memory.keeps d (by_constant o (fby_at at (sketch_expr k see at a d).1 (sketch_expr k see at b (sketch_expr k see at a d).0)) (λ c. register_at at (constant_value k c) (sketch_expr k see at b d).1 (sketch_expr k see at b d).0)).0
+      (λ rest. if is_some o then expr_labels outputs b (below Second here) rest else expr_labels outputs a (below First here) (expr_labels outputs b (below Second here) rest))
       (Makes see sc lsc at (under types sc clock ck) ck rs d
       (by_constant o (fby_at at (sketch_expr k see at a d).1 (sketch_expr k see at b (sketch_expr k see at a d).0)) (λ c. register_at at (constant_value k c) (sketch_expr k see at b d).1 (sketch_expr k see at b d).0)) (At (here [])))
   fby_made (Some c) a b clock sc lsc here ck rs see at d own cov ready keep pa pb =
       let w = under types sc clock ck in
       let y = sketch_expr k see at b d in
       finish see sc lsc at w ck rs d y.0 (type_at y.0 y.1) (register (constant_value k c) (Variable y.1)) (Register (constant_of types c) (name (At (here (Second ∷ []))))) (At (here []))
-      (Makes see sc lsc at w ck rs d y (At (here (Second ∷ [])))) (cov []) tt (pb d ready keep)
+      (Makes see sc lsc at w ck rs d y (At (here (Second ∷ [])))) refl (cov []) tt (pb d ready keep)
       (λ means f st. let i = f st in (i.steps, i.flag, (sym (knows.constants c), i.value)))
   fby_made None a b clock sc lsc here ck rs see at d own cov ready keep pa pb =
       let w = under types sc clock ck in
@@ -147,11 +157,11 @@ module _ (types : List TypeDecl) (outputs : List ℕ → List (List ℕ)) (k : K
       let C : (ℕ → FlatName) → Type 0 = λ means. IsBounded h.0 → IsAt means at w rs → IsFlagged means h.0.flag ck rs → IsMade F means h.0 f (IsFirst w rs) ck rs in
       finish see sc lsc at w ck rs d f.0 (type_at f.0 x.1) (operator Mux (Variable f.1 ∷ Variable x.1 ∷ Variable h.1 ∷ []))
       (Op Mux (name (IsFirst w rs) ∷ name (At (here (First ∷ []))) ∷ name held ∷ [])) (At (here []))
-      (λ means. ((A means × G means) × H means) × C means) (cov []) tt
+      (λ means. ((A means × G means) × H means) × C means) refl (cov []) tt
       (in-turn d h.0 f.0 (λ means. (A means × G means) × H means) C
       (in-turn d y.0 h.0 (λ means. A means × G means) H
       (in-turn d x.0 y.0 A G (pa (λ p. cov (First ∷ p)) ready.0 keep.2) (pb x.0 ready.1 keep.3))
-      (one-value memory.keeps at (codes "e") (type_at y.0 y.1) (register first (Variable y.1)) y.0 held keep.1))
+      (one-value memory.keeps at (codes "e") (type_at y.0 y.1) (register first (Variable y.1)) y.0 held refl keep.1))
       (flag-made F memory at h.0 w ck rs keep.0 (base_clock sc clock ck at own)))
       (λ means g st.
       let i = g.0.0.0 st in
@@ -251,14 +261,23 @@ module _ (types : List TypeDecl) (outputs : List ℕ → List (List ℕ)) (k : K
     pub flag : IsFlagged means e.flag ck rs
 
   -- the equation of a call
-  pub call_made : (see : Sight) (sc lsc : Scope) (at : Site) (w ck : When) (rs : List Place) (d e : Sketch) (f : List ℕ) (args : List Atom) (xs : List (Arg FlatName)) (os : List Decl) (here : Prefix) (A : (ℕ → FlatName) → Type 0)
+  pub call_made : {L : List Label → List Label} (see : Sight) (sc lsc : Scope) (at : Site) (w ck : When) (rs : List Place) (d e : Sketch) (f : List ℕ) (args : List Atom) (xs : List (Arg FlatName)) (os : List Decl) (here : Prefix) (A : (ℕ → FlatName) → Type 0)
       → outputs f ≡ map (λ (o : Decl). o.name) os → ((y : List ℕ) → F (At (here (Instance ∷ Named y ∷ []))) ≡ output_row types outputs fill 0 (outputs f) w rs f xs y)
-      → Promised memory.keeps d e A → ((means : ℕ → FlatName) → A means → Starts see sc lsc at w ck rs d means → ArgsMade means d e args xs ck rs)
-      → Promised memory.keeps d (called_at k at f args os e).0
+      → Promises memory.keeps d e L A → ((means : ℕ → FlatName) → A means → Starts see sc lsc at w ck rs d means → ArgsMade means d e args xs ck rs)
+      → Promises memory.keeps d (called_at k at f args os e).0 (λ rest. L (calling f (here []) (output_places (outputs f) here) ∷ rest))
       (λ means. Starts see sc lsc at w ck rs d means → Steps F means d (called_at k at f args os e).0 × IsFlagged means (called_at k at f args os e).0.flag ck rs × Agrees means (next e) (output_names os here))
   call_made see sc lsc at w ck rs d e f args xs os here A same cov p h =
-      joined d e (called_at k at f args os e).0 A (λ means. Agrees means (next e) (output_names os here)) _ p
-      (record { names = output_names os here; kept = outputs_kept memory.keeps os here; grown = outs-next k os e ∙ ap (λ n. next e + n) (sym (names-length os here)); facts = λ means a. a })
+      let answered : Promises memory.keeps e (called_at k at f args os e).0 (λ rest. calling f (here []) (output_places (outputs f) here) ∷ rest) (λ means. Agrees means (next e) (output_names os here)) =
+      record {
+        names = output_names os here;
+        kept = outputs_kept memory.keeps os here;
+        grown = outs-next k os e ∙ ap (λ n. next e + n) (sym (names-length os here));
+        labelled = λ means a. labelled-both means e.eqns (with_outputs k os e).eqns (called_at k at f args os e).0.eqns (same-labelled means e.eqns (with_outputs k os e).eqns (outs_eqns k os e))
+            (event-labelled means (with_outputs k os e).eqns _ (calling f (here []) (output_places (outputs f) here)) refl
+            (record { right = refl; targets = outputs-are means os here (next e) a ∙ ap (λ names. ats (output_places names here)) (sym same) }));
+        facts = λ means a. a;
+      } in
+      joined d e (called_at k at f args os e).0 A (λ means. Agrees means (next e) (output_names os here)) _ p answered
       (λ means a m st.
       let r = h means a st in (
         both F means d e (called_at k at f args os e).0 r.steps (call-steps k types outputs fill F means at f args os e w rs xs here r.steps.bounded st.2 r.are m same (knows.outputs_differ f) cov),
@@ -267,41 +286,41 @@ module _ (types : List TypeDecl) (outputs : List ℕ → List (List ℕ)) (k : K
       ))
 
   -- the value of a call is that of its first output
-  call_value : (see : Sight) (sc lsc : Scope) (at : Site) (w ck : When) (rs : List Place) (d e : Sketch) (f : List ℕ) (args : List Atom) (xs : List (Arg FlatName)) (os : List Decl) (here : Prefix) (A : (ℕ → FlatName) → Type 0) → HasOne os
+  call_value : {L : List Label → List Label} (see : Sight) (sc lsc : Scope) (at : Site) (w ck : When) (rs : List Place) (d e : Sketch) (f : List ℕ) (args : List Atom) (xs : List (Arg FlatName)) (os : List Decl) (here : Prefix) (A : (ℕ → FlatName) → Type 0) → HasOne os
       → outputs f ≡ map (λ (o : Decl). o.name) os → ((y : List ℕ) → F (At (here (Instance ∷ Named y ∷ []))) ≡ output_row types outputs fill 0 (outputs f) w rs f xs y)
       → F (At (here [])) ≡ only_row types outputs fill (outputs f) here w rs
-      → Promised memory.keeps d e A → ((means : ℕ → FlatName) → A means → Starts see sc lsc at w ck rs d means → ArgsMade means d e args xs ck rs)
-      → Promised memory.keeps d (first_output at os (called_at k at f args os e)).0 (Makes see sc lsc at w ck rs d (first_output at os (called_at k at f args os e)) (At (here [])))
+      → Promises memory.keeps d e L A → ((means : ℕ → FlatName) → A means → Starts see sc lsc at w ck rs d means → ArgsMade means d e args xs ck rs)
+      → Promises memory.keeps d (first_output at os (called_at k at f args os e)).0 (λ rest. L (calling f (here []) (output_places (outputs f) here) ∷ rest)) (Makes see sc lsc at w ck rs d (first_output at os (called_at k at f args os e)) (At (here [])))
   call_value see sc lsc at w ck rs d e f args xs [] here A has same cov top p h = absurd has
   call_value see sc lsc at w ck rs d e f args xs (o ∷ os) here A has same cov top p h =
       let c = called_at k at f args (o ∷ os) e in
       finish see sc lsc at w ck rs d c.0 (type_at c.0 c.1) (copy_of (Variable c.1)) (Op Copy (name (At (here (Instance ∷ Named o.name ∷ []))) ∷ [])) (At (here []))
       (λ means. Starts see sc lsc at w ck rs d means → Steps F means d c.0 × IsFlagged means c.0.flag ck rs × Agrees means (next e) (output_names (o ∷ os) here))
-      (top ∙ ap (λ names. only_row types outputs fill names here w rs) same) tt
+      refl (top ∙ ap (λ names. only_row types outputs fill names here w rs) same) tt
       (call_made see sc lsc at w ck rs d e f args xs (o ∷ os) here A same cov p h)
       (λ means g st. let r = g st in (r.0, r.1, (refl, (r.2.0, tt))))
 
   mutual
     pub expr-made : (e : Expr) (clock : Clock) (sc lsc : Scope) (here : Prefix) (ck : When) (rs : List Place) (see : Sight) (at : Site) (d : Sketch) → Owns at clock
         → ((p : Place) → F (At (here p)) ≡ flat_expr types outputs fill e clock sc lsc here ck rs p) → Ready k fill see at e here d → ExprKeeps memory.keeps types fill e clock sc here ck rs
-        → Promised memory.keeps d (sketch_expr k see at e d).0 (Makes see sc lsc at (under types sc clock ck) ck rs d (sketch_expr k see at e d) (At (here [])))
+        → Promises memory.keeps d (sketch_expr k see at e d).0 (expr_labels outputs e here) (Makes see sc lsc at (under types sc clock ck) ck rs d (sketch_expr k see at e d) (At (here [])))
     expr-made (constant s c) clock sc lsc here ck rs see at d own cov ready keep =
         let w = under types sc clock ck in
-        alone see sc lsc at w ck rs d (type_of_value (constant_value k c)) (copy_of (Fixed (constant_value k c))) (Op Copy (value (constant_of types c) ∷ [])) (At (here [])) (cov []) tt
+        alone see sc lsc at w ck rs d (type_of_value (constant_value k c)) (copy_of (Fixed (constant_value k c))) (Op Copy (value (constant_of types c) ∷ [])) (At (here [])) refl (cov []) tt
         (λ means st. (refl, (sym (knows.constants c), tt)))
     expr-made (variable s x) clock sc lsc here ck rs see at d own cov ready keep =
         let w = under types sc clock ck in
-        alone see sc lsc at w ck rs d (see x).ty (copy_of (atom_of (see x).value)) (Op Copy (name (sc x) ∷ [])) (At (here [])) (cov []) tt
+        alone see sc lsc at w ck rs d (see x).ty (copy_of (atom_of (see x).value)) (Op Copy (name (sc x) ∷ [])) (At (here [])) refl (cov []) tt
         (λ means st. (refl, (named_arg means (see x).value (sc x) (st.1 x).0, tt)))
     expr-made (last_of s x) clock sc lsc here ck rs see at d own cov ready keep =
         let w = under types sc clock ck in
-        alone see sc lsc at w ck rs d (see x).ty (copy_of (atom_of (see x).last)) (Op Copy (name (lsc x) ∷ [])) (At (here [])) (cov []) tt
+        alone see sc lsc at w ck rs d (see x).ty (copy_of (atom_of (see x).last)) (Op Copy (name (lsc x) ∷ [])) (At (here [])) refl (cov []) tt
         (λ means st. (refl, (named_arg means (see x).last (lsc x) (st.1 x).1, tt)))
     expr-made (one s o a) clock sc lsc here ck rs see at d own cov ready keep =
         let w = under types sc clock ck in
         let x = sketch_expr k see at a d in
         finish see sc lsc at w ck rs d x.0 (type_one o) (operator (obc_one o) (Variable x.1 ∷ [])) (Op (obc_one o) (name (At (here (First ∷ []))) ∷ [])) (At (here []))
-        (Makes see sc lsc at w ck rs d x (At (here (First ∷ [])))) (cov []) tt
+        (Makes see sc lsc at w ck rs d x (At (here (First ∷ [])))) (one-is-none o) (cov []) tt
         (expr-made a clock sc lsc (below First here) ck rs see at d own (λ p. cov (First ∷ p)) ready keep)
         (λ means f st. let i = f st in (i.steps, i.flag, (refl, (i.value, tt))))
     expr-made (two s o a b) clock sc lsc here ck rs see at d own cov ready keep =
@@ -310,8 +329,8 @@ module _ (types : List TypeDecl) (outputs : List ℕ → List (List ℕ)) (k : K
         let y = sketch_expr k see at b x.0 in
         let A = Makes see sc lsc at w ck rs d x (At (here (First ∷ []))) in
         let G = Makes see sc lsc at w ck rs x.0 y (At (here (Second ∷ []))) in
-        finish see sc lsc at w ck rs d y.0 (type_two o) (operator (obc_two o) (Variable x.1 ∷ Variable y.1 ∷ [])) (Op (obc_two o) (name (At (here (First ∷ []))) ∷ name (At (here (Second ∷ []))) ∷ [])) (At (here []))
-        (λ means. A means × G means) (cov []) tt
+        finish_labelled see sc lsc at w ck rs d y.0 (type_two o) (operator (obc_two o) (Variable x.1 ∷ Variable y.1 ∷ [])) (Op (obc_two o) (name (At (here (First ∷ []))) ∷ name (At (here (Second ∷ []))) ∷ [])) (At (here []))
+        (λ means. A means × G means) (λ means m. two-labelled means y.0.eqns (next y.0 ∷ []) at.clock at.restart o (Variable x.1 ∷ Variable y.1 ∷ []) (here []) (ap (λ a. a ∷ []) m)) (cov []) tt
         (in-turn d x.0 y.0 A G
         (expr-made a clock sc lsc (below First here) ck rs see at d own (λ p. cov (First ∷ p)) ready.0 keep.0)
         (expr-made b clock sc lsc (below Second here) ck rs see at x.0 own (λ p. cov (Second ∷ p)) ready.1 keep.1))
@@ -329,7 +348,7 @@ module _ (types : List TypeDecl) (outputs : List ℕ → List (List ℕ)) (k : K
         let C = Makes see sc lsc at w ck rs y.0 z (At (here (Third ∷ []))) in
         finish see sc lsc at w ck rs d z.0 (type_at z.0 y.1) (operator Mux (Variable x.1 ∷ Variable y.1 ∷ Variable z.1 ∷ []))
         (Op Mux (name (At (here (First ∷ []))) ∷ name (At (here (Second ∷ []))) ∷ name (At (here (Third ∷ []))) ∷ [])) (At (here []))
-        (λ means. (A means × G means) × C means) (cov []) tt
+        (λ means. (A means × G means) × C means) refl (cov []) tt
         (in-turn d y.0 z.0 (λ means. A means × G means) C
         (in-turn d x.0 y.0 A G
         (expr-made a clock sc lsc (below First here) ck rs see at d own (λ p. cov (First ∷ p)) ready.0 keep.0)
@@ -345,7 +364,7 @@ module _ (types : List TypeDecl) (outputs : List ℕ → List (List ℕ)) (k : K
         let w = under types sc clock ck in
         let x = sketch_expr k see at a d in
         finish see sc lsc at w ck rs d x.0 (type_at x.0 x.1) (register (first_value (type_at x.0 x.1)) (Variable x.1)) (Register (fill (here [])) (name (At (here (First ∷ []))))) (At (here []))
-        (Makes see sc lsc at w ck rs d x (At (here (First ∷ [])))) (cov []) tt
+        (Makes see sc lsc at w ck rs d x (At (here (First ∷ [])))) refl (cov []) tt
         (expr-made a clock sc lsc (below First here) ck rs see at d own (λ p. cov (First ∷ p)) ready.1 keep)
         (λ means f st. let i = f st in (i.steps, i.flag, (sym ready.0, i.value)))
     expr-made (arrow s a b) clock sc lsc here ck rs see at d own cov ready keep =
@@ -358,7 +377,7 @@ module _ (types : List TypeDecl) (outputs : List ℕ → List (List ℕ)) (k : K
         let C : (ℕ → FlatName) → Type 0 = λ means. IsBounded y.0 → IsAt means at w rs → IsFlagged means y.0.flag ck rs → IsMade F means y.0 f (IsFirst w rs) ck rs in
         finish see sc lsc at w ck rs d f.0 (type_at f.0 x.1) (operator Mux (Variable f.1 ∷ Variable x.1 ∷ Variable y.1 ∷ []))
         (Op Mux (name (IsFirst w rs) ∷ name (At (here (First ∷ []))) ∷ name (At (here (Second ∷ []))) ∷ [])) (At (here []))
-        (λ means. (A means × G means) × C means) (cov []) tt
+        (λ means. (A means × G means) × C means) refl (cov []) tt
         (in-turn d y.0 f.0 (λ means. A means × G means) C
         (in-turn d x.0 y.0 A G
         (expr-made a clock sc lsc (below First here) ck rs see at d own (λ p. cov (First ∷ p)) ready.0 keep.1)
@@ -373,7 +392,7 @@ module _ (types : List TypeDecl) (outputs : List ℕ → List (List ℕ)) (k : K
         let w = under types sc clock ck in
         let y = sketch_expr k see (off_site at) a d in
         finish see sc lsc at w ck rs d y.0 (type_at y.0 y.1) (copy_of (Variable y.1)) (Op Copy (name (At (here (First ∷ []))) ∷ [])) (At (here []))
-        (Makes see sc lsc (off_site at) (under types sc (without clock) ck) ck rs d y (At (here (First ∷ [])))) (cov []) tt
+        (Makes see sc lsc (off_site at) (under types sc (without clock) ck) ck rs d y (At (here (First ∷ [])))) refl (cov []) tt
         (expr-made a (without clock) sc lsc (below First here) ck rs see (off_site at) d (off_owns clock at own) (λ p. cov (First ∷ p)) ready keep)
         (λ means f st. let i = f (st.0, st.1, off_at means sc clock ck rs at own st.2, st.3) in (i.steps, i.flag, (refl, (i.value, tt))))
     expr-made (fby s a b) clock sc lsc here ck rs see at d own cov ready keep =
@@ -408,9 +427,10 @@ module _ (types : List TypeDecl) (outputs : List ℕ → List (List ℕ)) (k : K
         let C : (ℕ → FlatName) → Type 0 = λ means. Starts see sc lsc at w ck rs p.0 means → means t.1 ≡ sc x → v < next p.0 → (before : Rows) → AreRows means (defs p.0 v) before
         → PartsMade means p.0 f.0 v (before ++ parts_at types outputs fill ps x sc (below Tail (below Args here)) w rs) ck rs in
         let variable' = one-variable memory.keeps (codes "e") (type_at m.0 m.1) m.0 (At (here [])) tt in
-        let variable'' : Promised memory.keeps m.0 p.0 H = record { names = variable'.names; kept = variable'.kept; grown = variable'.grown; facts = variable'.facts } in
+        let variable'' : Promised memory.keeps m.0 p.0 H =
+        record { names = variable'.names; kept = variable'.kept; grown = variable'.grown; labelled = λ means a. other-labelled means m.0.eqns _ refl; facts = variable'.facts } in
         let more : next p.0 ≡ next m.0 + 1 = length_more m.0.variables _ in
-        subst (λ (q : Made). Promised memory.keeps d q.0 (Makes see sc lsc at w ck rs d q (At (here []))))
+        subst (λ (q : Made). Promises memory.keeps d q.0 (λ rest. expr_labels outputs e (below Head (below Args here)) (parts_labels outputs ps (below Tail (below Args here)) rest)) (Makes see sc lsc at w ck rs d q (At (here []))))
         (ap (λ o. or_new (f.0, o)) (sym (parts_value see at t.1 v ps p.0)))
         (joined d p.0 f.0 (λ means. (A means × G means) × H means) C (Makes see sc lsc at w ck rs d (f.0, v) (At (here [])))
         (in-turn d m.0 p.0 (λ means. A means × G means) H
@@ -448,7 +468,7 @@ module _ (types : List TypeDecl) (outputs : List ℕ → List (List ℕ)) (k : K
 
     pub args-made : (es : Exprs) (clock : Clock) (sc lsc : Scope) (here : Prefix) (ck : When) (rs : List Place) (see : Sight) (at : Site) (d : Sketch) → Owns at clock
         → ((p : Place) → F (At (here p)) ≡ flat_exprs types outputs fill es clock sc lsc here ck rs p) → ReadyAll k fill see at es here d → ExprsKeep memory.keeps types fill es clock sc here ck rs
-        → Promised memory.keeps d (sketch_exprs k see at es d).0
+        → Promises memory.keeps d (sketch_exprs k see at es d).0 (exprs_labels outputs es here)
         (λ means. Starts see sc lsc at (under types sc clock ck) ck rs d means → ArgsMade means d (sketch_exprs k see at es d).0 (sketch_exprs k see at es d).1 (args_at types outputs fill es here) ck rs)
     args-made no_expr clock sc lsc here ck rs see at d own cov ready keep =
         none d _ (λ means st. record { steps = same F means d st.0; are = tt; flag = st.3 })
@@ -467,7 +487,7 @@ module _ (types : List TypeDecl) (outputs : List ℕ → List (List ℕ)) (k : K
 
     parts-made : (ps : Parts) (x : List ℕ) (clock : Clock) (sc lsc : Scope) (here : Prefix) (ck : When) (rs : List Place) (see : Sight) (at : Site) (t v : ℕ) (d : Sketch) → Owns at clock
         → ((p : Place) → F (At (here p)) ≡ flat_parts types outputs fill ps x clock sc lsc here ck rs p) → ReadyParts k fill see at t (Some v) ps here d → PartsKeep memory.keeps types fill ps x clock sc here ck rs
-        → Promised memory.keeps d (sketch_parts k see at t (Some v) ps d).0
+        → Promises memory.keeps d (sketch_parts k see at t (Some v) ps d).0 (parts_labels outputs ps here)
         (λ means. Starts see sc lsc at (under types sc clock ck) ck rs d means → means t ≡ sc x → v < next d → (before : Rows) → AreRows means (defs d v) before
         → PartsMade means d (sketch_parts k see at t (Some v) ps d).0 v (before ++ parts_at types outputs fill ps x sc here (under types sc clock ck) rs) ck rs)
     parts-made no_part x clock sc lsc here ck rs see at t v d own cov ready keep =
@@ -492,7 +512,14 @@ module _ (types : List TypeDecl) (outputs : List ℕ → List (List ℕ)) (k : K
         let G : (ℕ → FlatName) → Type 0 = λ means. Starts see sc lsc at w ck rs p.0 means → means t ≡ sc x → v < next p.0 → (before : Rows) → AreRows means (defs p.0 v) before
         → PartsMade means p.0 f v (before ++ parts_at types outputs fill ps x sc (below Tail here) w rs) ck rs in
         let first = expr-made e ((c, x) ∷ clock) sc lsc (below Head here) ck rs see on' d (on_owns at t n clock (c, x) own) (λ p. cov (Head ∷ p)) ready.0 keep.0 in
-        let first' : Promised memory.keeps d p.0 A = record { names = first.names; kept = first.kept; grown = first.grown; facts = first.facts } in
+        let first' : Promises memory.keeps d p.0 (expr_labels outputs e (below Head here)) A =
+        record {
+          names = first.names;
+          kept = first.kept;
+          grown = first.grown;
+          labelled = λ means a. labelled-both means d.eqns m.0.eqns p.0.eqns (first.labelled means a) (other-labelled means m.0.eqns _ refl);
+          facts = first.facts;
+        } in
         joined d p.0 f A G _ first' (parts-made ps x clock sc lsc (below Tail here) ck rs see at t v p.0 own (λ p. cov (Tail ∷ p)) ready.1 keep.1)
         (λ means a g st tm l before rows.
         let i = on-steps means at t n (cons_of types c) (sc x) w rs st.2 tm (sym (knows.constructors c)) in

@@ -115,7 +115,7 @@ module _ (types : List TypeDecl) (outputs : List ℕ → List (List ℕ)) (k : K
   one_remembered d c s keep =
       let e = over s.0 out d.name in
       other s.1 (remember k at out d (Some c) s).1 (λ means. means (next s.1) ≡ held c d.name) _
-      (one-value memory.keeps at (codes "last") e.ty (register (constant_value k c) (atom_of e.value)) s.1 (held c d.name) keep)
+      (one-value memory.keeps at (codes "last") e.ty (register (constant_value k c) (atom_of e.value)) s.1 (held c d.name) refl keep)
       (λ means q b i n. (
         value-steps F means at (codes "last") e.ty (register (constant_value k c) (atom_of e.value)) s.1 ck rs (Register (constant_of types c) (name (At (here (Named d.name ∷ []))))) b i
             (sym (knows.constants c), as_argument means e.value (At (here (Named d.name ∷ []))) n) (ap F q ∙ memory.held (constant_of types c) (here (Named d.name ∷ [])) ck rs),

@@ -12,13 +12,15 @@ use Rattle.hp_tree.specs.Meaning.{declares, some_defines, block_defines, clock_o
 use Rattle.hp_flat.specs.Nodes.{FlatNode}
 use Rattle.law_equations.specs.Flattened.Flatten.{FlatName, At, When, always, on, Prefix, below, Scope, constant_in, inside_at, within_at, restarts_at, lasts_at, under, node_scope, flatten}
 use Rattle.law_equations.specs.Flattened.Lifted.{in_body, node_lasts}
+use Rattle.law_equations.specs.Made.Labels.{AreMadeAt, events, block_labels}
 use Rattle.law_equations.specs.Made.Making.{Known, Body, base_site, unknown, over, outputs_of, numbers_from, sketch_block, sketch_node}
 use Rattle.law_equations.specs.Made.Standing.{Knows, IsNamed}
 use Rattle.law_equations.specs.Made.Keeping.{LastKept, LastsKept, FbyKeeps, ExprKeeps, ExprsKeep, PartsKeep, BlockKeeps, EqnsKeep, EqnKeeps, ArmsKeep, NodeKeeps, IsKept}
 use Rattle.law_equations.specs.Made.Blocks.{locals_of, IsPlain, ReadyBlock}
-use Rattle.law_equations.specs.Made.Laws.{around_body, names, unplaced, body_name, NodeReady, Stands, MadeLaw}
+use Rattle.law_equations.specs.Made.Laws.{around_body, names, unplaced, body_name, NodeReady, Stands, MadeLaw, MadePlacesLaw}
+use Rattle.law_equations.proofs.MadeLemmas.LabelLaws.{made-alike}
 use Rattle.law_equations.proofs.MadeLemmas.UnplacedLaws.{equations-alike}
-use Rattle.law_equations.proofs.MadeLemmas.StandsLaws.{promise, nth, facts, node-keeps, node-stands, outputs-stand}
+use Rattle.law_equations.proofs.MadeLemmas.StandsLaws.{promise, nth, facts, node-keeps, node-labelled, node-stands, outputs-stand}
 
 both_true : (a b : Bool) → (a && not b) ≡ true → (a ≡ true) × (b ≡ false)
 both_true true false h = (refl, refl)
@@ -45,15 +47,17 @@ NamesStand k n b means =
     (x : List ℕ) → (declares n.outputs x || declares (locals_of b) x) ≡ true
     → (v : ℕ) × ((over (sketch_block k Body (over (around_body k n).0 unknown) base_site b (around_body k n).1).0 (over (around_body k n).0 unknown) x).value ≡ Some v) × (means v ≡ body_name x)
 
--- A node whose remembered names are of K: so are those that variables stand for. The variables of the names of its body stand for these.
-pub stands-kept : (K : FlatName → Type 0) (types : List TypeDecl) (outputs : List ℕ → List (List ℕ)) (k : Known) (fill : Place → Value) (n : Node) (f : FlatNode) → Knows types outputs k → NodeReady k fill n → NodeKeeps K types fill n
+-- A node whose remembered names are of K: so are those that variables stand for. The variables of the names of its body stand for these, and those of comparisons and calls for their places.
+pub stands-placed : (K : FlatName → Type 0) (types : List TypeDecl) (outputs : List ℕ → List (List ℕ)) (k : Known) (fill : Place → Value) (n : Node) (f : FlatNode) → Knows types outputs k → NodeReady k fill n → NodeKeeps K types fill n
     → f.inputs ≡ length n.inputs + length (controls_of n.contract) → f.outputs ≡ numbers_from (length n.inputs + length (controls_of n.contract)) n.outputs
     → map unplaced f.eqns ≡ map unplaced (sketch_node k n).eqns → (s : Stands types outputs k fill n f) × ((x : ℕ) → IsKept K (s.means x)) × NamesStand k n n.body s.means
-stands-kept K types outputs k fill n f knows r keeps inputs_are outputs_are eqns_are = by n.body refl r.plain r.defined r.nothing_else r.first_values eqns_are keeps.1
+    × AreMadeAt s.means (events f.eqns) (block_labels outputs n.body in_body [])
+stands-placed K types outputs k fill n f knows r keeps inputs_are outputs_are eqns_are = by n.body refl r.plain r.defined r.nothing_else r.first_values eqns_are keeps.1
   where
     by : (b : Block) → n.body ≡ b → IsPlain b → ((x : List ℕ) → declares n.outputs x ≡ true → block_defines b x ≡ true) → ((x : List ℕ) → block_defines b x ≡ true → declares n.outputs x ≡ true)
         → ReadyBlock k fill Body (over (around_body k n).0 unknown) base_site b in_body (around_body k n).1 → map unplaced f.eqns ≡ map unplaced (sketch_block k Body (over (around_body k n).0 unknown) base_site b (around_body k n).1).1.eqns
         → BlockKeeps K types fill b (node_scope n) (node_lasts types n) in_body always [] → (s : Stands types outputs k fill n f) × ((x : ℕ) → IsKept K (s.means x)) × NamesStand k n b s.means
+        × AreMadeAt s.means (events f.eqns) (block_labels outputs b in_body [])
     by (block ds es) body_is plain defined others ready eqns body_keeps =
         let keep : LastsKept K types n.outputs in_body always [] × BlockKeeps K types fill (block ds es) (node_scope n) (node_lasts types n) in_body always [] = (keeps.0, body_keeps) in
         let d : (x : List ℕ) → declares n.outputs x ≡ true → (some_defines es x ≡ true) × (declares ds x ≡ false) = λ x q. both_true (some_defines es x) (declares ds x) (defined x q) in
@@ -69,7 +73,17 @@ stands-kept K types outputs k fill n f knows r keeps inputs_are outputs_are eqns
           },
           node-keeps types outputs k knows fill K n r.inputs r.controls r.outputs ds es body_is plain d others ready keep,
           λ x h. has_variable means _ (BodyOf ∷ Named x ∷ []) (told.named x (body_defines n ds es (λ x q. (d x q).0) plain.1 x h)),
+          made-alike means (sketch_block k Body (over (around_body k n).0 unknown) base_site (block ds es) (around_body k n).1).1.eqns f.eqns (block_labels outputs (block ds es) in_body []) eqns
+              (node-labelled types outputs k knows fill K n r.inputs r.controls r.outputs ds es body_is plain d others ready keep),
         )
+
+-- the same, without the places
+pub stands-kept : (K : FlatName → Type 0) (types : List TypeDecl) (outputs : List ℕ → List (List ℕ)) (k : Known) (fill : Place → Value) (n : Node) (f : FlatNode) → Knows types outputs k → NodeReady k fill n → NodeKeeps K types fill n
+    → f.inputs ≡ length n.inputs + length (controls_of n.contract) → f.outputs ≡ numbers_from (length n.inputs + length (controls_of n.contract)) n.outputs
+    → map unplaced f.eqns ≡ map unplaced (sketch_node k n).eqns → (s : Stands types outputs k fill n f) × ((x : ℕ) → IsKept K (s.means x)) × NamesStand k n n.body s.means
+stands-kept K types outputs k fill n f knows r keeps inputs_are outputs_are eqns_are =
+    let p = stands-placed K types outputs k fill n f knows r keeps inputs_are outputs_are eqns_are in
+    (p.0, p.1, p.2)
 
 -- ---- of any kind
 
@@ -139,3 +153,8 @@ any_kept types fill n = (lasts_any types fill n.outputs in_body always [], block
 pub stands-for : MadeLaw
 stands-for types outputs k fill n f knows r inputs_are outputs_are eqns_are =
     (stands-kept (λ a. ⊤) types outputs k fill n f knows r (any_kept types fill n) inputs_are outputs_are eqns_are).0
+
+pub stands-in-places : MadePlacesLaw
+stands-in-places types outputs k fill n f knows r inputs_are outputs_are eqns_are =
+    let p = stands-placed (λ a. ⊤) types outputs k fill n f knows r (any_kept types fill n) inputs_are outputs_are eqns_are in
+    (p.0, p.3)

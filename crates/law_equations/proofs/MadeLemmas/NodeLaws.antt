@@ -8,12 +8,14 @@ use Rattle.hp_tree.specs.Meaning.{declares, some_defines, controls_of}
 use Rattle.law_equations.specs.Flattened.Flatten.{FlatName, Input, Nowhere, At, always, Rows, Scope, below, inside_at, lasts_at, node_scope, flat_defined, flat_scope, flatten}
 use Rattle.law_equations.specs.Flattened.Lifted.{in_body, node_lasts}
 use Rattle.law_equations.specs.Flattened.Numbered.{definitions, AreRows, StandFor}
+use Rattle.law_equations.specs.Made.Labels.{block_labels}
 use Rattle.law_equations.specs.Made.Making.{Known, Sketch, Sight, Body, Seen, next, no_entry, nothing_made, base_site, unknown, or_entry, over, signed, remember_all, sketch_block}
 use Rattle.law_equations.specs.Made.Blocks.{DeclaredOnce, IsPlain, ReadyBlock}
 use Rattle.law_equations.specs.Made.Sights.{Entry}
-use Rattle.law_equations.specs.Made.Keeping.{LastsKept, BlockKeeps}
-use Rattle.law_equations.specs.Made.Standing.{Knows, Agrees, IsNamed, IsFlagged, defs, IsBounded, IsDone, Steps, Promised, Remembers, EqnsMade}
+use Rattle.law_equations.specs.Made.Keeping.{IsKept, LastsKept, BlockKeeps}
+use Rattle.law_equations.specs.Made.Standing.{Knows, Agrees, IsNamed, IsFlagged, defs, IsBounded, IsDone, Steps, Promises, Promised, Remembers, EqnsMade}
 use Rattle.law_equations.proofs.MadeLemmas.StepLaws.{split_at}
+use Rattle.law_equations.proofs.MadeLemmas.LabelLaws.{same-labelled}
 use Rattle.law_equations.proofs.MadeLemmas.PromiseLaws.{joined}
 use Rattle.law_equations.proofs.MadeLemmas.LastLaws.{Alike, alike_value, Here, alike-all, flag-all, Remembering, remembered-made}
 use Rattle.law_equations.proofs.MadeLemmas.SignatureLaws.{targets, targets_length, IsSignedAs, AreSigned, signed-made, targets_kept}
@@ -109,14 +111,25 @@ module _ (types : List TypeDecl) (outputs : List ℕ → List (List ℕ)) (k : K
   out_value : (x : List ℕ) → (out x).value ≡ (over with_outputs.0 unknown x).value
   out_value x = sym (alike_value (with_outputs.0 x) (with_lasts.0 x) (unknown x) (like x))
 
+  -- variables that are signed make no equations
+  names-signed : (target : List ℕ → FlatName) (ds : List Decl) (s r : Seen) → ((x : List ℕ) → IsKept K (target x)) → AreSigned target ds s r → Promised memory.keeps s.1 r.1 (λ means. Agrees means (next s.1) (targets target ds))
+  names-signed target ds s r kept m =
+      record {
+        names = targets target ds;
+        kept = targets_kept K target kept ds;
+        grown = m.grown ∙ ap (λ l. next s.1 + l) (sym (targets_length target ds));
+        labelled = λ means a. same-labelled means s.1.eqns r.1.eqns m.eqns;
+        facts = λ means a. a;
+      }
+
   signs : Promised memory.keeps nothing_made with_outputs.1 Signs
   signs =
       joined nothing_made with_inputs.1 with_outputs.1 (λ means. Agrees means 0 (targets as_input n.inputs))
       (λ means. Agrees means (next with_inputs.1) (targets as_input (controls_of n.contract)) × Agrees means (next with_controls.1) (targets as_output n.outputs)) Signs
-      (record { names = targets as_input n.inputs; kept = targets_kept K as_input (λ x. tt) n.inputs; grown = ins.grown ∙ ap (λ m. 0 + m) (sym (targets_length as_input n.inputs)); facts = λ means a. a })
+      (names-signed as_input n.inputs empty with_inputs (λ x. tt) ins)
       (joined with_inputs.1 with_controls.1 with_outputs.1 (λ means. Agrees means (next with_inputs.1) (targets as_input (controls_of n.contract))) (λ means. Agrees means (next with_controls.1) (targets as_output n.outputs)) _
-      (record { names = targets as_input (controls_of n.contract); kept = targets_kept K as_input (λ x. tt) (controls_of n.contract); grown = mids.grown ∙ ap (λ m. next with_inputs.1 + m) (sym (targets_length as_input (controls_of n.contract))); facts = λ means a. a })
-      (record { names = targets as_output n.outputs; kept = targets_kept K as_output (λ x. tt) n.outputs; grown = outs.grown ∙ ap (λ m. next with_controls.1 + m) (sym (targets_length as_output n.outputs)); facts = λ means a. a })
+      (names-signed as_input (controls_of n.contract) with_inputs with_controls (λ x. tt) mids)
+      (names-signed as_output n.outputs with_controls with_outputs (λ x. tt) outs)
       (λ means a b. (a, b)))
       (λ means a b. (a, b.0, b.1))
 
@@ -212,7 +225,7 @@ module _ (types : List TypeDecl) (outputs : List ℕ → List (List ℕ)) (k : K
             named = λ x q. subst (IsNamed means (inside x).value) (ap (λ b. if b then At (BodyOf ∷ Named x ∷ []) else node_scope n x) q) (sees x);
           }
 
-    pub node-made : Promised memory.keeps nothing_made made NodeMade
+    pub node-made : Promises memory.keeps nothing_made made (block_labels outputs (block ds es) in_body) NodeMade
     node-made =
         joined nothing_made with_outputs.1 made Signs
         (λ means. Signs means → NodeMade means) _ signs

@@ -13,8 +13,10 @@ use Rattle.law_equations.specs.Flattened.Numbered.{number_of, StandFor, AreSteps
 use Rattle.hp_tree.specs.Instant.{Place}
 use Rattle.std.specs.List.{AllByRecursion}
 use Rattle.law_equations.specs.Made.Keeping.{IsKept}
+use Rattle.law_equations.specs.Made.Labels.{Label, compares_or_calls}
 use Rattle.law_equations.specs.Made.Making.{Sketch, Site, next, new_variable, named_value, new_flag, block_flag, flag_at, tested, front_steps, off_site, on_site}
-use Rattle.law_equations.specs.Made.Standing.{Agrees, IsNamed, IsAt, IsFlagged, defs, IsBounded, IsDone, Steps, IsMade, Promised, Remembers}
+use Rattle.law_equations.specs.Made.Standing.{Agrees, IsNamed, IsAt, IsFlagged, defs, IsBounded, IsDone, Steps, IsMade, AreLabelled, Promises, Promised, Remembers}
+use Rattle.law_equations.proofs.MadeLemmas.LabelLaws.{labelled-both, none-labelled, other-labelled}
 use Rattle.law_equations.proofs.MadeLemmas.StepLaws.{same, value-steps, length_more}
 
 -- ---- promises
@@ -33,28 +35,36 @@ all_kept : (K : FlatName → Type 0) (xs ys : List FlatName) → AllByRecursion 
 all_kept K [] ys h k = k
 all_kept K (x ∷ xs) ys h k = (h.0, all_kept K xs ys h.1 k)
 
-pub joined : {K : FlatName → Type 0} (d e f : Sketch) (A G C : (ℕ → FlatName) → Type 0) → Promised K d e A → Promised K e f G → ((means : ℕ → FlatName) → A means → G means → C means) → Promised K d f C
-joined {K} d e f A G C p q h =
+pub joined : {K : FlatName → Type 0} {L N : List Label → List Label} (d e f : Sketch) (A G C : (ℕ → FlatName) → Type 0) → Promises K d e L A → Promises K e f N G → ((means : ℕ → FlatName) → A means → G means → C means)
+    → Promises K d f (λ rest. L (N rest)) C
+joined {K} {L} {N} d e f A G C p q h =
     record {
       names = p.names ++ q.names;
       kept = all_kept K p.names q.names p.kept q.kept;
       grown = q.grown ∙ ap (λ n. n + length q.names) p.grown ∙ (let l : length (p.names ++ q.names) ≡ length p.names + length q.names = length-append p.names q.names in omega (arith, l));
+      labelled = λ means a. labelled-both means d.eqns e.eqns f.eqns (p.labelled means (agrees_left means (next d) p.names q.names a))
+          (q.labelled means (subst (λ n. Agrees means n q.names) (sym p.grown) (agrees_right means (next d) p.names q.names a)));
       facts = λ means a. h means (p.facts means (agrees_left means (next d) p.names q.names a))
           (q.facts means (subst (λ n. Agrees means n q.names) (sym p.grown) (agrees_right means (next d) p.names q.names a)));
     }
 
-pub other : {K : FlatName → Type 0} (d e : Sketch) (A G : (ℕ → FlatName) → Type 0) → Promised K d e A → ((means : ℕ → FlatName) → A means → G means) → Promised K d e G
-other d e A G p h = record { names = p.names; kept = p.kept; grown = p.grown; facts = λ means a. h means (p.facts means a) }
+pub other : {K : FlatName → Type 0} {L : List Label → List Label} (d e : Sketch) (A G : (ℕ → FlatName) → Type 0) → Promises K d e L A → ((means : ℕ → FlatName) → A means → G means) → Promises K d e L G
+other d e A G p h = record { names = p.names; kept = p.kept; grown = p.grown; labelled = p.labelled; facts = λ means a. h means (p.facts means a) }
 
 pub none : {K : FlatName → Type 0} (d : Sketch) (A : (ℕ → FlatName) → Type 0) → ((means : ℕ → FlatName) → A means) → Promised K d d A
-none d A h = record { names = []; kept = tt; grown = omega arith; facts = λ means a. h means }
+none d A h = record { names = []; kept = tt; grown = omega arith; labelled = λ means a. none-labelled means d.eqns; facts = λ means a. h means }
 
 -- a new variable with its equation stands for a flat name
-pub one-value : (K : FlatName → Type 0) (at : Site) (x : List ℕ) (t : FlatTy) (given : Given) (d : Sketch) (a : FlatName) → IsKept K a → Promised K d (named_value at x t given d).0 (λ means. means (next d) ≡ a)
-one-value K at x t given d a kept = record { names = a ∷ []; kept = (kept, tt); grown = length_more d.variables _; facts = λ means h. h.0 }
+pub labelled-value : {K : FlatName → Type 0} {L : List Label → List Label} (at : Site) (x : List ℕ) (t : FlatTy) (given : Given) (d : Sketch) (a : FlatName) → IsKept K a
+    → ((means : ℕ → FlatName) → means (next d) ≡ a → AreLabelled means d.eqns (named_value at x t given d).0.eqns L) → Promises K d (named_value at x t given d).0 L (λ means. means (next d) ≡ a)
+labelled-value at x t given d a kept l = record { names = a ∷ []; kept = (kept, tt); grown = length_more d.variables _; labelled = λ means h. l means h.0; facts = λ means h. h.0 }
+
+pub one-value : (K : FlatName → Type 0) (at : Site) (x : List ℕ) (t : FlatTy) (given : Given) (d : Sketch) (a : FlatName) → compares_or_calls given ≡ false → IsKept K a
+    → Promised K d (named_value at x t given d).0 (λ means. means (next d) ≡ a)
+one-value K at x t given d a quiet kept = labelled-value at x t given d a kept (λ means h. other-labelled means d.eqns _ quiet)
 
 pub one-variable : (K : FlatName → Type 0) (x : List ℕ) (t : FlatTy) (d : Sketch) (a : FlatName) → IsKept K a → Promised K d (new_variable x t d).0 (λ means. means (next d) ≡ a)
-one-variable K x t d a kept = record { names = a ∷ []; kept = (kept, tt); grown = length_more d.variables _; facts = λ means h. h.0 }
+one-variable K x t d a kept = record { names = a ∷ []; kept = (kept, tt); grown = length_more d.variables _; labelled = λ means h. none-labelled means d.eqns; facts = λ means h. h.0 }
 
 -- ---- clocks
 
@@ -101,11 +111,12 @@ module _ (F : FlatName → Option Rows) (memory : Remembers F) where
       → Promised memory.keeps d (if c then block_flag at flag d else new_flag at d).0
       (λ means. IsBounded d → IsAt means at w rs → IsFlagged means d.flag ck rs → IsMade F means d (if c then block_flag at flag d else new_flag at d) (IsFirst w rs) ck rs)
   flag_by true None at d w ck rs keep e o =
-      let p = one-value memory.keeps at (codes "first") flat.Bool (register (B true) (Fixed (B false))) d (IsFirst w rs) keep in
+      let p = one-value memory.keeps at (codes "first") flat.Bool (register (B true) (Fixed (B false))) d (IsFirst w rs) refl keep in
       record {
         names = p.names;
         kept = p.kept;
         grown = p.grown;
+        labelled = p.labelled;
         facts = λ means a b i f.
             let n = new-flag means at d w ck rs b i f (p.facts means a) in
             record {
@@ -117,7 +128,7 @@ module _ (F : FlatName → Option Rows) (memory : Remembers F) where
   flag_by true (Some x) at d w ck rs keep e o =
       none d _ (λ means b i f. record { steps = same F means d b; value = subst (λ o. IsFlagged means o ck rs) e f ∙ ap (λ c. IsFirst c rs) (sym (o refl)); flag = f })
   flag_by false flag at d w ck rs keep e o =
-      other d (new_flag at d).0 (λ means. means (next d) ≡ IsFirst w rs) _ (one-value memory.keeps at (codes "first") flat.Bool (register (B true) (Fixed (B false))) d (IsFirst w rs) keep)
+      other d (new_flag at d).0 (λ means. means (next d) ≡ IsFirst w rs) _ (one-value memory.keeps at (codes "first") flat.Bool (register (B true) (Fixed (B false))) d (IsFirst w rs) refl keep)
       (λ means m b i f. new-flag means at d w ck rs b i f m)
 
   pub flag-made : (at : Site) (d : Sketch) (w ck : When) (rs : List Place) → memory.keeps (IsFirst w rs) → (nat_eq (length at.clock) at.base ≡ true → w ≡ ck)

@@ -2,7 +2,7 @@
 use Rattle.std.proofs.Common.{◌≡◌, ◌⊎◌, inl, inr, ℕ, zero, suc, ◌+◌, ◌<◌, ◌≤◌, Bool, true, false, nat_eq, if◌then◌else◌, List, [], ◌∷◌, ◌++◌, length, map, refl, sym, ap, ap₂, subst, ◌∙◌, arith}
 use Rattle.std.specs.List.{AllByRecursion, range_with_len}
 use Rattle.std.proofs.lemmas.Bool.Decides.{nat_tests}
-use Rattle.std.proofs.lemmas.List.{length-append}
+use Rattle.std.proofs.lemmas.List.{append-nil, length-append}
 use Rattle.hp_tree.specs.Blocks.{Decl, block, Eqns}
 use Rattle.hp_tree.specs.Programs.{TypeDecl, Node}
 use Rattle.hp_tree.specs.Instant.{Body as BodyOf, Named, Place}
@@ -13,10 +13,11 @@ use Rattle.hp_flat.specs.Nodes.{FlatNode}
 use Rattle.law_equations.specs.Flattened.Flatten.{FlatName, At, Input, Nowhere, always, node_scope, flatten}
 use Rattle.law_equations.specs.Flattened.Lifted.{in_body, node_lasts}
 use Rattle.law_equations.specs.Flattened.Numbered.{targets_from, definitions, HasTargets, StandFor, AreEquationsFor}
+use Rattle.law_equations.specs.Made.Labels.{AreMadeAt, events, block_labels}
 use Rattle.law_equations.specs.Made.Making.{numbers_from, Known, Body, next, nothing_made, base_site, unknown}
 use Rattle.law_equations.specs.Made.Blocks.{DeclaredOnce, IsPlain, ReadyBlock}
 use Rattle.law_equations.specs.Made.Keeping.{IsKept, LastsKept, BlockKeeps}
-use Rattle.law_equations.specs.Made.Standing.{Knows, Agrees, Promised}
+use Rattle.law_equations.specs.Made.Standing.{Knows, Agrees, Promises}
 use Rattle.law_equations.proofs.MadeLemmas.StepLaws.{split_at}
 use Rattle.law_equations.proofs.MadeLemmas.BlockLayers.{Outer}
 use Rattle.law_equations.proofs.MadeLemmas.SignatureLaws.{targets, targets_length}
@@ -107,7 +108,7 @@ module _ (types : List TypeDecl) (outputs : List ℕ → List (List ℕ)) (k : K
   as_all [] = refl
   as_all (d ∷ ds) = ap (λ xs. Input d.name ∷ xs) (as_all ds)
 
-  pub promise : Promised K nothing_made (made types outputs k knows fill K n inputs_once controls_once outputs_once ds es body_is plain defined others ready keep) (NodeMade types outputs k knows fill K n inputs_once controls_once outputs_once ds es body_is plain defined others ready keep)
+  pub promise : Promises K nothing_made (made types outputs k knows fill K n inputs_once controls_once outputs_once ds es body_is plain defined others ready keep) (block_labels outputs (block ds es) in_body) (NodeMade types outputs k knows fill K n inputs_once controls_once outputs_once ds es body_is plain defined others ready keep)
   promise = node-made types outputs k knows fill K n inputs_once controls_once outputs_once ds es body_is plain defined others ready keep
 
   -- what is remembered is of K
@@ -125,6 +126,12 @@ module _ (types : List TypeDecl) (outputs : List ℕ → List (List ℕ)) (k : K
 
   pub facts : NodeMade types outputs k knows fill K n inputs_once controls_once outputs_once ds es body_is plain defined others ready keep (nth promise.names)
   facts = promise.facts (nth promise.names) (nth_agrees promise.names)
+
+  -- the equations that compare or call are those of the body's comparisons and calls
+  pub node-labelled : AreMadeAt (nth promise.names) (events (made types outputs k knows fill K n inputs_once controls_once outputs_once ds es body_is plain defined others ready keep).eqns) (block_labels outputs (block ds es) in_body [])
+  node-labelled =
+      let l = promise.labelled (nth promise.names) (nth_agrees promise.names) in
+      subst (λ es'. AreMadeAt (nth promise.names) (events es') (block_labels outputs (block ds es) in_body [])) (append-nil l.added ∙ sym l.whole) (l.made [] [] tt)
 
   low : next (with_controls types outputs k knows fill K n inputs_once controls_once outputs_once).1 ≡ length n.inputs + length (controls_of n.contract)
   low =

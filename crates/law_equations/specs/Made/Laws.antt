@@ -10,6 +10,7 @@ use Rattle.hp_flat.specs.Nodes.{FlatNode}
 use Rattle.law_equations.specs.Flattened.Flatten.{FlatName, At, flatten}
 use Rattle.law_equations.specs.Flattened.Lifted.{in_body}
 use Rattle.law_equations.specs.Flattened.Numbered.{AreEquationsFor}
+use Rattle.law_equations.specs.Made.Labels.{events, AreMadeAt, block_labels}
 use Rattle.law_equations.specs.Made.Making.{Known, Seen, Body, base_site, unknown, over, outputs_of, numbers_from, signature, remember_all, sketch_node}
 use Rattle.law_equations.specs.Made.Blocks.{DeclaredOnce, IsPlain, ReadyBlock}
 use Rattle.law_equations.specs.Made.Standing.{Knows}
@@ -52,3 +53,11 @@ MadeLaw =
     → f.inputs ≡ length n.inputs + length (controls_of n.contract) → f.outputs ≡ numbers_from (length n.inputs + length (controls_of n.contract)) n.outputs
     → map unplaced f.eqns ≡ map unplaced (sketch_node k n).eqns
     → Stands types outputs k fill n f
+
+-- The equations that compare or call are, moreover, one by one in their order those of the comparisons and calls of the body, and their variables stand for the places of these.
+abbrev pub MadePlacesLaw : Type 0
+MadePlacesLaw =
+    (types : List TypeDecl) (outputs : List ℕ → List (List ℕ)) (k : Known) (fill : Place → Value) (n : Node) (f : FlatNode) → Knows types outputs k → NodeReady k fill n
+    → f.inputs ≡ length n.inputs + length (controls_of n.contract) → f.outputs ≡ numbers_from (length n.inputs + length (controls_of n.contract)) n.outputs
+    → map unplaced f.eqns ≡ map unplaced (sketch_node k n).eqns
+    → (s : Stands types outputs k fill n f) × AreMadeAt s.means (events f.eqns) (block_labels outputs n.body in_body [])

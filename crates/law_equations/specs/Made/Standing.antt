@@ -16,6 +16,7 @@ use Rattle.law_equations.specs.Flattened.Flat.{name, value, Register}
 use Rattle.law_equations.specs.Flattened.Flatten.{FlatName, At, Nowhere, IsFirst, Held, When, steps, ats, row, constant_in, Prefix, below, Scope, Rows}
 use Rattle.law_equations.specs.Flattened.Numbered.{number_of, definitions, AreSteps, AreRows, StandFor}
 use Rattle.law_equations.specs.Made.Keeping.{IsKept}
+use Rattle.law_equations.specs.Made.Labels.{Label, events, AreMadeAt}
 use Rattle.law_equations.specs.Made.Making.{Known, Sketch, Site, Sight, Made, next, type_at, first_value, cons_number, constant_value, outputs_of, tested, off_site, on_site, part_at, sketch_expr}
 
 -- what is known of a program agrees with what it declares
@@ -74,12 +75,23 @@ module _ (F : FlatName → Option Rows) where
     pub value : means m.1 ≡ a
     pub flag : IsFlagged means m.0.flag ck rs
 
--- Facts about the variables that are made from one sketch to another, whatever stands for those that stand for these names. What is remembered is of K.
-pub record Promised (K : FlatName → Type 0) (d e : Sketch) (Facts : (ℕ → FlatName) → Type 0) : Type 0 where
+-- Equations are added, of which those that compare or call are made of what these labels say, whatever stands behind.
+pub record AreLabelled (means : ℕ → FlatName) (before after : List FlatEqn) (labels : List Label → List Label) : Type 0 where
+  pub added : List FlatEqn
+  pub whole : after ≡ before ++ added
+  pub made : (es : List FlatEqn) (rest : List Label) → AreMadeAt means (events es) rest → AreMadeAt means (events (added ++ es)) (labels rest)
+
+-- Facts about the variables that are made from one sketch to another, and the labels of the equations, whatever stands for those that stand for these names. What is remembered is of K.
+pub record Promises (K : FlatName → Type 0) (d e : Sketch) (labels : List Label → List Label) (Facts : (ℕ → FlatName) → Type 0) : Type 0 where
   pub names : List FlatName
   pub kept : AllByRecursion (IsKept K) names
   pub grown : next e ≡ next d + length names
+  pub labelled : (means : ℕ → FlatName) → Agrees means (next d) names → AreLabelled means d.eqns e.eqns labels
   pub facts : (means : ℕ → FlatName) → Agrees means (next d) names → Facts means
+
+-- where no equation compares or calls
+abbrev pub Promised : (K : FlatName → Type 0) (d e : Sketch) (Facts : (ℕ → FlatName) → Type 0) → Type 0
+Promised K d e Facts = Promises K d e (λ rest. rest) Facts
 
 -- what is remembered, and the name that has no value, in equations over flat names
 pub record Remembers (F : FlatName → Option Rows) : Type 1 where
