@@ -55,38 +55,6 @@ module _ (types : List TypeDecl) (outputs : List ℕ → List (List ℕ)) (fill 
     abbrev node_lasts : Scope
     node_lasts = lasts_at types n.outputs (λ z. Nowhere) in_body always []
 
-    nowhere_ends : Ending Nowhere
-    nowhere_ends = no_rows types outputs fill N loops away Nowhere refl
-
-    -- ---- places
-
-    given_ends : (z : List ℕ) (t : Bool) → bytes_eq x z ≡ t → Within EndingPlace (given_in N z) → Ending (Input z)
-    given_ends z true e h =
-        let at : Within EndingPlace (only px) = subst (Within EndingPlace) f.placed (subst (λ w. Within EndingPlace (given_in N w)) (sym (same_name x z e)) h) in
-        absurd (at.1 refl)
-    given_ends z false e h = no_rows types outputs fill N loops away (Input z) (ap (λ t. if t then Some (copies always [] (Input z) ∷ []) else None) e)
-
-    node_sees : Sees types outputs fill N loops away (given_in N) (node_scope N)
-    node_sees z h = by (declares n.inputs z || declares (controls_of n.contract) z)
-      where
-        by : (d : Bool) → Ending (if d then Input z else Nowhere)
-        by true = given_ends z (bytes_eq x z) refl h
-        by false = nowhere_ends
-
-    around_node : Around types outputs fill N loops away (given_in N) (node_scope N) node_lasts always []
-    around_node = record {
-      sees = node_sees;
-      lasts = lasts_in types outputs fill N loops away n.outputs (λ z. Nowhere) in_body always [] (λ z. nowhere_ends) tt tt;
-      clock = tt;
-      restart = tt;
-    }
-
-    -- a place of the body ends where its sources do
-    place_ends : (p : Place) → Within EndingPlace (sources_with_inputs N (BodyOf ∷ p)) → Ending (At (BodyOf ∷ p))
-    place_ends p h =
-        block_ends types outputs fill N loops away (block ds es) (given_in N) (node_scope N) node_lasts (under_step BodyOf only) in_body always []
-        (λ z. on_base (declares n.inputs z || (declares n.outputs z || declares (controls_of n.contract) z))) around_node (λ q u. u.0) (λ q. refl) right.body p h
-
     -- ---- by ranks of the fed node, below that of x
 
     abbrev Kept : Place → Type 0
@@ -151,7 +119,7 @@ module _ (types : List TypeDecl) (outputs : List ℕ → List (List ℕ)) (fill 
         let falls : Within (λ q. ranked.rank q < m) (moved (parts.read_as n ds es x y px f) (sources_with_inputs N (BodyOf ∷ p))) =
         subst (Within (λ q. ranked.rank q < m)) (parts.body_sources n ds es x y px f p (parts.old_of n ds es x y px f p k)) (ranked.falls (BodyOf ∷ p)) in
         let done : Done m = λ q g l. ranked_end bound q g (omega (arith, l, lt)) (omega (arith, l, le)) in
-        place_ends p (subst (Within EndingPlace) (same_ours n ds es p) (sources_end m le done (sources_with_inputs N (BodyOf ∷ p)) falls))
+        place_ends types outputs fill n ds es x px f.placed right p (subst (Within EndingPlace) (same_ours n ds es p) (sources_end m le done (sources_with_inputs N (BodyOf ∷ p)) falls))
 
     -- so y, which x reads in the fed node, has no chain to what is given under x
     pub y_ends : Ending (At Y)
