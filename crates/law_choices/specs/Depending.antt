@@ -2,3 +2,4 @@ pub mod Looping
 pub mod Dependence
 pub mod Laws
 pub mod Targets
+pub mod Places
