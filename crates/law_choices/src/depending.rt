@@ -4,6 +4,7 @@
 #![tactic(auto)]
 
 ghost use Rattle.law_choices.specs.Depending.Laws.{BothLaw, NodeLaw, VariablesLaw};
+ghost use Rattle.law_choices.specs.Depending.Places.{EarlyPlaceLaw, PlaceLaw};
 ghost use Rattle.law_choices.specs.Depending.Targets.{TargetsLaw};
 
 use hp_meaning::causal::{causal_is_ranked, clocks_make_no_cycle, ranked_is_causal, same_reads};
@@ -39,3 +40,19 @@ pub fn variables_of_outputs_and_inputs()
 pub fn names_are_targets()
     ensures { TargetsLaw }
 {}
+
+/// What a place of the outermost block of a node does not depend on, of inputs and controllable variables, no variable that stands for it without automata depends on.
+pub fn places_add_no_dependence()
+    ensures { PlaceLaw }
+{
+    causal_is_ranked();
+    clocks_are_kept();
+    ranks_are_kept();
+}
+
+/// So the variable of an early place there depends on no controllable variable.
+pub fn early_places_depend_on_no_choice()
+    ensures { EarlyPlaceLaw }
+{
+    places_add_no_dependence();
+}

@@ -23,22 +23,22 @@ module _ (types : List TypeDecl) (outputs : List ℕ → List (List ℕ)) (fill 
   N = with_body n ds es
 
   -- the input under x loops, and stands at its place
-  abbrev pub loops : List ℕ → Bool
+  abbrev loops : List ℕ → Bool
   loops z = bytes_eq x z
 
-  abbrev pub away : Place → Type 0
+  abbrev away : Place → Type 0
   away p = px ≡ p → ⊥
 
-  abbrev pub Ending : FlatName → Type 0
+  abbrev Ending : FlatName → Type 0
   Ending a = NameEnds types outputs fill N loops away a
 
-  abbrev pub EndingPlace : Place → Type 0
+  abbrev EndingPlace : Place → Type 0
   EndingPlace p = PlaceEnds types outputs fill N loops away p
 
-  abbrev pub in_body : Prefix
+  abbrev in_body : Prefix
   in_body q = BodyOf ∷ q
 
-  abbrev pub node_lasts : Scope
+  abbrev node_lasts : Scope
   node_lasts = lasts_at types n.outputs (λ z. Nowhere) in_body always []
 
   nowhere_ends : Ending Nowhere

@@ -1,29 +1,26 @@
 -- No chain leads from a name of the body to something that is given, where the node that is fed with it has ranks.
-use Rattle.std.proofs.Common.{◌≡◌, ℕ, zero, suc, ◌<◌, ◌≤◌, Bool, true, false, ◌||◌, if◌then◌else◌, List, [], ◌∷◌, refl, sym, ap, ◌∙◌, subst, arith}
+use Rattle.std.proofs.Common.{◌≡◌, ℕ, zero, suc, ◌<◌, ◌≤◌, Bool, true, false, if◌then◌else◌, List, [], ◌∷◌, refl, sym, ap, ◌∙◌, subst, arith}
 use Rattle.std.specs.Prelude.{None, Some}
 use Rattle.std.specs.Str.{bytes_eq}
 use Rattle.hp_base.specs.declared.value.Value.{Value}
 use Rattle.hp_tree.specs.Blocks.{Decl, block, Eqns, no_eqn, more_eqns}
 use Rattle.hp_tree.specs.Programs.{TypeDecl, Node}
 use Rattle.hp_tree.specs.Instant.{Inputs, Controls, Body as BodyOf, Named, Equations, Tail, Place}
-use Rattle.hp_tree.specs.Meaning.{declares, some_defines, controls_of}
-use Rattle.hp_meaning.specs.Causal.Sources.{Sources, none, only, both, also, Within, below as under_step}
+use Rattle.hp_tree.specs.Meaning.{some_defines}
+use Rattle.hp_meaning.specs.Causal.Sources.{Sources, none, only, both, also, Within}
 use Rattle.hp_meaning.specs.Causal.Causality.{Ranked}
-use Rattle.hp_meaning.specs.Causal.Clocked.{ClocksRight, on_base}
+use Rattle.hp_meaning.specs.Causal.Clocked.{ClocksRight}
 use Rattle.hp_meaning.specs.Causal.InputDependence.{sources_with_inputs}
 use Rattle.hp_meaning.specs.Causal.RanksOfPoints.{same_place}
 use Rattle.hp_meaning.proofs.CausalLemmas.Ranking.{same_place_refl}
-use Rattle.law_equations.specs.Flattened.Flatten.{FlatName, Input, At, Nowhere, When, always, Prefix, Scope, copies, lasts_at, node_scope, inside_at, flat_scope, flat_defined, flat_equations}
-use Rattle.law_choices.specs.Independent.Dependence.{given_in}
+use Rattle.law_equations.specs.Flattened.Flatten.{FlatName, At, Nowhere, When, always, Prefix, Scope, lasts_at, node_scope, inside_at, flat_scope, flat_defined, flat_equations}
 use Rattle.law_choices.proofs.IndependentLemmas.Moved.{moved}
 use Rattle.law_choices.proofs.IndependentLemmas.Feeding.{is_new}
 use Rattle.law_choices.proofs.IndependentLemmas.Given.{same_name}
 use Rattle.law_choices.proofs.IndependentLemmas.Ours.{with_body, ours, same_ours}
 use Rattle.law_choices.proofs.IndependentLemmas.Fed.{Feeds, fed}
 use Rattle.law_choices.proofs.IndependentLemmas.Fed as parts
-use Rattle.law_choices.proofs.DependingLemmas.Names.{NameEnds, PlaceEnds, Sees, no_rows}
-use Rattle.law_choices.proofs.DependingLemmas.DefinitionLaws.{Around, lasts_in}
-use Rattle.law_choices.proofs.DependingLemmas.BlockLaws.{block_ends}
+use Rattle.law_choices.proofs.DependingLemmas.Names.{NameEnds, PlaceEnds, no_rows}
 
 module _ (types : List TypeDecl) (outputs : List ℕ → List (List ℕ)) (fill : Place → Value) where
   -- there are no rows behind those of the equations
@@ -36,14 +33,13 @@ module _ (types : List TypeDecl) (outputs : List ℕ → List (List ℕ)) (fill 
     abbrev N : Node
     N = with_body n ds es
 
-    -- the input under x loops, and stands at its place
-    abbrev pub loops : List ℕ → Bool
+    abbrev loops : List ℕ → Bool
     loops z = bytes_eq x z
 
-    abbrev pub away : Place → Type 0
+    abbrev away : Place → Type 0
     away p = px ≡ p → ⊥
 
-    abbrev pub Ending : FlatName → Type 0
+    abbrev Ending : FlatName → Type 0
     Ending a = NameEnds types outputs fill N loops away a
 
     abbrev EndingPlace : Place → Type 0

@@ -5,7 +5,7 @@ use Rattle.std.proofs.Math.Path.{fun_ext}
 use Rattle.std.proofs.lemmas.List.{append-nil}
 use Rattle.hp_base.specs.declared.span.Span.{Span}
 use Rattle.hp_tree.specs.Expressions.{Expr}
-use Rattle.hp_tree.specs.Blocks.{Decl, block, Eqns, no_eqn, more_eqns, Eqn, define, switch, reset, automaton, eqns_of}
+use Rattle.hp_tree.specs.Blocks.{Decl, block, Eqns, more_eqns, Eqn, define, switch, reset, eqns_of}
 use Rattle.hp_tree.specs.Programs.{Node}
 use Rattle.hp_tree.specs.Instant.{Inputs, Controls, Body, Named, Equations, Head, Tail, Right, Test, Place, Clock}
 use Rattle.hp_tree.specs.Meaning.{some_defines, clock_of}
@@ -13,7 +13,7 @@ use Rattle.hp_meaning.specs.Causal.Sources.{Sources, none, only, NameSources, Pl
 use Rattle.hp_meaning.specs.Causal.WhatIsRead.{names_in, at_expr, in_equations, in_equation}
 use Rattle.hp_meaning.specs.Causal.InputDependence.{sources_with_inputs}
 use Rattle.hp_automata.specs.Lowering.{Enumerations, Types, declaring, same_name, lowered_eqn, lowered_eqns, lowered_node, types_of}
-use Rattle.hp_automata.specs.Renaming.{renamed_decl, renamed_left, renamed_path}
+use Rattle.hp_automata.specs.Renaming.{renamed_left, renamed_path}
 use Rattle.law_automata.specs.Lowered.Removable.{none_known, BlockOk}
 use Rattle.law_automata.proofs.LoweredLemmas.Lookups.{eqns_old, eqns_sound}
 use Rattle.law_automata.proofs.LoweredLemmas.Nodes.{itself, itself_renames}
@@ -22,7 +22,7 @@ use Rattle.law_choices.specs.Depending.Places.{in_own_equation, in_own_equations
 use Rattle.law_choices.proofs.IndependentLemmas.AutomataLaw.{same_defined, same_given}
 use Rattle.law_choices.proofs.IndependentLemmas.FedLowered.{made, low_locals, low_eqns}
 use Rattle.law_choices.proofs.IndependentLemmas.Given.{Shape, shape}
-use Rattle.law_choices.proofs.IndependentLemmas.Moved.{moved, mn, mk, move_expr}
+use Rattle.law_choices.proofs.IndependentLemmas.Moved.{moved, mn, move_expr}
 use Rattle.law_choices.proofs.IndependentLemmas.Ours.{with_body}
 use Rattle.law_choices.proofs.DependingLemmas.Sourced.{sources_moved}
 

@@ -1,6 +1,5 @@
 -- What a place of the outermost block does not depend on, of what its node is given, no variable that stands for it depends on.
-use Rattle.std.proofs.Common.{◌≡◌, ℕ, zero, suc, ◌<◌, Bool, true, false, ◌||◌, if◌then◌else◌, List, [], ◌∷◌, inl, inr, refl, sym, ap, ◌∙◌, subst, arith}
-use Rattle.std.specs.Prelude.{◌⊎◌}
+use Rattle.std.proofs.Common.{◌≡◌, ℕ, zero, suc, ◌<◌, Bool, true, false, ◌||◌, if◌then◌else◌, List, [], ◌∷◌, refl, sym, ap, ◌∙◌, subst, arith}
 use Rattle.std.specs.Str.{bytes_eq}
 use Rattle.hp_base.specs.declared.value.Value.{Value}
 use Rattle.hp_tree.specs.Blocks.{Decl, Block, block, Eqns}
@@ -8,7 +7,7 @@ use Rattle.hp_tree.specs.declared.program.Item.{Item}
 use Rattle.hp_tree.specs.Programs.{TypeDecl, Node}
 use Rattle.hp_tree.specs.Instant.{Inputs, Controls, Body, Named, Equations, Head, Tail, Place}
 use Rattle.hp_tree.specs.Meaning.{declares, some_defines, controls_of}
-use Rattle.hp_meaning.specs.Causal.Sources.{only, Within, IsSource, NameSources, below}
+use Rattle.hp_meaning.specs.Causal.Sources.{only, Within, IsSource}
 use Rattle.hp_meaning.specs.Causal.Causality.{Ranked, OrderLaw}
 use Rattle.hp_meaning.specs.Causal.Clocked.{ClocksRight}
 use Rattle.hp_meaning.specs.Causal.InputDependence.{row_in, input_in, sources_with_inputs}
@@ -23,20 +22,16 @@ use Rattle.law_automata.specs.Lowered.Laws.{NodeRanksLaw, ClocksLaw}
 use Rattle.law_automata.proofs.LoweredLemmas.Lookups.{eqns_old}
 use Rattle.law_automata.proofs.LoweredLemmas.Renaming.{declares_renamed}
 use Rattle.law_automata.proofs.LoweredLemmas.RightBlocks.{clock_none}
-use Rattle.hp_flat.specs.Nodes.{FlatNode}
-use Rattle.law_equations.specs.Flattened.Flatten.{FlatName, At, Input}
-use Rattle.law_equations.specs.Made.Making.{Known}
-use Rattle.law_equations.specs.Made.Laws.{Stands}
+use Rattle.law_equations.specs.Flattened.Flatten.{FlatName, At}
 use Rattle.law_wellmade.specs.Acyclic.Reading.{Ends}
 use Rattle.law_choices.specs.Independent.Dependence.{given_in}
 use Rattle.law_choices.specs.Independent.Laws.{IsApart}
-use Rattle.law_choices.specs.Depending.Dependence.{DependsOn}
 use Rattle.law_choices.specs.Depending.Looping.{looped}
 use Rattle.law_choices.specs.Depending.Places.{DependsByWithInputs, PlaceDependsOnGiven, in_own_equations, is_outermost, PlaceLaw, EarlyPlaceLaw}
 use Rattle.law_choices.proofs.IndependentLemmas.AutomataLaw.{same_given}
 use Rattle.law_choices.proofs.IndependentLemmas.FedLowered.{low_locals, low_eqns, low_fed}
 use Rattle.law_choices.proofs.IndependentLemmas.FedNodes.{fed_ok}
-use Rattle.law_choices.proofs.IndependentLemmas.Given.{in_row, place_in, stands_somewhere}
+use Rattle.law_choices.proofs.IndependentLemmas.Given.{place_in, stands_somewhere}
 use Rattle.law_choices.proofs.IndependentLemmas.Ours.{with_body}
 use Rattle.law_choices.proofs.IndependentLemmas.Fed.{Feeds, fed}
 use Rattle.law_choices.proofs.DependingLemmas.Names.{no_rows}

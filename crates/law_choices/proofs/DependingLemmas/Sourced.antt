@@ -1,6 +1,5 @@
 -- All that something depends on: in sources that are read as others, and in the body of a node, inputs among it.
 use Rattle.std.proofs.Common.{◌≡◌, ℕ, ◌<◌, List, [], ◌∷◌, inl, inr, refl, sym, ap, ◌∙◌, subst}
-use Rattle.std.specs.Prelude.{◌⊎◌}
 use Rattle.std.proofs.Math.Path.{fun_ext}
 use Rattle.hp_tree.specs.Blocks.{Decl, block, Eqns}
 use Rattle.hp_tree.specs.Programs.{Node}

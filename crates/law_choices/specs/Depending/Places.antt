@@ -2,7 +2,7 @@
 -- Source: own. Dependences are those by which causality is decided: what is read, and the names of clocks.
 use Rattle.std.specs.Prelude.{ℕ, ◌≡◌, Bool, true, false, List, [], ◌∷◌}
 use Rattle.hp_base.specs.declared.value.Value.{Value}
-use Rattle.hp_tree.specs.Blocks.{Block, block, Eqns, no_eqn, more_eqns, Eqn, define, switch, reset}
+use Rattle.hp_tree.specs.Blocks.{Block, block, Eqns, more_eqns, Eqn, define, switch, reset}
 use Rattle.hp_tree.specs.declared.program.Item.{Item}
 use Rattle.hp_tree.specs.Programs.{TypeDecl, Node}
 use Rattle.hp_tree.specs.Instant.{Body, Equations, Head, Tail, Right, Test, Place}
