@@ -21,6 +21,7 @@ use Rattle.law_choices.proofs.IndependentLemmas.Ours.{with_body, ours, same_ours
 use Rattle.law_choices.proofs.IndependentLemmas.Fed.{Feeds, fed}
 use Rattle.law_choices.proofs.IndependentLemmas.Fed as parts
 use Rattle.law_choices.proofs.DependingLemmas.Names.{NameEnds, PlaceEnds, no_rows}
+use Rattle.law_choices.proofs.DependingLemmas.BodyLaws.{place_ends}
 
 module _ (types : List TypeDecl) (outputs : List ℕ → List (List ℕ)) (fill : Place → Value) where
   -- there are no rows behind those of the equations
