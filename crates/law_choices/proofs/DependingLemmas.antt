@@ -13,3 +13,4 @@ pub mod Sourced
 pub mod FedDependences
 pub mod Outermost
 pub mod PlaceLaws
+pub mod FoundLaws

@@ -3,3 +3,4 @@ pub mod Dependence
 pub mod Laws
 pub mod Targets
 pub mod Places
+pub mod Found
