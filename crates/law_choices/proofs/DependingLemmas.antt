@@ -14,3 +14,5 @@ pub mod FedDependences
 pub mod Outermost
 pub mod PlaceLaws
 pub mod FoundLaws
+pub mod Conditions
+pub mod StrongLaws

@@ -45,7 +45,7 @@ module _ (n : Node) (ds : List Decl) (es : Eqns) where
   IsNear r = ⊥
 
   -- all others are left out
-  abbrev near : Place → Sources
+  abbrev pub near : Place → Sources
   near (Body ∷ Named y ∷ []) = if some_defines es y then only (Body ∷ Named y ∷ []) else none
   near (Body ∷ Equations ∷ r) = if in_own_equations es r then only (Body ∷ Equations ∷ r) else none
   near (Body ∷ r) = none
@@ -53,7 +53,7 @@ module _ (n : Node) (ds : List Decl) (es : Eqns) where
   near (Controls ∷ r) = only (Controls ∷ r)
   near r = none
 
-  is_near : (q r : Place) → IsSource q (near r) → IsNear q
+  pub is_near : (q r : Place) → IsSource q (near r) → IsNear q
   is_near q (Body ∷ Named y ∷ []) h = by (some_defines es y) refl h
     where
       by : (t : Bool) → some_defines es y ≡ t → IsSource q (if t then only (Body ∷ Named y ∷ []) else none) → IsNear q
@@ -68,7 +68,7 @@ module _ (n : Node) (ds : List Decl) (es : Eqns) where
   is_near q (Controls ∷ r) h = subst IsNear (sym h) tt
   is_near q r h = absurd h
 
-  names_near : (z : List ℕ) → mn near names z ≡ names z
+  pub names_near : (z : List ℕ) → mn near names z ≡ names z
   names_near z = by (some_defines es z) refl
     where
       given_near : Shape N z → moved near (given_in N z) ≡ given_in N z

@@ -64,7 +64,7 @@ module _ (order : OrderLaw) (ranks : NodeRanksLaw) (kept : ClocksLaw) (types : L
     low_placed : given_in M x ≡ only px
     low_placed = same_given enums N x ∙ at
 
-    name_ends : (y : List ℕ) → some_defines es y ≡ true → IsClear (Body ∷ Named y ∷ []) → Ending (At (Body ∷ Named y ∷ []))
+    pub name_ends : (y : List ℕ) → some_defines es y ≡ true → IsClear (Body ∷ Named y ∷ []) → Ending (At (Body ∷ Named y ∷ []))
     name_ends y defined clear =
         let before : Feeds n ds es x y px = record { placed = at; undefined = apart.undefined; defined = defined; no_output = apart.no_output; base = clock_none ds x apart.no_local } in
         let behind : Feeds M (low_locals enums ds) (low_eqns enums n ds es) x y px =
@@ -100,6 +100,10 @@ module _ (order : OrderLaw) (ranks : NodeRanksLaw) (kept : ClocksLaw) (types : L
         λ q h. (near_ends q (sources_near n ds es p q own h) (clear_next n ds es px (Body ∷ Equations ∷ p) q clear h) (next q h), λ e. clear [] (subst (λ z. IsSource z sources) (sym e) h)) in
         place_ends types outputs fill M (low_locals enums ds) (low_eqns enums n ds es) x px low_placed low_right (Equations ∷ p)
         (subst (Within (λ q. Ending (At q) × (px ≡ q → ⊥))) (sym (sources_same enums n ds es ok.body p own)) (all_sources (λ q. Ending (At q) × (px ≡ q → ⊥)) sources each))
+
+    -- what such a place may depend on ends where it is clear
+    pub clear_ends : (q : Place) → IsNear n ds es q → IsClear q → Ending (At q)
+    clear_ends q near clear = near_ends q near clear (λ p e own. outermost_ends (suc (r.rank (Body ∷ Equations ∷ p))) p own (subst IsClear e clear) (omega arith))
 
   by_body : (n : Node) (b : Block) (p : Place) (x : List ℕ) → NodeOk (record n { body = b }) → NamesDeclared (record n { body = b }) → ClocksRight (record n { body = b }) → Ranked (record n { body = b }) → IsOld x
       → IsApart (record n { body = b }) x → is_outermost b p ≡ true → (PlaceDependsOnGiven (record n { body = b }) (Body ∷ p) x → ⊥) → Ends (looped types outputs fill (lowered_node enums (record n { body = b })) (λ z. bytes_eq x z)) (At (Body ∷ p))
