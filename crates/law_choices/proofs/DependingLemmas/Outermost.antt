@@ -162,7 +162,9 @@ module _ (enums : Enumerations) (n : Node) (ds : List Decl) (es : Eqns) (ok : Bl
   names_same : (z : List ℕ) → names_in (low_eqns enums n ds es) (given_in M) (below Body only) z ≡ names_before z
   names_same z = ap₂ (λ (t : Bool) (g : Sources). if t then only (Body ∷ Named z ∷ []) else g) (defined_same z) (same_given enums (with_body n ds es) z)
 
+  -- what they depend on, over the names of the body before
+  pub low_sources : (p : Place) → sources_with_inputs M (Body ∷ Equations ∷ p) ≡ in_equations ds (low_eqns enums n ds es) names_before (below Equations (below Body only)) p
+  low_sources p = ap₂ (λ (l : List Decl) (m : NameSources). in_equations l (low_eqns enums n ds es) m (below Equations (below Body only)) p) (locals_same ds) (fun_ext names_same)
+
   pub sources_same : (p : Place) → in_own_equations es p ≡ true → sources_with_inputs M (Body ∷ Equations ∷ p) ≡ sources_with_inputs (with_body n ds es) (Body ∷ Equations ∷ p)
-  sources_same p o =
-      ap₂ (λ (l : List Decl) (m : NameSources). in_equations l (low_eqns enums n ds es) m (below Equations (below Body only)) p) (locals_same ds) (fun_ext names_same)
-      ∙ equations_same (declaring (types_of n) ds) es (below Equations (below Body only)) p o
+  sources_same p o = low_sources p ∙ equations_same (declaring (types_of n) ds) es (below Equations (below Body only)) p o

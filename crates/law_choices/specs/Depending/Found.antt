@@ -1,10 +1,10 @@
 -- Of the comparisons and calls that a walk over a node finds: what stands for an early one in clocked equations depends on no controllable variable.
 -- Source: own.
-use Rattle.std.specs.Prelude.{ℕ, ◌≡◌, Bool, true, false, List, ◌∷◌}
+use Rattle.std.specs.Prelude.{ℕ, ◌≡◌, true, List}
 use Rattle.hp_base.specs.declared.value.Value.{Value}
 use Rattle.hp_tree.specs.declared.program.Item.{Item}
 use Rattle.hp_tree.specs.Programs.{TypeDecl, Node}
-use Rattle.hp_tree.specs.Instant.{Body, Place}
+use Rattle.hp_tree.specs.Instant.{Place}
 use Rattle.hp_tree.specs.Meaning.{declares, controls_of}
 use Rattle.hp_tree.specs.Reaction.{Each}
 use Rattle.hp_meaning.specs.Causal.Causality.{Ranked}
@@ -21,19 +21,13 @@ use Rattle.law_equations.specs.Made.Making.{Known}
 use Rattle.law_equations.specs.Made.Laws.{Stands}
 use Rattle.law_choices.specs.Independent.Laws.{IsApart}
 use Rattle.law_choices.specs.Depending.Dependence.{DependsOn}
-use Rattle.law_choices.specs.Depending.Places.{is_outermost}
 use Rattle.law_choices.specs.Places.Found.{found_in_node}
 use Rattle.law_choices.specs.Places.Laws.{places_of}
 use Rattle.law_choices.specs.Places.Spots.{Spot}
 
--- whether a place of a node stands in the outermost block of its body
-abbrev pub is_own : Node → Place → Bool
-is_own n (Body ∷ p) = is_outermost n.body p
-is_own n p = false
-
--- Where a place stands in the outermost block and is early, no variable that stands for another place depends on one.
+-- Where a place is early, no variable that stands for another place depends on one.
 abbrev pub WaitsNot : List Item → Node → FlatNode → (ℕ → FlatName) → ℕ → Place → Place → Type 0
-WaitsNot program n f means w p q = is_own n p ≡ true → IsEarly program n p → (v : ℕ) → means v ≡ At q → DependsOn f.eqns v w → ⊥
+WaitsNot program n f means w p q = IsEarly program n p → (v : ℕ) → means v ≡ At q → DependsOn f.eqns v w → ⊥
 
 -- So it is of the place of each comparison that a walk over a node finds, and of those of the outputs of each call, with the place that stands for it without automata, and the variable of each controllable variable.
 abbrev pub FoundEarlyLaw : Type 0
