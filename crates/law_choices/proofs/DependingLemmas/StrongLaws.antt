@@ -125,7 +125,7 @@ module _ (order : OrderLaw) (ranks : NodeRanksLaw) (kept : ClocksLaw) (types : L
     eqn_defines z o = eqn_same enums itself_renames tys (automaton s ss) fits z o
 
     frame_old : (z : List ℕ) → is_name f.names z ≡ true → IsOld z
-    frame_old z e = eqn_old none_known 0 (automaton s ss) fits z (sym (names_of_frame s 0 ss z) ∙ e)
+    frame_old z e = eqn_old none_known 0 (automaton s ss) fits z (sym (names_of_frame enums s 0 ss z) ∙ e)
 
     made_defines : (z : List ℕ) → IsOld z → some_defines (eqns_of made) z ≡ states_define ss z
     made_defines z o =
