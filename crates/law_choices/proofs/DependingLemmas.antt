@@ -16,3 +16,4 @@ pub mod PlaceLaws
 pub mod FoundLaws
 pub mod Conditions
 pub mod StrongLaws
+pub mod EventLaws
