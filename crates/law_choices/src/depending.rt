@@ -3,10 +3,12 @@
 //! The functions here do nothing: each is a law, which its contract states.
 #![tactic(auto)]
 
+ghost use Rattle.law_choices.specs.Depending.Found.{EarlyEventsLaw, FoundEarlyLaw};
 ghost use Rattle.law_choices.specs.Depending.Laws.{BothLaw, NodeLaw, VariablesLaw};
 ghost use Rattle.law_choices.specs.Depending.Places.{EarlyPlaceLaw, PlaceLaw};
 ghost use Rattle.law_choices.specs.Depending.Targets.{TargetsLaw};
 
+use crate::places::walks_find_places;
 use hp_meaning::causal::{causal_is_ranked, clocks_make_no_cycle, ranked_is_causal, same_reads};
 use law_automata::lowered::{clocks_are_kept, ranks_are_kept};
 
@@ -55,4 +57,21 @@ pub fn early_places_depend_on_no_choice()
     ensures { EarlyPlaceLaw }
 {
     places_add_no_dependence();
+}
+
+/// So it is of each comparison and call that a walk over the node finds, also in conditions of strong transitions, and of the place that stands for it without automata.
+pub fn found_early_places_depend_on_no_choice()
+    ensures { FoundEarlyLaw }
+{
+    causal_is_ranked();
+    clocks_are_kept();
+    ranks_are_kept();
+}
+
+/// And of the equations of comparisons and calls, where their targets stand for these places.
+pub fn early_events_depend_on_no_choice()
+    ensures { EarlyEventsLaw }
+{
+    found_early_places_depend_on_no_choice();
+    walks_find_places();
 }
