@@ -3,7 +3,7 @@
 //! The functions here do nothing: each is a law, which its contract states.
 #![tactic(auto)]
 
-ghost use Rattle.law_choices.specs.Depending.Found.{EarlyEventsLaw, FoundEarlyLaw};
+ghost use Rattle.law_choices.specs.Depending.Found.{EarlyEventsLaw, FoundEarlyLaw, FoundPlaceLaw};
 ghost use Rattle.law_choices.specs.Depending.Laws.{BothLaw, NodeLaw, VariablesLaw};
 ghost use Rattle.law_choices.specs.Depending.Places.{EarlyPlaceLaw, PlaceLaw};
 ghost use Rattle.law_choices.specs.Depending.Targets.{TargetsLaw};
@@ -60,12 +60,19 @@ pub fn early_places_depend_on_no_choice()
 }
 
 /// So it is of each comparison and call that a walk over the node finds, also in conditions of strong transitions, and of the place that stands for it without automata.
-pub fn found_early_places_depend_on_no_choice()
-    ensures { FoundEarlyLaw }
+pub fn found_places_add_no_dependence()
+    ensures { FoundPlaceLaw }
 {
     causal_is_ranked();
     clocks_are_kept();
     ranks_are_kept();
+}
+
+/// So what stands for an early one depends on no controllable variable.
+pub fn found_early_places_depend_on_no_choice()
+    ensures { FoundEarlyLaw }
+{
+    found_places_add_no_dependence();
 }
 
 /// And of the equations of comparisons and calls, where their targets stand for these places.

@@ -3,11 +3,10 @@ use Rattle.std.proofs.Common.{◌≡◌, ℕ, suc, Bool, true, false, ◌||◌, 
 use Rattle.std.specs.Prelude.{Option, None, Some}
 use Rattle.std.specs.Str.{bytes_eq}
 use Rattle.hp_base.specs.declared.value.Value.{Value}
-use Rattle.hp_tree.specs.declared.program.Item.{Item}
 use Rattle.hp_tree.specs.Blocks.{Decl, Block, block, Eqns, no_eqn, more_eqns, Eqn, define, switch, reset, automaton}
 use Rattle.hp_tree.specs.Programs.{TypeDecl, Node}
 use Rattle.hp_tree.specs.Instant.{Body, Named, Equations, Head, Tail, Right, Test, Arms as ArmsOf, States as StatesOf, Place}
-use Rattle.hp_tree.specs.Meaning.{controls_of, declares, defines, some_defines, states_define}
+use Rattle.hp_tree.specs.Meaning.{defines, some_defines, states_define}
 use Rattle.hp_meaning.specs.Causal.Causality.{Ranked, OrderLaw}
 use Rattle.hp_meaning.specs.Causal.Clocked.{ClocksRight}
 use Rattle.hp_meaning.specs.Causal.InputDependence.{sources_with_inputs}
@@ -27,9 +26,9 @@ use Rattle.law_equations.specs.Flattened.Flatten.{always, At, copies, flat_defin
 use Rattle.law_wellmade.specs.Acyclic.Reading.{Ends}
 use Rattle.law_choices.specs.Independent.Dependence.{given_in}
 use Rattle.law_choices.specs.Independent.Laws.{IsApart}
-use Rattle.law_choices.specs.Depending.Found.{FoundEarlyLaw, WaitsNot}
+use Rattle.law_choices.specs.Depending.Found.{FoundEarlyLaw, FoundPlaceLaw, StaysFree, WaitsNot}
 use Rattle.law_choices.specs.Depending.Looping.{looped}
-use Rattle.law_choices.specs.Depending.Places.{in_own_equations}
+use Rattle.law_choices.specs.Depending.Places.{in_own_equations, PlaceDependsOnGiven}
 use Rattle.law_choices.specs.Places.Found.{Both, found, found_in_arms, found_in_block, found_in_eqn, found_in_eqns, found_in_node}
 use Rattle.law_choices.specs.Places.Laws.{places_of}
 use Rattle.law_choices.proofs.IndependentLemmas.FedLowered.{low_eqns, low_locals, made}
@@ -38,8 +37,7 @@ use Rattle.law_choices.proofs.IndependentLemmas.Ours.{with_body}
 use Rattle.law_choices.proofs.PlacesLemmas.Related.{All, all-both, arms-hidden, block-hidden, expr-related}
 use Rattle.law_choices.proofs.DependingLemmas.FlatLaw.{no_chain}
 use Rattle.law_choices.proofs.DependingLemmas.Outermost.{defined_same, low_sources}
-use Rattle.law_choices.proofs.DependingLemmas.PlaceLaws.{early_clear, outermost_ends}
-use Rattle.law_choices.proofs.DependingLemmas.Sourced.{Clear}
+use Rattle.law_choices.proofs.DependingLemmas.PlaceLaws.{none_given, outermost_ends}
 use Rattle.law_choices.proofs.DependingLemmas.StrongLaws.{automaton_found, EndsSo}
 
 -- ---- relations
@@ -55,6 +53,18 @@ module _ (names : List ℕ → List (List ℕ)) (P Q S : Place → Place → Typ
   all-joined : (fs : Both) → All names P fs → All names Q fs → All names S fs
   all-joined [] h k = tt
   all-joined (f ∷ fs) h k = (along-joined P Q S joined (places_of f.0) (places_of f.1) h.0 k.0, all-joined fs h.1 k.1)
+
+module _ {A B : Type 0} (P S : A → B → Type 0) (more : (a : A) (b : B) → P a b → S a b) where
+  along-more : (xs : List A) (ys : List B) → Along P xs ys → Along S xs ys
+  along-more [] [] h = tt
+  along-more [] (y ∷ ys) h = absurd h
+  along-more (x ∷ xs) [] h = absurd h
+  along-more (x ∷ xs) (y ∷ ys) h = (more x y h.0, along-more xs ys h.1)
+
+module _ (names : List ℕ → List (List ℕ)) (P S : Place → Place → Type 0) (more : (p q : Place) → P p q → S p q) where
+  all-more : (fs : Both) → All names P fs → All names S fs
+  all-more [] h = tt
+  all-more (f ∷ fs) h = (along-more P S more (places_of f.0) (places_of f.1) h.0, all-more fs h.1)
 
 -- ---- tests
 
@@ -185,32 +195,34 @@ module _ (order : OrderLaw) (ranks : NodeRanksLaw) (kept : ClocksLaw) (types : L
   pub body_found : All outs R (found_in_node outs N)
   body_found = eqns_found es (λ p. p) first
 
--- ---- the law
+-- ---- the laws
+
+module _ (order : OrderLaw) (ranks : NodeRanksLaw) (kept : ClocksLaw) (types : List TypeDecl) (outputs : List ℕ → List (List ℕ)) (fill : Place → Value) (enums : Enumerations) (outs : List ℕ → List (List ℕ)) where
+  abbrev Stays : Node → List ℕ → Place → Place → Type 0
+  Stays n x p q = own_free n p ≡ Some [] → (PlaceDependsOnGiven n p x → ⊥) → Ends (looped types outputs fill (lowered_node enums n) (λ z. bytes_eq x z)) (At q)
+
+  by_body : (n : Node) (b : Block) (x : List ℕ) → NodeOk (record n { body = b }) → NamesDeclared (record n { body = b }) → ClocksRight (record n { body = b }) → Ranked (record n { body = b }) → IsOld x → IsApart (record n { body = b }) x
+      → All outs (Stays (record n { body = b }) x) (found_in_node outs (record n { body = b }))
+  by_body n (block ds es) x ok declared right r old apart =
+      let N : Node = with_body n ds es in
+      let at = stands_somewhere N x apart.given in
+      all-more outs (EndsSo order ranks kept types outputs fill enums n ds es x at.0 ok declared right r old apart at.1) (Stays N x) (λ p q ends free independent. ends free (λ between d. independent (at.0, at.1, between, d))) (found_in_node outs N)
+      (body_found order ranks kept types outputs fill enums n ds es x at.0 ok declared right r old apart at.1 outs)
+
+pub found_place_law : OrderLaw → NodeRanksLaw → ClocksLaw → FoundPlaceLaw
+found_place_law order ranks kept outs types outputs k fill enums n f s x ok declared right r old apart w ew =
+    all-more outs (Stays order ranks kept types outputs fill enums outs n x) (StaysFree n x f s.means w)
+    (λ p q ends free independent v ev d. no_chain types outputs fill (lowered_node enums n) x k f s v d.0 w (subst (Ends (looped types outputs fill (lowered_node enums n) (λ z. bytes_eq x z))) (sym ev) (ends free independent)) ew d.1)
+    (found_in_node outs n) (by_body order ranks kept types outputs fill enums outs n n.body x ok declared right r old apart)
 
 -- a place of the body
 abbrev InBody : Place → Place → Type 0
 InBody p q = (s : Place) × (p ≡ Body ∷ s)
 
-module _ (order : OrderLaw) (ranks : NodeRanksLaw) (kept : ClocksLaw) (types : List TypeDecl) (outputs : List ℕ → List (List ℕ)) (fill : Place → Value) (enums : Enumerations) (outs : List ℕ → List (List ℕ)) (program : List Item) where
-  abbrev Stays : Node → List ℕ → Place → Place → Type 0
-  Stays n x p q = IsEarly program n p → Ends (looped types outputs fill (lowered_node enums n) (λ z. bytes_eq x z)) (At q)
-
-  by_body : (n : Node) (b : Block) (x : List ℕ) → NodeOk (record n { body = b }) → NamesDeclared (record n { body = b }) → ClocksRight (record n { body = b }) → Ranked (record n { body = b }) → IsOld x → IsApart (record n { body = b }) x
-      → declares (controls_of n.contract) x ≡ true → All outs (Stays (record n { body = b }) x) (found_in_node outs (record n { body = b }))
-  by_body n (block ds es) x ok declared right r old apart control =
-      let N : Node = with_body n ds es in
-      let at = stands_somewhere N x apart.given in
-      let found = body_found order ranks kept types outputs fill enums n ds es x at.0 ok declared right r old apart at.1 outs in
-      let inside = block-hidden outs InBody (block ds es) (λ p. Body ∷ p) (λ p. Body ∷ p) (λ p q. (p, refl)) in
-      all-joined outs (EndsSo order ranks kept types outputs fill enums n ds es x at.0 ok declared right r old apart at.1) InBody (Stays N x)
-      (λ p q ends within early. ends early.on_base
-      (subst (Clear n ds es at.0) (sym within.1) (early_clear program n ds es within.0 x at.0 right control at.1 (subst (IsEarly program N) within.1 early))))
-      (found_in_node outs N) found inside
-
-pub found_early_law : OrderLaw → NodeRanksLaw → ClocksLaw → FoundEarlyLaw
-found_early_law order ranks kept outs types outputs k fill enums program n f s x ok declared right r old apart control w ew =
-    let stays = by_body order ranks kept types outputs fill enums outs program n n.body x ok declared right r old apart control in
-    let again = block-hidden outs (λ p q. Unit {0}) n.body (λ p. Body ∷ p) (λ p. Body ∷ p) (λ p q. tt) in
-    all-joined outs (Stays order ranks kept types outputs fill enums outs program n x) (λ p q. Unit {0}) (WaitsNot program n f s.means w)
-    (λ p q ends more early v ev d. no_chain types outputs fill (lowered_node enums n) x k f s v d.0 w (subst (Ends (looped types outputs fill (lowered_node enums n) (λ z. bytes_eq x z))) (sym ev) (ends early)) ew d.1)
-    (found_in_node outs n) stays again
+pub found_early_law : FoundPlaceLaw → FoundEarlyLaw
+found_early_law law outs types outputs k fill enums program n f s x ok declared right r old apart control w ew =
+    all-joined outs (StaysFree n x f s.means w) InBody (WaitsNot program n f s.means w)
+    (λ p q free inside early. let there : IsEarly program n (Body ∷ inside.0) = subst (IsEarly program n) inside.1 early in
+    free early.on_base (λ d. none_given program n n.body inside.0 x right control there (subst (λ z. PlaceDependsOnGiven n z x) inside.1 d)))
+    (found_in_node outs n) (law outs types outputs k fill enums n f s x ok declared right r old apart w ew)
+    (block-hidden outs InBody n.body (λ p. Body ∷ p) (λ p. Body ∷ p) (λ p q. (p, refl)))

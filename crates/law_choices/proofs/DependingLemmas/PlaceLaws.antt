@@ -132,13 +132,13 @@ control_placed n x q c e = by (controls_of n.contract) (λ p. Controls ∷ p) (�
     by [] w h c e = absurd cc
     by (d ∷ cs) w h c e = step d cs w h (bytes_eq d.name x) c e (by cs (λ p. w (Tail ∷ p)) (λ p. h (Tail ∷ p)))
 
-pub early_clear : (program : List Item) (n : Node) (ds : List Decl) (es : Eqns) (p : Place) (x : List ℕ) (px : Place) → ClocksRight (with_body n ds es) → declares (controls_of n.contract) x ≡ true → given_in (with_body n ds es) x ≡ only px
+early_clear : (program : List Item) (n : Node) (ds : List Decl) (es : Eqns) (p : Place) (x : List ℕ) (px : Place) → ClocksRight (with_body n ds es) → declares (controls_of n.contract) x ≡ true → given_in (with_body n ds es) x ≡ only px
     → IsEarly program (with_body n ds es) (Body ∷ p) → Clear n ds es px (Body ∷ p)
 early_clear program n ds es p x px right control at early between d =
     let placed = control_placed (with_body n ds es) x px control at in
     (early_unsteered program (with_body n ds es) (Body ∷ p) right early).by_none between placed.0 (to_control n ds es p placed.0 between (subst (DependsByWithInputs (with_body n ds es) (Body ∷ p) between) placed.1 d))
 
-none_given : (program : List Item) (n : Node) (b : Block) (p : Place) (x : List ℕ) → ClocksRight (record n { body = b }) → declares (controls_of n.contract) x ≡ true → IsEarly program (record n { body = b }) (Body ∷ p) → PlaceDependsOnGiven (record n { body = b }) (Body ∷ p) x → ⊥
+pub none_given : (program : List Item) (n : Node) (b : Block) (p : Place) (x : List ℕ) → ClocksRight (record n { body = b }) → declares (controls_of n.contract) x ≡ true → IsEarly program (record n { body = b }) (Body ∷ p) → PlaceDependsOnGiven (record n { body = b }) (Body ∷ p) x → ⊥
 none_given program n (block ds es) p x right c early d = early_clear program n ds es p x d.0 right c d.1 early d.2 d.3
 
 pub early_place_law : PlaceLaw → EarlyPlaceLaw

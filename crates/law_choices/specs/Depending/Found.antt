@@ -1,6 +1,6 @@
 -- Of the comparisons and calls that a walk over a node finds: what stands for an early one in clocked equations depends on no controllable variable.
 -- Source: own.
-use Rattle.std.specs.Prelude.{ℕ, ◌≡◌, true, List, slice_get, Some}
+use Rattle.std.specs.Prelude.{ℕ, ◌≡◌, true, List, [], slice_get, Some}
 use Rattle.hp_base.specs.declared.value.Value.{Value}
 use Rattle.hp_tree.specs.declared.program.Item.{Item}
 use Rattle.hp_tree.specs.Programs.{TypeDecl, Node}
@@ -10,7 +10,7 @@ use Rattle.hp_tree.specs.Reaction.{Each}
 use Rattle.hp_meaning.specs.Causal.Causality.{Ranked}
 use Rattle.hp_meaning.specs.Causal.Clocked.{ClocksRight}
 use Rattle.hp_meaning.specs.Causal.Points.{NamesDeclared}
-use Rattle.hp_meaning.specs.Contract.FreePlaces.{IsEarly}
+use Rattle.hp_meaning.specs.Contract.FreePlaces.{IsEarly, own_free}
 use Rattle.hp_automata.specs.Lowering.{Enumerations, lowered_node}
 use Rattle.law_automata.specs.Lowered.OldNames.{IsOld}
 use Rattle.law_automata.specs.Lowered.Removable.{NodeOk}
@@ -23,15 +23,27 @@ use Rattle.law_equations.specs.Made.Laws.{Stands}
 use Rattle.hp_watch.specs.Walk.{events_from, walk_block}
 use Rattle.law_choices.specs.Independent.Laws.{IsApart}
 use Rattle.law_choices.specs.Depending.Dependence.{DependsOn}
+use Rattle.law_choices.specs.Depending.Places.{PlaceDependsOnGiven}
 use Rattle.law_choices.specs.Places.Found.{found_in_node}
 use Rattle.law_choices.specs.Places.Laws.{events, places_of}
 use Rattle.law_choices.specs.Places.Spots.{Spot, spots_of_node}
 
--- Where a place is early, no variable that stands for another place depends on one.
+-- Where a place on the base clock, outside of all blocks, does not depend on what is given under a name, no variable that stands for another place depends on the variable of that.
+abbrev pub StaysFree : Node → List ℕ → FlatNode → (ℕ → FlatName) → ℕ → Place → Place → Type 0
+StaysFree n x f means w p q = own_free n p ≡ Some [] → (PlaceDependsOnGiven n p x → ⊥) → (v : ℕ) → means v ≡ At q → DependsOn f.eqns v w → ⊥
+
+-- So it is of the place of each comparison that a walk over a node finds, and of those of the outputs of each call, with the place that stands for it without automata.
+abbrev pub FoundPlaceLaw : Type 0
+FoundPlaceLaw =
+    (names : List ℕ → List (List ℕ)) (types : List TypeDecl) (outputs : List ℕ → List (List ℕ)) (k : Known) (fill : Place → Value) (enums : Enumerations) (n : Node) (f : FlatNode) (s : Stands types outputs k fill (lowered_node enums n) f) (x : List ℕ)
+    → NodeOk n → NamesDeclared n → ClocksRight n → Ranked n → IsOld x → IsApart n x → (w : ℕ) → s.means w ≡ Input x
+    → Each (λ (c : Spot × Spot). Along (StaysFree n x f s.means w) (places_of c.0) (places_of c.1)) (found_in_node names n)
+
+-- Where a place is early, no variable that stands for another place depends on the variable of a controllable variable.
 abbrev pub WaitsNot : List Item → Node → FlatNode → (ℕ → FlatName) → ℕ → Place → Place → Type 0
 WaitsNot program n f means w p q = IsEarly program n p → (v : ℕ) → means v ≡ At q → DependsOn f.eqns v w → ⊥
 
--- So it is of the place of each comparison that a walk over a node finds, and of those of the outputs of each call, with the place that stands for it without automata, and the variable of each controllable variable.
+-- So it is of what a walk over a node finds, and of each controllable variable.
 abbrev pub FoundEarlyLaw : Type 0
 FoundEarlyLaw =
     (names : List ℕ → List (List ℕ)) (types : List TypeDecl) (outputs : List ℕ → List (List ℕ)) (k : Known) (fill : Place → Value) (enums : Enumerations) (program : List Item) (n : Node) (f : FlatNode)
