@@ -5,7 +5,10 @@
 
 ghost use Rattle.law_choices.specs.Undisturbed.Laws.{ApartLaw, PlacesLaw, ReadyLaw};
 
-use crate::depending::{early_events_depend_on_no_choice, early_places_depend_on_no_choice, passes_add_no_dependence, places_add_no_dependence};
+use crate::depending::{
+    early_events_depend_on_no_choice, early_places_depend_on_no_choice, passes_add_no_dependence,
+    places_add_no_dependence,
+};
 use crate::independent::{automata_add_no_dependence, independent_names_stay_so};
 use hp_meaning::causal::{ranked_is_causal, ranks_of_points};
 use law_values::accepted::ready_programs_are_accepted;

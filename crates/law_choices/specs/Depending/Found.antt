@@ -47,7 +47,7 @@ WaitsNot program n f means w p q = IsEarly program n p → (v : ℕ) → means v
 abbrev pub FoundEarlyLaw : Type 0
 FoundEarlyLaw =
     (names : List ℕ → List (List ℕ)) (types : List TypeDecl) (outputs : List ℕ → List (List ℕ)) (k : Known) (fill : Place → Value) (enums : Enumerations) (program : List Item) (n : Node) (f : FlatNode)
-        (s : Stands types outputs k fill (lowered_node enums n) f) (x : List ℕ)
+    (s : Stands types outputs k fill (lowered_node enums n) f) (x : List ℕ)
     → NodeOk n → NamesDeclared n → ClocksRight n → Ranked n → IsOld x → IsApart n x → declares (controls_of n.contract) x ≡ true → (w : ℕ) → s.means w ≡ Input x
     → Each (λ (c : Spot × Spot). Along (WaitsNot program n f s.means w) (places_of c.0) (places_of c.1)) (found_in_node names n)
 
@@ -65,6 +65,6 @@ EventWaitsNot program n f w i c = (e : FlatEqn) × (slice_get f.eqns i ≡ Some 
 abbrev pub EarlyEventsLaw : Type 0
 EarlyEventsLaw =
     (names : List ℕ → List (List ℕ)) (types : List TypeDecl) (outputs : List ℕ → List (List ℕ)) (k : Known) (fill : Place → Value) (enums : Enumerations) (program : List Item) (n : Node) (f : FlatNode)
-        (s : Stands types outputs k fill (lowered_node enums n) f) (x : List ℕ)
+    (s : Stands types outputs k fill (lowered_node enums n) f) (x : List ℕ)
     → NodeOk n → NamesDeclared n → ClocksRight n → Ranked n → IsOld x → IsApart n x → declares (controls_of n.contract) x ≡ true → (w : ℕ) → s.means w ≡ Input x
     → Along (TargetsMean s.means) (events f.eqns) (spots_of_node names (lowered_node enums n)) → Along (EventWaitsNot program n f w) (walk_block n.body (events_from 0 f.eqns)).0 (found_in_node names n)
