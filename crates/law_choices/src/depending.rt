@@ -3,7 +3,7 @@
 //! The functions here do nothing: each is a law, which its contract states.
 #![tactic(auto)]
 
-ghost use Rattle.law_choices.specs.Depending.Found.{EarlyEventsLaw, FoundEarlyLaw, FoundPlaceLaw};
+ghost use Rattle.law_choices.specs.Depending.Found.{EarlyEventsLaw, EventPlacesLaw, FoundEarlyLaw, FoundPlaceLaw};
 ghost use Rattle.law_choices.specs.Depending.Laws.{BothLaw, NodeLaw, VariablesLaw};
 ghost use Rattle.law_choices.specs.Depending.Places.{EarlyPlaceLaw, PlaceLaw};
 ghost use Rattle.law_choices.specs.Depending.Targets.{TargetsLaw};
@@ -75,7 +75,15 @@ pub fn found_early_places_depend_on_no_choice()
     found_places_add_no_dependence();
 }
 
-/// And of the equations of comparisons and calls, where their targets stand for these places.
+/// Where the targets of the equations of comparisons and calls stand for their places, so it is of these targets, beside a walk over the node.
+pub fn events_add_no_dependence()
+    ensures { EventPlacesLaw }
+{
+    found_places_add_no_dependence();
+    walks_find_places();
+}
+
+/// And they depend on no controllable variable where their places are early.
 pub fn early_events_depend_on_no_choice()
     ensures { EarlyEventsLaw }
 {

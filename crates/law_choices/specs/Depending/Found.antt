@@ -57,11 +57,22 @@ FoundEarlyLaw =
 abbrev pub TargetsMean : (ℕ → FlatName) → FlatEqn → Spot → Type 0
 TargetsMean means e s = Along (λ x p. means x ≡ At p) e.targets (places_of s)
 
+-- An equation of this number has targets that do not depend on the variable of what is given under a name where their places do not, on the base clock and outside of all blocks.
+abbrev pub EventStaysFree : Node → List ℕ → FlatNode → ℕ → ℕ → Spot × Spot → Type 0
+EventStaysFree n x f w i c = (e : FlatEqn) × (slice_get f.eqns i ≡ Some e) × Along (λ y p. own_free n p ≡ Some [] → (PlaceDependsOnGiven n p x → ⊥) → DependsOn f.eqns y w → ⊥) e.targets (places_of c.0)
+
+-- Where the equations of comparisons and calls have targets that stand for their places, in turn, so it is of the numbers that a walk over a node finds, one by one.
+abbrev pub EventPlacesLaw : Type 0
+EventPlacesLaw =
+    (names : List ℕ → List (List ℕ)) (types : List TypeDecl) (outputs : List ℕ → List (List ℕ)) (k : Known) (fill : Place → Value) (enums : Enumerations) (n : Node) (f : FlatNode) (s : Stands types outputs k fill (lowered_node enums n) f) (x : List ℕ)
+    → NodeOk n → NamesDeclared n → ClocksRight n → Ranked n → IsOld x → IsApart n x → (w : ℕ) → s.means w ≡ Input x
+    → Along (TargetsMean s.means) (events f.eqns) (spots_of_node names (lowered_node enums n)) → Along (EventStaysFree n x f w) (walk_block n.body (events_from 0 f.eqns)).0 (found_in_node names n)
+
 -- An equation of this number has targets that depend on no such variable where their places are early.
 abbrev pub EventWaitsNot : List Item → Node → FlatNode → ℕ → ℕ → Spot × Spot → Type 0
 EventWaitsNot program n f w i c = (e : FlatEqn) × (slice_get f.eqns i ≡ Some e) × Along (λ x p. IsEarly program n p → DependsOn f.eqns x w → ⊥) e.targets (places_of c.0)
 
--- Where the equations of comparisons and calls have targets that stand for their places, in turn, so it is of the numbers that a walk over a node finds, one by one.
+-- So it is of each controllable variable.
 abbrev pub EarlyEventsLaw : Type 0
 EarlyEventsLaw =
     (names : List ℕ → List (List ℕ)) (types : List TypeDecl) (outputs : List ℕ → List (List ℕ)) (k : Known) (fill : Place → Value) (enums : Enumerations) (program : List Item) (n : Node) (f : FlatNode)
