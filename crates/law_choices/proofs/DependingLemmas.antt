@@ -3,8 +3,17 @@ pub mod CallLaws
 pub mod ExpressionLaws
 pub mod DefinitionLaws
 pub mod BlockLaws
+pub mod BodyLaws
 pub mod NodeLaws
 pub mod Told
 pub mod FlatLaw
 pub mod Variables
 pub mod Targets
+pub mod Sourced
+pub mod FedDependences
+pub mod Outermost
+pub mod PlaceLaws
+pub mod FoundLaws
+pub mod Conditions
+pub mod StrongLaws
+pub mod EventLaws

@@ -2,3 +2,5 @@ pub mod Looping
 pub mod Dependence
 pub mod Laws
 pub mod Targets
+pub mod Places
+pub mod Found

@@ -3,9 +3,12 @@
 //! The functions here do nothing: each is a law, which its contract states.
 #![tactic(auto)]
 
-ghost use Rattle.law_choices.specs.Undisturbed.Laws.{ApartLaw, ReadyLaw};
+ghost use Rattle.law_choices.specs.Undisturbed.Laws.{ApartLaw, PlacesLaw, ReadyLaw};
 
-use crate::depending::passes_add_no_dependence;
+use crate::depending::{
+    early_events_depend_on_no_choice, early_places_depend_on_no_choice, passes_add_no_dependence,
+    places_add_no_dependence,
+};
 use crate::independent::{automata_add_no_dependence, independent_names_stay_so};
 use hp_meaning::causal::{ranked_is_causal, ranks_of_points};
 use law_values::accepted::ready_programs_are_accepted;
@@ -23,6 +26,17 @@ pub fn ready_programs_keep_dependence()
     independent_names_stay_so();
     passes_add_no_dependence();
     ranked_is_causal();
+    ranks_of_points();
+    ready_programs_are_accepted();
+}
+
+/// Nor do variables of places of a node's outermost block depend on more of them than the places do, and those of early places, also of comparisons and calls that a walk finds, depend on no controllable variable.
+pub fn ready_programs_keep_places()
+    ensures { PlacesLaw }
+{
+    early_events_depend_on_no_choice();
+    early_places_depend_on_no_choice();
+    places_add_no_dependence();
     ranks_of_points();
     ready_programs_are_accepted();
 }

@@ -60,7 +60,7 @@ module _ (types : List TypeDecl) (outputs : List ℕ → List (List ℕ)) (fill 
       endless m rows.0.2.0
 
   module _ (k : Known) (f : FlatNode) (s : Stands types outputs k fill n f) where
-    no_chain : (v : ℕ) (between : List ℕ) (w : ℕ) → Ends flat (s.means v) → s.means w ≡ Input x → EquationChain f.eqns v between w → ⊥
+    pub no_chain : (v : ℕ) (between : List ℕ) (w : ℕ) → Ends flat (s.means v) → s.means w ≡ Input x → EquationChain f.eqns v between w → ⊥
     no_chain v [] w h e c =
         let last = read_told s.means (flatten types outputs fill n) (names n.inputs ++ names (controls_of n.contract)) (λ g. length (outputs_of (k.nodes g))) f s.equations (Ends flat) c.0 v w c.1 c.2 (opened (s.means v) h) c.3 in
         let ended = subst (Ends flat) e last in

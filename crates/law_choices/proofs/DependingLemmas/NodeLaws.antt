@@ -1,29 +1,27 @@
 -- No chain leads from a name of the body to something that is given, where the node that is fed with it has ranks.
-use Rattle.std.proofs.Common.{◌≡◌, ℕ, zero, suc, ◌<◌, ◌≤◌, Bool, true, false, ◌||◌, if◌then◌else◌, List, [], ◌∷◌, refl, sym, ap, ◌∙◌, subst, arith}
+use Rattle.std.proofs.Common.{◌≡◌, ℕ, zero, suc, ◌<◌, ◌≤◌, Bool, true, false, if◌then◌else◌, List, [], ◌∷◌, refl, sym, ap, ◌∙◌, subst, arith}
 use Rattle.std.specs.Prelude.{None, Some}
 use Rattle.std.specs.Str.{bytes_eq}
 use Rattle.hp_base.specs.declared.value.Value.{Value}
 use Rattle.hp_tree.specs.Blocks.{Decl, block, Eqns, no_eqn, more_eqns}
 use Rattle.hp_tree.specs.Programs.{TypeDecl, Node}
 use Rattle.hp_tree.specs.Instant.{Inputs, Controls, Body as BodyOf, Named, Equations, Tail, Place}
-use Rattle.hp_tree.specs.Meaning.{declares, some_defines, controls_of}
-use Rattle.hp_meaning.specs.Causal.Sources.{Sources, none, only, both, also, Within, below as under_step}
+use Rattle.hp_tree.specs.Meaning.{some_defines}
+use Rattle.hp_meaning.specs.Causal.Sources.{Sources, none, only, both, also, Within}
 use Rattle.hp_meaning.specs.Causal.Causality.{Ranked}
-use Rattle.hp_meaning.specs.Causal.Clocked.{ClocksRight, on_base}
+use Rattle.hp_meaning.specs.Causal.Clocked.{ClocksRight}
 use Rattle.hp_meaning.specs.Causal.InputDependence.{sources_with_inputs}
 use Rattle.hp_meaning.specs.Causal.RanksOfPoints.{same_place}
 use Rattle.hp_meaning.proofs.CausalLemmas.Ranking.{same_place_refl}
-use Rattle.law_equations.specs.Flattened.Flatten.{FlatName, Input, At, Nowhere, When, always, Prefix, Scope, copies, lasts_at, node_scope, inside_at, flat_scope, flat_defined, flat_equations}
-use Rattle.law_choices.specs.Independent.Dependence.{given_in}
+use Rattle.law_equations.specs.Flattened.Flatten.{FlatName, At, Nowhere, When, always, Prefix, Scope, lasts_at, node_scope, inside_at, flat_scope, flat_defined, flat_equations}
 use Rattle.law_choices.proofs.IndependentLemmas.Moved.{moved}
 use Rattle.law_choices.proofs.IndependentLemmas.Feeding.{is_new}
 use Rattle.law_choices.proofs.IndependentLemmas.Given.{same_name}
 use Rattle.law_choices.proofs.IndependentLemmas.Ours.{with_body, ours, same_ours}
 use Rattle.law_choices.proofs.IndependentLemmas.Fed.{Feeds, fed}
 use Rattle.law_choices.proofs.IndependentLemmas.Fed as parts
-use Rattle.law_choices.proofs.DependingLemmas.Names.{NameEnds, PlaceEnds, Sees, no_rows}
-use Rattle.law_choices.proofs.DependingLemmas.DefinitionLaws.{Around, lasts_in}
-use Rattle.law_choices.proofs.DependingLemmas.BlockLaws.{block_ends}
+use Rattle.law_choices.proofs.DependingLemmas.Names.{NameEnds, PlaceEnds, no_rows}
+use Rattle.law_choices.proofs.DependingLemmas.BodyLaws.{place_ends}
 
 module _ (types : List TypeDecl) (outputs : List ℕ → List (List ℕ)) (fill : Place → Value) where
   -- there are no rows behind those of the equations
@@ -36,14 +34,13 @@ module _ (types : List TypeDecl) (outputs : List ℕ → List (List ℕ)) (fill 
     abbrev N : Node
     N = with_body n ds es
 
-    -- the input under x loops, and stands at its place
-    abbrev pub loops : List ℕ → Bool
+    abbrev loops : List ℕ → Bool
     loops z = bytes_eq x z
 
-    abbrev pub away : Place → Type 0
+    abbrev away : Place → Type 0
     away p = px ≡ p → ⊥
 
-    abbrev pub Ending : FlatName → Type 0
+    abbrev Ending : FlatName → Type 0
     Ending a = NameEnds types outputs fill N loops away a
 
     abbrev EndingPlace : Place → Type 0
@@ -54,38 +51,6 @@ module _ (types : List TypeDecl) (outputs : List ℕ → List (List ℕ)) (fill 
 
     abbrev node_lasts : Scope
     node_lasts = lasts_at types n.outputs (λ z. Nowhere) in_body always []
-
-    nowhere_ends : Ending Nowhere
-    nowhere_ends = no_rows types outputs fill N loops away Nowhere refl
-
-    -- ---- places
-
-    given_ends : (z : List ℕ) (t : Bool) → bytes_eq x z ≡ t → Within EndingPlace (given_in N z) → Ending (Input z)
-    given_ends z true e h =
-        let at : Within EndingPlace (only px) = subst (Within EndingPlace) f.placed (subst (λ w. Within EndingPlace (given_in N w)) (sym (same_name x z e)) h) in
-        absurd (at.1 refl)
-    given_ends z false e h = no_rows types outputs fill N loops away (Input z) (ap (λ t. if t then Some (copies always [] (Input z) ∷ []) else None) e)
-
-    node_sees : Sees types outputs fill N loops away (given_in N) (node_scope N)
-    node_sees z h = by (declares n.inputs z || declares (controls_of n.contract) z)
-      where
-        by : (d : Bool) → Ending (if d then Input z else Nowhere)
-        by true = given_ends z (bytes_eq x z) refl h
-        by false = nowhere_ends
-
-    around_node : Around types outputs fill N loops away (given_in N) (node_scope N) node_lasts always []
-    around_node = record {
-      sees = node_sees;
-      lasts = lasts_in types outputs fill N loops away n.outputs (λ z. Nowhere) in_body always [] (λ z. nowhere_ends) tt tt;
-      clock = tt;
-      restart = tt;
-    }
-
-    -- a place of the body ends where its sources do
-    place_ends : (p : Place) → Within EndingPlace (sources_with_inputs N (BodyOf ∷ p)) → Ending (At (BodyOf ∷ p))
-    place_ends p h =
-        block_ends types outputs fill N loops away (block ds es) (given_in N) (node_scope N) node_lasts (under_step BodyOf only) in_body always []
-        (λ z. on_base (declares n.inputs z || (declares n.outputs z || declares (controls_of n.contract) z))) around_node (λ q u. u.0) (λ q. refl) right.body p h
 
     -- ---- by ranks of the fed node, below that of x
 
@@ -151,7 +116,7 @@ module _ (types : List TypeDecl) (outputs : List ℕ → List (List ℕ)) (fill 
         let falls : Within (λ q. ranked.rank q < m) (moved (parts.read_as n ds es x y px f) (sources_with_inputs N (BodyOf ∷ p))) =
         subst (Within (λ q. ranked.rank q < m)) (parts.body_sources n ds es x y px f p (parts.old_of n ds es x y px f p k)) (ranked.falls (BodyOf ∷ p)) in
         let done : Done m = λ q g l. ranked_end bound q g (omega (arith, l, lt)) (omega (arith, l, le)) in
-        place_ends p (subst (Within EndingPlace) (same_ours n ds es p) (sources_end m le done (sources_with_inputs N (BodyOf ∷ p)) falls))
+        place_ends types outputs fill n ds es x px f.placed right p (subst (Within EndingPlace) (same_ours n ds es p) (sources_end m le done (sources_with_inputs N (BodyOf ∷ p)) falls))
 
     -- so y, which x reads in the fed node, has no chain to what is given under x
     pub y_ends : Ending (At Y)

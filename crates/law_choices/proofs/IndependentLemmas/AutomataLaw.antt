@@ -35,7 +35,7 @@ use Rattle.law_choices.proofs.IndependentLemmas.FedRanks.{fed_ranked}
 
 module _ (enums : Enumerations) where
   -- without automata the body defines the same names of the program
-  same_defined : (n : Node) (ds : List Decl) (es : Eqns) → BlockOk none_known 0 (block ds es) → (z : List ℕ) → IsOld z → some_defines (low_eqns enums n ds es) z ≡ some_defines es z
+  pub same_defined : (n : Node) (ds : List Decl) (es : Eqns) → BlockOk none_known 0 (block ds es) → (z : List ℕ) → IsOld z → some_defines (low_eqns enums n ds es) z ≡ some_defines es z
   same_defined n ds es ok z o = made_defines enums (types_of n) n.span around z o ∙ no_more (some_defines es z)
     where
       around : RightAround none_known 0 same_name [] (block ds es) (λ y. None) (λ y. None)
@@ -46,7 +46,7 @@ module _ (enums : Enumerations) where
       no_more false = refl
 
   -- what is given stays where it is
-  same_given : (n : Node) (z : List ℕ) → given_in (lowered_node enums n) z ≡ given_in n z
+  pub same_given : (n : Node) (z : List ℕ) → given_in (lowered_node enums n) z ≡ given_in n z
   same_given n z = ap (λ cs. row_in cs (below Controls only) (input_in n only) z) (controls_same enums (types_of n) n.contract)
 
 locals_old : (outer : Known) (es : Eqns) (ds : List Decl) → DeclsOk outer es ds → (z : List ℕ) → declares ds z ≡ true → IsOld z

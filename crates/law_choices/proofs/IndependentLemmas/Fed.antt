@@ -127,7 +127,7 @@ module _ (n : Node) (ds : List Decl) (es : Eqns) (x y : List ℕ) (px : Place) (
   controls = control_in (controls_of (option_map bare n.contract)) (below Controls only)
 
   -- the names that the body of the fed node reads
-  abbrev names : NameSources
+  abbrev pub names : NameSources
   names = names_in (with_eqn es (feed n.span x y)) controls (below Body only)
 
   same_controls : (z : List ℕ) → control_in (controls_of n.contract) (below Controls only) z ≡ controls z
@@ -184,7 +184,7 @@ module _ (n : Node) (ds : List Decl) (es : Eqns) (x y : List ℕ) (px : Place) (
   body_sources p old = stays p old ∙ sym (moved_side p)
 
   -- y is read as its place
-  y_read : names y ≡ only Y
+  pub y_read : names y ≡ only Y
   y_read = ap (λ t. if t then only Y else controls y) (defines_with es (feed n.span x y) y) ∙ if_so (some_defines es y || (bytes_eq x y || false)) (only Y) (controls y) (ap (λ t. t || (bytes_eq x y || false)) f.defined)
 
   -- x, and the new equation, read y.
