@@ -10,3 +10,4 @@ pub mod Slots
 pub mod Absent
 pub mod Values
 pub mod Named
+pub mod Standing
