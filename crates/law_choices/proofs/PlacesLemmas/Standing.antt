@@ -9,19 +9,16 @@ use Rattle.hp_tree.specs.declared.expr.Op2.{Op2}
 use Rattle.hp_tree.specs.Operators.{is_comparison}
 use Rattle.hp_tree.specs.Expressions.{Expr, constant, variable, last_of, one, two, choose, pre, fby, arrow, when_is, merge, call, Exprs, no_expr, more_exprs, Parts, no_part, more_parts}
 use Rattle.hp_tree.specs.Blocks.{Block, block, Eqns, no_eqn, more_eqns, Eqn, define, switch, reset, automaton, Arms, no_arm, more_arms}
-use Rattle.hp_tree.specs.Programs.{Node}
 use Rattle.hp_tree.specs.Instant.{Body, Equations, Head, Tail, Right as RightOf, Test, Arms as ArmsOf, First, Second, Third, Args, Place}
 use Rattle.hp_flat.specs.Equations.{Right, operator, register, called, FlatEqn}
-use Rattle.hp_automata.specs.Lowering.{Enumerations, lowered_node}
+use Rattle.hp_automata.specs.Lowering.{lowered_node}
 use Rattle.law_automata.specs.Lowered.Standing.{Along}
 use Rattle.law_equations.specs.Flattened.Flatten.{FlatName, Prefix, ats, below, constant_in, is_false}
 use Rattle.law_equations.specs.Flattened.Lifted.{in_body}
 use Rattle.law_equations.specs.Made.Labels.{AreMadeAt, Label, arms_labels, block_labels, comparison, compares_or_calls, eqn_labels, eqns_labels, expr_labels, exprs_labels, parts_labels, with_comparison}
 use Rattle.law_equations.specs.Made.Labels as made
-use Rattle.law_equations.specs.Made.Making.{Known}
 use Rattle.hp_watch.specs.Walk.{compares, events_from, is_event, walk_block}
-use Rattle.law_choices.specs.Places.Found.{found_in_node}
-use Rattle.law_choices.specs.Places.Laws.{AreMadeOf, IsEventOf, KnowsOutputs, events, places_of}
+use Rattle.law_choices.specs.Places.Laws.{IsEventOf, events, places_of}
 use Rattle.law_choices.specs.Places.Spots.{Spot, compared, compared_spots, spots, spots_of_all, spots_of_arms, spots_of_block, spots_of_eqn, spots_of_eqns, spots_of_node, spots_of_parts}
 use Rattle.law_choices.specs.Places.Standing.{StandingLaw, StandsAtNumber, StandsForSpot}
 use Rattle.law_choices.proofs.PlacesLemmas.Events.{constant-none, events-are, false-none}

@@ -3,14 +3,12 @@ use Rattle.std.proofs.Common.{◌≡◌, ℕ, List, [], ◌∷◌, ◌++◌, rev
 use Rattle.std.specs.Prelude.{Some}
 use Rattle.std.specs.List.{AllByRecursion}
 use Rattle.hp_base.specs.Kinds.{KindData, AreOfKinds}
-use Rattle.hp_base.specs.declared.value.Value.{Value}
 use Rattle.hp_obc.specs.Form.{TypesForm}
 use Rattle.hp_tree.specs.declared.program.Item.{Item}
 use Rattle.hp_tree.specs.declared.program.Item.TheVariants.{TypeItem, NodeItem}
 use Rattle.hp_tree.specs.Programs.{Node}
 use Rattle.hp_tree.specs.Operators.{filled}
 use Rattle.hp_tree.specs.Values.{AreOf}
-use Rattle.hp_tree.specs.Instant.{Past}
 use Rattle.hp_tree.specs.Meaning.{types_of, node_among}
 use Rattle.hp_tree.specs.Reaction.{Each}
 use Rattle.hp_meaning.specs.Causal.OneReaction.{ReactionOf}
