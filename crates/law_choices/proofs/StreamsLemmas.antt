@@ -3,4 +3,5 @@ pub mod Signatures
 pub mod TypeKinds
 pub mod Streams
 pub mod Names
+pub mod Places
 pub mod Uncontrolled

@@ -1,4 +1,5 @@
 pub mod Alike
 pub mod Streams
 pub mod Names
+pub mod Places
 pub mod Uncontrolled

@@ -1,10 +1,11 @@
 //! Laws: the comparisons and calls among a node's equations, by their order, and how a walk over the tree finds them.
 //!
-//! The functions here do nothing: each is a law, which its contract states. What variable stands for which place is said of comparisons that have names alone.
+//! The functions here do nothing: each is a law, which its contract states.
 #![tactic(auto)]
 
 ghost use Rattle.law_choices.specs.Places.Laws.{CountLaw, EventsLaw, FoundLaw, SlotsLaw, WalkLaw};
 ghost use Rattle.law_choices.specs.Places.Named.{CopyLaw, NamedLaw};
+ghost use Rattle.law_choices.specs.Places.Standing.{StandingLaw};
 ghost use Rattle.law_choices.specs.Places.Values.{ValuesLaw};
 
 /// The equations of comparisons and calls that are made of a node without automata are those of its comparisons and calls, in turn: with that operator and one target, or with that callee and a target for each output.
@@ -33,4 +34,9 @@ pub fn found_places_keep_values()
 pub fn named_comparisons_are_copied()
     ensures named { NamedLaw }
     ensures copy { CopyLaw }
+{}
+
+/// Where the variables of what compares or calls stand for the places that its labels name, so do those of the equations that the walk finds.
+pub fn found_places_have_variables()
+    ensures { StandingLaw }
 {}

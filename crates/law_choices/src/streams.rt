@@ -5,6 +5,7 @@
 
 ghost use Rattle.law_choices.specs.Streams.Alike.{AlikeLaw};
 ghost use Rattle.law_choices.specs.Streams.Names.{NamesLaw, TextNamesLaw};
+ghost use Rattle.law_choices.specs.Streams.Places.{PlacesLaw};
 ghost use Rattle.law_choices.specs.Streams.Streams.{StreamLaw, TextLaw};
 ghost use Rattle.law_choices.specs.Streams.Uncontrolled.{NoChoiceLaw, UncontrolledProgramLaw};
 
@@ -13,7 +14,8 @@ use crate::choosing::{
 };
 use crate::filled::ready_programs_have_one_filled_reaction;
 use crate::flat::{
-    chosen_nodes_answer, equations_answer_under_each_choice, equations_keep_names_under_each_choice,
+    chosen_nodes_answer, equations_answer_under_each_choice,
+    equations_keep_names_under_each_choice, equations_keep_places_under_each_choice,
 };
 use hp_meaning::causal::ranks_of_points;
 use law_automata::classed::removing_automata_keeps_classes;
@@ -52,6 +54,24 @@ pub fn meanings_give_the_chosen_reactions()
     chosen_nodes_answer();
     equations_answer_under_each_choice();
     equations_keep_names_under_each_choice();
+}
+
+/// In it the variables of what compares or calls stand for places of the program without automata, and outside of transitions they have the values that the comparisons and calls of the node have, wherever these are there and not Nil.
+pub fn meanings_keep_places()
+    ensures { PlacesLaw }
+{
+    removing_automata_keeps_classes();
+    programs_with_classes_are_accepted();
+    ranks_of_points();
+    ranks_are_kept();
+    targets_differ();
+    calls_are_kept();
+    chosen_nodes_have_one_reaction();
+    nodes_have_one_reaction();
+    ready_programs_have_one_filled_reaction();
+    chosen_nodes_answer();
+    equations_answer_under_each_choice();
+    equations_keep_places_under_each_choice();
 }
 
 /// Where a program has no controllable variable, the one meaning under a choice is the one meaning without choices; and that nothing is chosen is a choice.

@@ -18,6 +18,7 @@ use Rattle.law_equations.specs.Flattened.Lifted.{in_body}
 use Rattle.law_equations.specs.Flattened.Behaves.{EachCallIn}
 use Rattle.law_equations.specs.Flattened.Numbered.{AreEquationsFor}
 use Rattle.law_equations.specs.Made.Keeping.{NodeKeeps, IsKept}
+use Rattle.law_equations.specs.Made.Labels.{AreMadeAt, block_labels, events}
 use Rattle.law_equations.specs.Made.Making.{Known, outputs_of}
 use Rattle.law_equations.specs.Made.Standing.{Knows}
 use Rattle.law_equations.specs.Made.Blocks.{DeclaredOnce, IsPlain, ArePlain, OnePlain, ArmsPlain}
@@ -29,7 +30,7 @@ use Rattle.law_equations.proofs.AnsweredLemmas.FlatCallLaws.{flatten_same}
 use Rattle.law_choices.specs.Choosing.Choices.{Choices}
 use Rattle.law_choices.specs.Runs.Chosen.{chosen_nodes}
 use Rattle.law_choices.proofs.RunsLemmas.Chosen.{outputs_alike}
-use Rattle.law_equations.proofs.MadeLemmas.MadeLaw.{NamesStand, stands-kept}
+use Rattle.law_equations.proofs.MadeLemmas.MadeLaw.{NamesStand, stands-placed}
 use Rattle.law_choices.specs.Flat.Answering.{chosen_filled}
 use Rattle.law_choices.proofs.FlatLemmas.Behave.{outputs_behind}
 
@@ -64,16 +65,17 @@ mutual
   lowered_arms no_arm h = tt
   lowered_arms (more_arms c b s arms) h = (lowered_block b h.0, lowered_arms arms h.1)
 
--- Where the remembered names of a node are of K, so are those that variables stand for. The variables of the names of the body stand for these.
+-- Where the remembered names of a node are of K, so are those that variables stand for. The variables of the names of the body stand for these, and those of what compares or calls for the places of that.
 pub stands_flat : (K : FlatName → Type 0) (choices : Choices) (program : List Item) (fills : List ℕ → Place → Value) (k : Known) → AreApart (reverse program) → Knows (types_of program) (filled_nodes program).outputs k
     → (later earlier : List Item) (n : Node) (flat : FlatNode) → IsMade program fills later earlier k n flat → NodeKeeps K (types_of program) (fills n.name) n
     → (means : ℕ → FlatName) × StandsFlat choices program fills later earlier n means flat × ((x : ℕ) → IsKept K (means x)) × NamesStand k n n.body means
+    × AreMadeAt means (events flat.eqns) (block_labels (filled_nodes program).outputs n.body in_body [])
 stands_flat K choices program fills k apart knows later earlier n flat is keeps =
     let types = types_of program in
     let whole = filled_nodes program in
     let chosen = chosen_filled choices program in
     let before = chosen_nodes choices types filled earlier in
-    let kept = stands-kept K types whole.outputs k (fills n.name) n flat knows is.ready keeps is.inputs is.outputs is.equations in
+    let kept = stands-placed K types whole.outputs k (fills n.name) n flat knows is.ready keeps is.inputs is.outputs is.equations in
     let s = kept.0 in
     let split : reverse program ≡ (later ++ NodeItem n ∷ []) ++ earlier = is.stands ∙ sym (append_assoc later (NodeItem n ∷ []) earlier) in
     let alike : (f : List ℕ) → whole.outputs f ≡ chosen.outputs f = λ f. sym (outputs_alike choices types filled (reverse program) f) in
@@ -99,4 +101,5 @@ stands_flat K choices program fills k apart knows later earlier n flat is keeps 
       },
       kept.1,
       kept.2,
+      kept.3,
     )

@@ -64,6 +64,7 @@ use Rattle.law_choices.specs.Runs.Laws.{ChoosesValues}
 use Rattle.law_choices.specs.Flat.Answering.{chosen_filled, AnsweringUnder, ControlsDiffer}
 use Rattle.law_choices.specs.Flat.Laws.{EquationsAnswerLaw}
 use Rattle.law_choices.specs.Flat.Names.{values_of, values_at, ReadsNames, NamesLaw}
+use Rattle.law_choices.specs.Flat.Places.{PlacesLaw, ReadsPlaces, values_in}
 use Rattle.law_choices.proofs.FlatLemmas.Behave.{outputs_answered, outputs_here, instant_here, behave}
 use Rattle.law_choices.proofs.FlatLemmas.Values.{steered_fits, callees}
 use Rattle.law_choices.proofs.FlatLemmas.Among.{Accepted, accepted_at, tested_at, ranked_at, each_at, given_at, among_behind, has_among}
@@ -152,16 +153,21 @@ module _ (choice : Choice) (n : Node) (fill : Instant) (said : List Value → Gi
 
 -- ---- names
 
--- A variable that stands for a name of the body has its values.
+-- A variable that stands for a place has the values of the place.
+placed_values : (means : ℕ → FlatName) (n : Node) (v : ℕ) (p : Place) → means v ≡ At p → (said : List Value → Given → Instant → Instant) (inputs : List (List Value)) (frees : List Instant) (past : Past) → Reacts said inputs frees past
+    → values_at v (map (numbered means) (lifts n inputs frees past)) ≡ values_in p past
+placed_values means n v p e said [] [] [] r = refl
+placed_values means n v p e said [] [] (now ∷ past) r = absurd r
+placed_values means n v p e said [] (free ∷ frees) past r = absurd r
+placed_values means n v p e said (vs ∷ inputs) [] past r = absurd r
+placed_values means n v p e said (vs ∷ inputs) (free ∷ frees) [] r = absurd r
+placed_values means n v p e said (vs ∷ inputs) (free ∷ frees) (now ∷ past) r =
+    ap₂ (λ (w : Value) (ws : List Value). w ∷ ws) (ap (lifted (lifts n inputs frees past) (inputs_of n vs free) free now) e) (placed_values means n v p e said inputs frees past r.0)
+
+-- so has one that stands for a name of the body
 named_values : (means : ℕ → FlatName) (n : Node) (v : ℕ) (x : List ℕ) → means v ≡ body_name x → (said : List Value → Given → Instant → Instant) (inputs : List (List Value)) (frees : List Instant) (past : Past) → Reacts said inputs frees past
     → values_at v (map (numbered means) (lifts n inputs frees past)) ≡ values_of x past
-named_values means n v x e said [] [] [] r = refl
-named_values means n v x e said [] [] (now ∷ past) r = absurd r
-named_values means n v x e said [] (free ∷ frees) past r = absurd r
-named_values means n v x e said (vs ∷ inputs) [] past r = absurd r
-named_values means n v x e said (vs ∷ inputs) (free ∷ frees) [] r = absurd r
-named_values means n v x e said (vs ∷ inputs) (free ∷ frees) (now ∷ past) r =
-    ap₂ (λ (w : Value) (ws : List Value). w ∷ ws) (ap (lifted (lifts n inputs frees past) (inputs_of n vs free) free now) e) (named_values means n v x e said inputs frees past r.0)
+named_values means n v x e said inputs frees past r = placed_values means n v (Body ∷ Named x ∷ []) e said inputs frees past r
 
 -- ---- the law
 
@@ -337,6 +343,16 @@ module _ (choices : Choices) (program : List Item) (class : Classing) (fills : L
             record { variable = its.0; is_its = its.1; values = named_values means n its.0 x its.2 Said inputs (steered_each choice n fill inputs past) past reaction_here };
       }
 
+  reads_places : flat.name ≡ n.name → (inputs : List (List Value)) (past : Past) → Each (AreOf types n.inputs) inputs → ReactionOf (chosen_meaning choices filled program n.name) inputs (given_each fill inputs) past
+      → ReadsPlaces choices answers means flat inputs past
+  reads_places name_is inputs past of_types reaction =
+      let reaction_here = reacts inputs past reaction in
+      record {
+        instants = map (numbered means) (lifted_each inputs past);
+        reaction = read_reaction name_is inputs past of_types reaction_here;
+        values = λ v p e. placed_values means n v p e Said inputs (steered_each choice n fill inputs past) past reaction_here;
+      }
+
   answered_on : flat.name ≡ n.name → (args : List Value) (before : List (List Value)) (past : Past) → Each (AreOf types n.inputs) (args ∷ before)
       → ReactionOf (chosen_meaning choices filled program n.name) (args ∷ before) (given_each fill (args ∷ before)) past → GivesAnswer choices answers flat args before
   answered_on name_is args before [] of_types reaction = absurd reaction
@@ -368,3 +384,15 @@ names_read choices program class fills k ok ranked apart fit distinct are_tested
     let fill = fills n.name in
     let m = stands_flat (λ a. IsRemembered types fill n a) choices program fills k apart knows later earlier n flat is (keeps types fill n is.ready.plain is.ready.outputs) in
     reads choices program class fills answers ok ranked apart fit distinct are_tested values answer_is later earlier n m.0 flat m.1 m.2 (begins k fill n is.ready) differ k m.3 name_is inputs past of_types reaction
+
+pub places_read : PlacesLaw
+places_read choices program class fills k ok ranked apart fit distinct are_tested knows values answers answer_is later earlier n flat is name_is differ =
+    let types = types_of program in
+    let fill = fills n.name in
+    let m = stands_flat (λ a. IsRemembered types fill n a) choices program fills k apart knows later earlier n flat is (keeps types fill n is.ready.plain is.ready.outputs) in
+    record {
+      means = m.0;
+      labelled = m.4;
+      read = λ inputs past of_types reaction.
+          reads_places choices program class fills answers ok ranked apart fit distinct are_tested values answer_is later earlier n m.0 flat m.1 m.2 (begins k fill n is.ready) differ name_is inputs past of_types reaction;
+    }

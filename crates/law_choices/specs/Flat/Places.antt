@@ -1,0 +1,58 @@
+-- The places of a node in its clocked equations: a variable that stands for a place has the values of the place.
+-- Source: own.
+use Rattle.std.specs.Prelude.{◌≡◌, ℕ, List, [], map, reverse}
+use Rattle.hp_base.specs.declared.value.Value.{Value}
+use Rattle.hp_tree.specs.declared.program.Item.{Item}
+use Rattle.hp_tree.specs.Programs.{Node}
+use Rattle.hp_tree.specs.Values.{AreOf}
+use Rattle.hp_tree.specs.Operators.{filled}
+use Rattle.hp_tree.specs.Instant as tree
+use Rattle.hp_tree.specs.Instant.{Place, Past}
+use Rattle.hp_tree.specs.Meaning.{types_of}
+use Rattle.hp_tree.specs.Reaction.{Each}
+use Rattle.hp_meaning.specs.Causal.Causality.{IsRanked}
+use Rattle.hp_meaning.specs.Causal.OneReaction.{ReactionOf}
+use Rattle.law_judged.specs.Named.Scoped.{EachNode}
+use Rattle.law_values.specs.Valued.Values.{Classing, AreAccepted}
+use Rattle.hp_flat.specs.Nodes.{FlatNode}
+use Rattle.law_equations.specs.Flattened.Flatten.{FlatName, At}
+use Rattle.law_equations.specs.Flattened.Lifted.{in_body}
+use Rattle.law_equations.specs.Meaning.Instants.{Instant}
+use Rattle.law_equations.specs.Meaning.Reactions.{Answers}
+use Rattle.law_equations.specs.Made.Labels.{AreMadeAt, block_labels, events}
+use Rattle.law_equations.specs.Made.Making.{Known}
+use Rattle.law_equations.specs.Made.Standing.{Knows}
+use Rattle.law_equations.specs.Answered.Answering.{given_each, filled_nodes, AreApart}
+use Rattle.law_equations.specs.Answered.Laws.{IsMade}
+use Rattle.law_wellmade.specs.Timely.Laws.{FillsFit}
+use Rattle.law_wellmade.specs.Timely.Tested.{ConstructorsDiffer, AreTested}
+use Rattle.law_choices.specs.Choosing.Choices.{Choices, ReactionUnder}
+use Rattle.law_choices.specs.Runs.Chosen.{chosen_meaning}
+use Rattle.law_choices.specs.Runs.Laws.{ChoosesValues}
+use Rattle.law_choices.specs.Flat.Answering.{AnsweringUnder, ControlsDiffer}
+use Rattle.law_choices.specs.Flat.Names.{values_at}
+
+-- the values at a place, newest first
+abbrev pub values_in : Place → Past → List Value
+values_in p past = map (λ (i : tree.Instant). i p) past
+
+-- Clocked equations have a reaction with the chosen values in which each variable that stands for a place has the values that the place has in some instants of the node.
+pub record ReadsPlaces (choices : Choices) (answers : Answers) (means : ℕ → FlatName) (flat : FlatNode) (inputs : List (List Value)) (past : Past) : Type 0 where
+  pub instants : List Instant
+  pub reaction : ReactionUnder choices answers flat inputs instants
+  pub values : (v : ℕ) (p : Place) → means v ≡ At p → values_at v instants ≡ values_in p past
+
+-- What the variables of clocked equations stand for: those of the equations that compare or call stand for the places of these, and where an instance has inputs of the types, variables that stand for places have their values.
+pub record StandInPlaces (choices : Choices) (answers : Answers) (program : List Item) (fill : tree.Instant) (n : Node) (flat : FlatNode) : Type 0 where
+  pub means : ℕ → FlatName
+  pub labelled : AreMadeAt means (events flat.eqns) (block_labels (filled_nodes program).outputs n.body in_body [])
+  pub read : (inputs : List (List Value)) (past : Past) → Each (AreOf (types_of program) n.inputs) inputs → ReactionOf (chosen_meaning choices filled program n.name) inputs (given_each fill inputs) past → ReadsPlaces choices answers means flat inputs past
+
+-- In an accepted program without automata, whose nodes choose values of the types, so it is of the clocked equations that are made of a node.
+abbrev pub PlacesLaw : Type 0
+PlacesLaw =
+    (choices : Choices) (program : List Item) (class : Classing) (fills : List ℕ → Place → Value) (k : Known) → AreAccepted (types_of program) class (reverse program) → IsRanked program → AreApart (reverse program)
+    → FillsFit program fills → ConstructorsDiffer (types_of program) → AreTested (types_of program) (reverse program) → Knows (types_of program) (filled_nodes program).outputs k
+    → EachNode (ChoosesValues (types_of program) choices) (reverse program) → (answers : Answers) → AnsweringUnder choices program fills answers
+    → (later earlier : List Item) (n : Node) (flat : FlatNode) → IsMade program fills later earlier k n flat → flat.name ≡ n.name → ControlsDiffer n
+    → StandInPlaces choices answers program (fills n.name) n flat
