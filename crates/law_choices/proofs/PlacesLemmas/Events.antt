@@ -31,7 +31,7 @@ as-spots : (d e : Sketch) (ss ts : List Spot) → ss ≡ ts → Adds d e ss → 
 as-spots d e ss ts h a = subst (Adds d e) h a
 
 -- a constant has no events
-constant-none : (outputs : List ℕ → List (List ℕ)) (e : Expr) (c : Const) (here : Prefix) → constant_in e ≡ Some c → spots outputs e here ≡ []
+pub constant-none : (outputs : List ℕ → List (List ℕ)) (e : Expr) (c : Const) (here : Prefix) → constant_in e ≡ Some c → spots outputs e here ≡ []
 constant-none outputs (constant s x) c here h = refl
 constant-none outputs (variable s x) c here h = absurd cc
 constant-none outputs (last_of s x) c here h = absurd cc
@@ -45,7 +45,7 @@ constant-none outputs (when_is s a e x) c here h = absurd cc
 constant-none outputs (merge s x ps) c here h = absurd cc
 constant-none outputs (call s f inlined es) c here h = absurd cc
 
-false-none : (outputs : List ℕ → List (List ℕ)) (e : Expr) (here : Prefix) → is_false e ≡ true → spots outputs e here ≡ []
+pub false-none : (outputs : List ℕ → List (List ℕ)) (e : Expr) (here : Prefix) → is_false e ≡ true → spots outputs e here ≡ []
 false-none outputs (constant s x) here h = refl
 false-none outputs (variable s x) here h = absurd cc
 false-none outputs (last_of s x) here h = absurd cc

@@ -92,7 +92,7 @@ values_under x (i ∷ past) (j ∷ other) u = (u.0 (Body ∷ Named x ∷ []), va
 
 -- ---- the nodes of a program without automata
 
-some_same : {A : Type 0} (a b : A) → Some a ≡ Some b → a ≡ b
+pub some_same : {A : Type 0} (a b : A) → Some a ≡ Some b → a ≡ b
 some_same a b e = cc
 
 module _ (choices : Choices) (program : List Item) (p : Prepared choices program) (answers : Answers) where
