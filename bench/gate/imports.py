@@ -1,5 +1,5 @@
 #!/usr/bin/env python3
-"""Says which crates import from crates that their line in crates.txt does not name, and which of these lines name what no file of the crate cites: `rt` walks each path from a crate down, so each such name costs all that stands above. And it says which lemmas a crate takes from a file that another keeps to itself, or that are not public there. Run it at the top of a clone: it takes some seconds. Its status is 1 where a name is lacking or private; the gate finds that after minutes. A line that changes has its crate, and all above, proved anew: for the first minutes of a day."""
+"""Says which crates import from crates that their line in crates.txt does not name, and which of these lines name what no file of the crate cites: `rt` walks each path from a crate down, so each such name costs all that stands above. And it says which lemmas a file takes that are not public where they stand, or from a file that another crate keeps to itself. Run it at the top of a clone: it takes some seconds. Its status is 1 where a name is lacking or private; the gate finds that after minutes. A line that changes has its crate, and all above, proved anew: for the first minutes of a day."""
 import functools
 import glob
 import os
@@ -26,6 +26,8 @@ def public_in(path):
     found = set(re.findall(rf'^\s*(?:abbrev |unfoldable )*pub (?:abbrev |unfoldable |record |data |mod )*({WORD})', text, re.M))
     for names in re.findall(r'^pub use [\w.]+\.\{([^}]*)\}', text, re.M):
         found.update(name.split(' as ')[-1].strip() for name in names.split(','))
+    for block in re.findall(r'^( *)pub data .* where\n((?:\1 .*\n|\n)+)', text, re.M):
+        found.update(re.findall(rf'^ *({WORD}) :', block[1], re.M))
     for block in re.findall(r'^( *)(?:abbrev )?pub mutual\n((?:\1 .*\n|\n)+)', text, re.M):
         found.update(re.findall(rf'^ *(?:pub )?({WORD}) :', block[1], re.M))
     return found
@@ -38,17 +40,18 @@ def private_in(name):
         if '/out/' in path:
             continue
         for other, modules, names in LEMMAS.findall(text_of(path)):
-            if other == name:
-                continue
             at = f'crates/{other}/proofs'
             home = f'{at}/Lib.antt'
             for module in modules[1:].split('.'):
-                if f'pub mod {module}\n' not in f'{text_of(home)}\n':
+                if other != name and f'pub mod {module}\n' not in f'{text_of(home)}\n':
                     found.add(f'{path}: {other} keeps {module} to itself')
                     break
                 at = f'{at}/{module}'
                 home = f'{at}.antt'
             else:
+                if not os.path.exists(home) or path.startswith(f'{at}/'):
+                    # what stands below a file may name what it keeps to itself
+                    continue
                 lemmas = {it.split(' as ')[0].strip() for it in names.split(',') if it.strip()}
                 found.update(f'{path}: {lemma} is not public in {home}' for lemma in lemmas - public_in(home))
     return sorted(found)
