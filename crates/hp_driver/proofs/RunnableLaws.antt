@@ -36,6 +36,12 @@ pub are_map : (P Q : Obc → Type 0) → ((o : Obc) → P o → Q o) → (r : Re
 are_map P Q f (Ok x) h = f x.machines h
 are_map P Q f (Err s) h = tt
 
+-- the machine of the node of this name is among those where it goes on
+pub has_chosen : (ordered : List Item) (name : List ℕ) (n : Node) → node_among ordered name ≡ Some n → (o : Obc) (r : Result Runnable Status) → IfOk r (λ x. x.machines ≡ o) → IfOk r (λ x. IsChosen name o n) →
+    IfOk r (λ x. (m : Node) × (node_among ordered name ≡ Some m) × IsChosen name x.machines m)
+has_chosen ordered name n named o (Ok x) same is = (n, named, subst (λ (z : Obc). IsChosen name z n) (sym same) is)
+has_chosen ordered name n named o (Err s) same is = tt
+
 module _ (law : OutcomesLaw) (program ordered : List Item) (kept : AreKept ordered ordered) (node : List ℕ) where
   choosing_are : GreatestSaidLaw → has_controls program ≡ true → (o : Obc) → AreControlledMachines ordered o → (n : Node) × (node_among ordered node ≡ Some n) × IsChosen node o n → RunDecided node program ordered o
   choosing_are said some o machines found files file held same = (
