@@ -1,5 +1,6 @@
 -- No early bit of the node that is watched is a controllable variable.
 use Rattle.std.proofs.Common.{ℕ, zero, suc, ◌+◌, ◌<◌, ◌≤◌, Bool, true, false, if◌then◌else◌, List, [], ◌∷◌, ◌++◌, length, map, slice_get, Option, None, Some, arith}
+use Rattle.std.specs.Prelude.{⊤}
 use Rattle.std.specs.List.{AllByRecursion, flat_map, range_with_len}
 use Rattle.hp_base.specs.declared.value.Value.TheVariants.{B, E}
 use Rattle.hp_obc.specs.Machines.{ObcType}

@@ -1,5 +1,5 @@
 -- A worked node of which an early bit waits for the choice.
-use Rattle.std.proofs.Common.{◌≤◌, inr, length, refl, sym, ap, subst, arith}
+use Rattle.std.proofs.Common.{◌≤◌, inr, List, [], ◌∷◌, length, refl, sym, ap, subst, arith}
 use Rattle.hp_boolx.specs.Machine.{Machine}
 use Rattle.law_equations.specs.Meaning.Scheduling.{IsWithin}
 use Rattle.law_choices.specs.Adding.Worked.{free_node, handed_on}
