@@ -3,6 +3,8 @@ use Rattle.std.proofs.Common.{◌≡◌, ℕ, Bool, true, false, ◌||◌, List,
 use Rattle.hp_compile.proofs.FormLaws.{formed}
 use Rattle.hp_compile.specs.Arranged.{IsArranged}
 use Rattle.hp_compile.specs.Judged.{IsJudged}
+use Rattle.hp_controlled.specs.Lacking.{HasNoChosenMachines}
+use Rattle.hp_driver.specs.Compiled.{IsNotBuilt}
 use Rattle.hp_driver.specs.Controls.{some_variable, has_controls}
 use Rattle.hp_driver.specs.Texts.{IsPlainText}
 use Rattle.hp_machines.specs.NotBuilt.{HasNoMachines}
@@ -11,6 +13,8 @@ use Rattle.hp_tree.specs.Blocks.{Decl}
 use Rattle.hp_tree.specs.Meaning.{controls_of}
 use Rattle.hp_tree.specs.declared.program.Item.{Item}
 use Rattle.hp_tree.specs.declared.program.Item.TheVariants.{TypeItem, NodeItem}
+use Rattle.hp_verdicts.specs.Decided.{AreKept}
+use Rattle.law_controlled.specs.Remaining.{RemainingLaw}
 use Rattle.law_decided.specs.Laws.{IsAcceptedText}
 use Rattle.law_history.specs.Streams.Texts.{BuiltLaw, IsAccepted}
 
@@ -25,6 +29,15 @@ accepted_by text program ordered ranks judged arranged = record {
   initialised = arranged.initialised;
   clocks = arranged.clocks;
   fall = arranged.ordered;
+}
+
+-- Where machines that choose are not made, and contracts are kept, an early bit waits for the choice.
+pub is_not_built : RemainingLaw → (text : List ℕ) (program ordered : List Item) (ranks : List (List ℕ)) (judged : IsJudged text program) → IsArranged program ordered ranks → AreKept ordered ordered → HasNoChosenMachines ordered → IsNotBuilt ordered
+is_not_built law text program ordered ranks judged arranged kept lacks = record {
+  lacks = lacks;
+  remaining =
+      law text judged.program_of.tokens program ordered ranks judged.program_of.spelled judged.program_of.read judged.named judged.typed judged.defined (formed text program judged arranged.well_formed) arranged.initialised arranged.clocks arranged.ordered
+      kept lacks;
 }
 
 -- ---- no controllable variables

@@ -346,8 +346,8 @@ module _ (words : List (List ℕ)) (files left : Files) (input : List ℕ) where
         let same = untouched words files left 1 leaves f g (inl (λ k. omega (arith, k))) in at_left files [] line 1 same (Does.refused cause w gives unheld causes)
     ended log line status (Outcome.contract_refused {file = x} {program = p} cause over held some differs refuses) h leaves e f g =
         first_refused (untouched words files left 1 leaves f g (inl (λ k. omega (arith, k)))) x p cause over held differs refuses
-    ended log line status (Outcome.not_built {file = x} {program = p} asks held kept) h leaves e f g =
-        let same = untouched words files left 1 leaves f g (inl (λ k. omega (arith, k))) in at_left files [] line 1 same (Does.not_built (program_of files x p held) asks kept.safe)
+    ended log line status (Outcome.not_built {file = x} {program = p} asks held kept why) h leaves e f g =
+        let same = untouched words files left 1 leaves f g (inl (λ k. omega (arith, k))) in at_left files [] line 1 same (Does.not_built (program_of files x p held) asks kept.safe why.remaining)
     ended log line status (Outcome.no_node_to_run {file = x} {name = y} {program = p} asks held kept unnamed) h leaves e f g =
         no_node_to_run (untouched words files left 1 leaves f g (inl (λ k. omega (arith, k)))) x y p asks held kept.safe unnamed
     ended log line status (Outcome.chosen_too_large {file = x} {o = o} limit chosen asks for passed) h leaves e f g =

@@ -111,4 +111,4 @@ contract_refused cause out words files file text w gives (IsNotCompiled.contract
 
 pub not_built : Uncompiled NotBuilt not_built_line 1
 not_built out words files file text w gives (IsNotCompiled.not_built {program = program} {ordered = ordered} found kept some lacks) =
-    Outcome.not_built (AsksToChoose.to_compile w some) (held_by text files file gives program ordered found) kept
+    Outcome.not_built (AsksToChoose.to_compile w some) (held_by text files file gives program ordered found) kept lacks

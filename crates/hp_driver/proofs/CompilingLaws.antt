@@ -11,7 +11,7 @@ use Rattle.hp_controlled.specs.Among.{FormLaw}
 use Rattle.hp_controlled.specs.Joining.{SameLaw}
 use Rattle.hp_controlled.specs.declared.error.ControlledErr.{ControlledErr}
 use Rattle.hp_controlled.specs.declared.error.ControlledErr.TheVariants as controlled
-use Rattle.hp_driver.proofs.AcceptedLaws.{accepted_by, accepted_plain}
+use Rattle.hp_driver.proofs.AcceptedLaws.{accepted_by, accepted_plain, is_not_built}
 use Rattle.hp_driver.proofs.OwnLaws.{run_nodes}
 use Rattle.hp_driver.specs.Compiled.{AreMachinesFor, HasCircuit, IsCompiled, IsFound, IsNotCompiled, RunNodes}
 use Rattle.hp_driver.specs.Controls.{has_controls}
@@ -23,6 +23,7 @@ use Rattle.hp_verdicts.specs.Decided.{AreKept, Refuses}
 use Rattle.hp_verdicts.specs.declared.error.ContractErr.{ContractErr}
 use Rattle.hp_verdicts.specs.declared.error.ContractErr.TheVariants as contract
 use Rattle.law_controlled.specs.Greatest.{AllSayGreatest}
+use Rattle.law_controlled.specs.Remaining.{RemainingLaw}
 use Rattle.law_controlled.specs.Said.{GreatestSaidLaw}
 use Rattle.law_decided.specs.Outcomes.{AreKeptInGames, AreSaid, OutcomesLaw}
 use Rattle.law_history.specs.Streams.Texts.{BuiltLaw, TextLaw}
@@ -58,9 +59,10 @@ module _ (text : List ℕ) (program ordered : List Item) (found : IsFound text p
   contract_refused_by law contract.NotBuilt refuses = IsNotCompiled.contract_refused found (λ e. absurd cc) ((said law).refused contract.NotBuilt refuses)
   contract_refused_by law contract.OutOfMemory refuses = IsNotCompiled.out_of_memory
 
-  pub not_built_by : OutcomesLaw → AreKept ordered ordered → (e : ControlledErr) → (e ≡ controlled.NotBuilt → (has_controls program ≡ true) × HasNoChosenMachines ordered) → IsNotCompiled text (of_controlled e)
-  not_built_by law kept controlled.NotBuilt some = IsNotCompiled.not_built found (in_games law kept) (some refl).0 (some refl).1
-  not_built_by law kept controlled.OutOfMemory some = IsNotCompiled.out_of_memory
+  pub not_built_by : OutcomesLaw → RemainingLaw → AreKept ordered ordered → (e : ControlledErr) → (e ≡ controlled.NotBuilt → (has_controls program ≡ true) × HasNoChosenMachines ordered) → IsNotCompiled text (of_controlled e)
+  not_built_by law remaining kept controlled.NotBuilt some =
+      IsNotCompiled.not_built found (in_games law kept) (some refl).0 (is_not_built remaining text program ordered found.ranks found.judged found.arranged kept (some refl).1)
+  not_built_by law remaining kept controlled.OutOfMemory some = IsNotCompiled.out_of_memory
 
   module _ (law : OutcomesLaw) (kept : AreKept ordered ordered) (text_law : TextLaw) (built : BuiltLaw) (form_law : FormLaw) (same_law : SameLaw) (said_law : GreatestSaidLaw) where
     runs_of : (o : Obc) → AreMachinesFor program ordered o → has_controls program ≡ false → RunNodes ordered o

@@ -38,7 +38,7 @@ use Rattle.hp_obc.specs.Steps.{Memory}
 use Rattle.hp_driver.specs.Asking.{AsksToChoose, AsksToRun, IsRunFor, run_words}
 use Rattle.hp_driver.specs.Checkpoints.{IsCheckpointOf, RefusesCheckpoint, memory_past}
 use Rattle.hp_obctext.specs.declared.memory.error.MemErr.{MemErr}
-use Rattle.hp_driver.specs.ClaimTerms.{Program, AllKept, IsFirst, Certifies, IsNoProof, IsUndecidable, IsTrace, DoesTheSame, Choose, IsOwnOf, IsTellerOf, Runs, Starts, IsReadAs, LacksFile}
+use Rattle.hp_driver.specs.ClaimTerms.{Program, AllKept, HasEarlyChoice, IsFirst, Certifies, IsNoProof, IsUndecidable, IsTrace, DoesTheSame, Choose, IsOwnOf, IsTellerOf, Runs, Starts, IsReadAs, LacksFile}
 
 -- The call answers with what is said, the line of diagnostics, the files that it leaves, and its status.
 module _ (words : List (List ℕ)) (files : Files) (input : List ℕ) where
@@ -75,8 +75,9 @@ module _ (words : List (List ℕ)) (files : Files) (input : List ℕ) where
     chosen_too_large : {file node name : List ℕ} {o : Obc} (limit : Limit) (p : Program files file) →
         AsksToRun words file node p.program → Choose p o → IsRunFor node name → IsPassed o name limit →
         Does [] (executor_line limit) files 1
+    -- or they are not made, since an early bit waits for the choice; no program has shown it
     not_built : {file : List ℕ} (p : Program files file) → AsksToChoose words file p.program → AllKept p →
-        Does [] not_built_line files 1
+        HasEarlyChoice p → Does [] not_built_line files 1
     -- 3. The first contract that is refused is lost: in its game the inputs force a violation within so many instants,
     -- and within no fewer. Behind the line stands its certificate, or that this is too long. Or it is undecidable.
     lost : {file behind : List ℕ} (n : Node) (instants : ℕ) (p : Program files file) → IsOverSource words file →

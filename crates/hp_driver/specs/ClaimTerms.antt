@@ -39,6 +39,7 @@ use Rattle.hp_driver.specs.declared.trace_limits.BadLine.{BadLine}
 use Rattle.hp_obc.specs.Steps.{Memory, machine_behaviour}
 use Rattle.hp_controlled.specs.Chosen.{IsChosen, IsToldBy}
 use Rattle.law_controlled.specs.Greatest.{AllSayGreatest}
+use Rattle.law_controlled.specs.Remaining.{Remaining}
 use Rattle.hp_driver.specs.Checkpoints.{IsCheckpointOf}
 use Rattle.hp_driver.specs.declared.telling.Ending.TheVariants.{Told, Kept}
 
@@ -56,6 +57,10 @@ pub record Program (files : Files) (file : List ℕ) : Type 0 where
 -- in the game of each of its contracts no violation is ever forced
 abbrev pub AllKept : {files : Files} {file : List ℕ} → Program files file → Type 0
 AllKept p = AllSafe p.clocked (reverse p.clocked)
+
+-- An early bit of a node depends at an instant on a controllable variable, which is chosen when the early bits are known.
+abbrev pub HasEarlyChoice : {files : Files} {file : List ℕ} → Program files file → Type 0
+HasEarlyChoice p = Remaining p.clocked
 
 -- Of the contracts of a program this is the first that is refused: those of the nodes before it are kept.
 abbrev pub IsFirst : List Item → Node → Type 0

@@ -17,6 +17,7 @@ use Rattle.hp_obc.specs.Machines.{Machine, Obc}
 use Rattle.hp_verdicts.specs.declared.error.ContractErr.{ContractErr}
 use Rattle.hp_verdicts.specs.declared.error.ContractErr.TheVariants as contract
 use Rattle.law_controlled.specs.Greatest.{AllSayGreatest}
+use Rattle.law_controlled.specs.Remaining.{Remaining}
 use Rattle.law_decided.specs.Outcomes.{AreKeptInGames, RefusesInGames}
 use Rattle.law_history.specs.Streams.Texts.{RunsNode}
 use Rattle.hp_driver.specs.Controls.{has_controls}
@@ -50,11 +51,16 @@ pub record IsCompiled (text : List ℕ) (o : Obc) : Type 0 where
   pub runs : has_controls program ≡ false → RunNodes ordered o
   pub says : has_controls program ≡ true → AllSayGreatest ordered o
 
--- Why it is not: it has no such program, for the first rule that it breaks; or a contract is refused, the first that is; or each contract is kept, and something is in the way of machines that choose. No program has shown the last.
+-- Machines that choose are not made of an arranged program, and this is why: an early bit of a node depends at an instant on a controllable variable, which is chosen when the early bits are known.
+pub record IsNotBuilt (ordered : List Item) : Type 0 where
+  pub lacks : HasNoChosenMachines ordered
+  pub remaining : Remaining ordered
+
+-- Why it is not: it has no such program, for the first rule that it breaks; or a contract is refused, the first that is; or each contract is kept, and machines that choose are not made. No program has shown the last.
 pub data IsNotCompiled (text : List ℕ) : CompileErr → Type 0 where
   refused : {cause : Refusal} → Causes text cause → HasNoProgram text → IsNotCompiled text (Refused cause)
   contract_refused : {cause : ContractErr} {program ordered : List Item} → IsFound text program ordered → cause ≢ contract.OutOfMemory → RefusesInGames ordered cause → IsNotCompiled text (Contract cause)
-  not_built : {program ordered : List Item} → IsFound text program ordered → AreKeptInGames ordered → has_controls program ≡ true → HasNoChosenMachines ordered → IsNotCompiled text NotBuilt
+  not_built : {program ordered : List Item} → IsFound text program ordered → AreKeptInGames ordered → has_controls program ≡ true → IsNotBuilt ordered → IsNotCompiled text NotBuilt
   out_of_memory : IsNotCompiled text OutOfMemory
 
 -- A contract is not refused because its circuit is not built.

@@ -28,7 +28,9 @@ use hp_io::{Console, Sink};
 use hp_native::{Answers, NativeExec};
 use hp_obc::Obc;
 use hp_tree::{Node, Program};
-use law_controlled::{machines_of_texts_choose_the_greatest, nodes_have_their_machines};
+use law_controlled::{
+    few_causes_are_left, machines_of_texts_choose_the_greatest, nodes_have_their_machines,
+};
 use std::alloc::{AllocError, Global};
 
 /// The name of the machine that also tells what the contract of a node assumes and enforces.
@@ -142,9 +144,10 @@ pub(crate) fn run_choosing<N: Answers, C: Console, E: Sink>(
     let Some(found) = node_named(ordered, node) else {
         return report_no_node(resources.alloc, diag, node);
     };
-    // Laws: each line that the machines say is one that the program allows; where nothing is free but inputs, with the greatest permitted values. And the node has a machine of its name.
+    // Laws: each line that the machines say is one that the program allows; where nothing is free but inputs, with the greatest permitted values. The node has a machine of its name. And where no machines are made, an early bit waits for the choice.
     machines_of_texts_choose_the_greatest();
     nodes_have_their_machines();
+    few_causes_are_left();
     match controlled_machines(resources.alloc, ordered) {
         Ok(machines) => run_node(resources, &machines, found, node, console, diag),
         Err(ControlledErr::NotBuilt) => report(diag, NOT_BUILT, Status::Refused),
@@ -219,9 +222,10 @@ pub(crate) fn tell_choosing<N: Answers, C: Console, E: Sink>(
     let Some(node) = node_named(ordered, name) else {
         return report_no_node(resources.alloc, diag, name);
     };
-    // Laws: each line that the machines say is one that the program allows; where nothing is free but inputs, with the greatest permitted values. And the node has a machine of its name, as has its contract.
+    // Laws: each line that the machines say is one that the program allows; where nothing is free but inputs, with the greatest permitted values. The node has a machine of its name, as has its contract. And where no machines are made, an early bit waits for the choice.
     machines_of_texts_choose_the_greatest();
     nodes_have_their_machines();
+    few_causes_are_left();
     match controlled_machines(resources.alloc, ordered) {
         Ok(machines) => tell_node(resources, &machines, node, name, console, diag),
         Err(ControlledErr::NotBuilt) => report(diag, NOT_BUILT, Status::Refused),

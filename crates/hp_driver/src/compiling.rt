@@ -21,7 +21,7 @@ use hp_machines::{MachineErr, machines};
 use hp_obc::Obc;
 use hp_tree::Program;
 use hp_verdicts::decide;
-use law_controlled::machines_of_texts_choose_the_greatest;
+use law_controlled::{few_causes_are_left, machines_of_texts_choose_the_greatest};
 use law_decided::outcomes_are_so;
 use law_history::streams::{machines_of_texts_are_built, machines_run_the_nodes_of_texts};
 use std::alloc::{AllocError, Global};
@@ -82,13 +82,14 @@ fn compile_ordered(alloc: Global, program: &Program, ordered: Ordered) -> Result
     ensures compiled { (text : List ℕ) → IsFound text program.now ordered.program → MatchResult result (IsCompiled text) (IsNotCompiled text) }
     ensures circuits { IfErr result HasCircuit }
 {
-    // Laws: what is found of contracts says so of their games; machines do what nodes do, also among those of contracts; and what machines say that choose, the program allows.
+    // Laws: what is found of contracts says so of their games; machines do what nodes do, also among those of contracts; what machines say that choose, the program allows; and where none are made that choose, an early bit waits for the choice.
     outcomes_are_so();
     machines_of_texts_are_built();
     machines_run_the_nodes_of_texts();
     machines_do_the_same_among_others();
     own_machines_do_the_same();
     machines_of_texts_choose_the_greatest();
+    few_causes_are_left();
     decide(alloc, &ordered.program)?;
     let machines = machines_of(alloc, program, ordered)?;
     Ok(machines)

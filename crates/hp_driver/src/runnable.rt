@@ -31,7 +31,9 @@ use hp_machines::{MachineErr, machines};
 use hp_obc::Obc;
 use hp_tree::{Node, Program};
 use hp_verdicts::decide;
-use law_controlled::{machines_of_texts_choose_the_greatest, nodes_have_their_machines};
+use law_controlled::{
+    few_causes_are_left, machines_of_texts_choose_the_greatest, nodes_have_their_machines,
+};
 use law_decided::{machines_keep_contracts, outcomes_are_so};
 use law_history::streams::{machines_of_texts_are_built, machines_run_the_nodes_of_texts};
 use std::alloc::Global;
@@ -114,9 +116,10 @@ fn choosing_runnable<E: Sink>(
     let Some(found) = node_named(ordered, node) else {
         return Err(report_no_node(alloc, diag, node));
     };
-    // Laws: each line that the machines say is one that the program allows; where nothing is free but inputs, with the greatest permitted values. And the node has a machine of its name.
+    // Laws: each line that the machines say is one that the program allows; where nothing is free but inputs, with the greatest permitted values. The node has a machine of its name. And where no machines are made, an early bit waits for the choice.
     machines_of_texts_choose_the_greatest();
     nodes_have_their_machines();
+    few_causes_are_left();
     match controlled_machines(alloc, ordered) {
         Ok(machines) => chosen_runnable(alloc, machines, found, node, diag),
         Err(ControlledErr::NotBuilt) => Err(report(diag, NOT_BUILT, Status::Refused)),

@@ -41,7 +41,7 @@ pub returns-in-Err-NotBuilt-clause-outcome : goal.returns-in-Err-NotBuilt-clause
 returns-in-Err-NotBuilt-clause-outcome g c =
     let name = c.args.node.now in
     let ordered = c.args.ordered.now in
-    let told = told_of (ChoosingRun name ordered []) (run_failed name ordered []) (g.E.Sink.took c.args.diag.now) (g.E.Sink.took c.report.new.diag) not_built_line 1 (code_of c.report.result) c.report.ensures.reports (run_not_built name ordered) in
+    let told = told_of (ChoosingRun name ordered []) (run_failed name ordered []) (g.E.Sink.took c.args.diag.now) (g.E.Sink.took c.report.new.diag) not_built_line 1 (code_of c.report.result) c.report.ensures.reports (run_not_built name ordered c.few_causes_are_left.ensures (c.in-Err-NotBuilt.ensures c.in-Err-NotBuilt.field-0-is)) in
     ([], told.0, Grows-nil (g.C.Console.events c.args.console.now), heard_nothing (g.C.Console.left c.args.console.now), told.1, told.2)
 
 pub returns-in-Err-OutOfMemory-clause-outcome : goal.returns-in-Err-OutOfMemory-clause-outcome

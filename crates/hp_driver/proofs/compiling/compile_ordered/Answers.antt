@@ -19,7 +19,7 @@ pub returns-in_err-machines-clause-compiled : goal.returns-in_err-machines-claus
 returns-in_err-machines-clause-compiled c = λ text found.
     let error = c.in_err-machines.field-0.0 in
     handed_match (IsCompiled text) (IsNotCompiled text) c.from_residual-in_err-machines.result (of_controlled error) c.from_residual-in_err-machines.ensures.1
-    (not_built_by text c.args.program.now c.args.ordered.program found c.outcomes_are_so.ensures c.in_ok-decide.ensures.kept error c.in_err-machines.ensures.not_built)
+    (not_built_by text c.args.program.now c.args.ordered.program found c.outcomes_are_so.ensures c.few_causes_are_left.ensures c.in_ok-decide.ensures.kept error c.in_err-machines.ensures.not_built)
 
 pub returns-clause-compiled : goal.returns-clause-compiled
 returns-clause-compiled c = λ text found.

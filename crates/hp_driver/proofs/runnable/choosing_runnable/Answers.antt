@@ -38,7 +38,7 @@ pub returns-in-Err-NotBuilt-clause-told : goal.returns-in-Err-NotBuilt-clause-to
 returns-in-Err-NotBuilt-clause-told g c =
     let name = c.args.node.now in
     let ordered = c.args.ordered.now in
-    told_of (ChoosingRun name ordered []) (run_failed name ordered []) (g.E.Sink.took c.args.diag.now) (g.E.Sink.took c.report.new.diag) not_built_line 1 (code_of c.report.result) c.report.ensures.reports (run_not_built name ordered)
+    told_of (ChoosingRun name ordered []) (run_failed name ordered []) (g.E.Sink.took c.args.diag.now) (g.E.Sink.took c.report.new.diag) not_built_line 1 (code_of c.report.result) c.report.ensures.reports (run_not_built name ordered c.few_causes_are_left.ensures (c.in-Err-NotBuilt.ensures c.in-Err-NotBuilt.field-0-is))
 
 pub returns-in-Err-OutOfMemory-clause-told : goal.returns-in-Err-OutOfMemory-clause-told
 returns-in-Err-OutOfMemory-clause-told g c = ([], Grows-nil (g.E.Sink.took c.args.diag.now), run_memory c.args.node.now c.args.ordered.now)
