@@ -98,7 +98,8 @@ DoesTheSame text program =
     (m : Machine) × (machine_named o.machines node ≡ Some m) × AgreesWith (of_machine o node) (of_node program node))
 
 -- Machines of a program whose contracts are kept. What they say over inputs of its kinds the program allows; where nothing
--- is free in a node but its inputs, it has the greatest permitted values, and keeps its contract.
+-- is free in a node but its inputs, and comparisons of integers and outputs of calls that equations of the outermost block
+-- give names to, it has the greatest permitted values; so it keeps its contract, if it calls nothing.
 pub record Choose {files : Files} {file : List ℕ} (p : Program files file) (o : Obc) : Type 0 where
   pub kept : AllKept p
   pub says : AllSayGreatest p.clocked o

@@ -64,7 +64,7 @@ fn plain_machines(alloc: Global, ordered: Ordered) -> Result<Obc, AllocError>
 }
 
 /// The machines of an arranged program whose contracts are kept. Only those of a program with controllable variables may be not built, where something is in the way of them.
-pub fn machines_of(alloc: Global, program: &Program, ordered: Ordered) -> Result<Obc, ControlledErr>
+fn machines_of(alloc: Global, program: &Program, ordered: Ordered) -> Result<Obc, ControlledErr>
     requires { IsArrangedText program.now ordered.program }
     ensures machines { IfOk result (AreMachinesFor program.now ordered.program) }
     ensures not_built { IfErr result (λ e. e ≡ NotBuilt → (has_controls program.now ≡ true) × HasNoChosenMachines ordered.program) }

@@ -46,7 +46,7 @@ fn has_own_contract(item: &Item) -> bool
 }
 
 /// Whether a node of the program has a contract.
-pub fn has_contract(program: &Program) -> bool
+pub(crate) fn has_contract(program: &Program) -> bool
     ensures { result ≡ has_contract program.now }
 {
     for item in &program.items {

@@ -30,8 +30,8 @@ mod trace_limits;
 mod words;
 
 pub use compile_error::CompileErr;
-pub use compiling::{compile, compile_program, machines_of};
-pub use controls::{has_contract, has_controls};
+pub use compiling::{compile, compile_program};
+pub use controls::has_controls;
 pub use laws::{
     checkpoints_are_memories, machines_of_contracts_mirror_nodes, plain_programs_are_good,
     stopped_runs_are_joined, written_certificates_are_good, written_machines_agree_with_nodes,
