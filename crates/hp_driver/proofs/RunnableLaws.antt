@@ -1,5 +1,5 @@
 -- From the machine that is found for a node, or the refusal, to what `run` runs or refuses.
-use Rattle.std.proofs.Common.{◌≡◌, ℕ, true, false, List, Some, refl, ap, ◌∙◌}
+use Rattle.std.proofs.Common.{◌≡◌, ℕ, true, false, List, Some, refl, sym, ap, subst, ◌∙◌}
 use Rattle.std.specs.Prelude.{IfOk, Ok, Err, Result}
 use Rattle.hp_compile.specs.Arranged.{IsArranged}
 use Rattle.hp_compile.specs.Judged.{IsJudged}
@@ -35,6 +35,12 @@ ends_map P Q f (Err s) line h = f line (code_of s) h
 pub are_map : (P Q : Obc → Type 0) → ((o : Obc) → P o → Q o) → (r : Result Runnable Status) → IfOk r (λ x. P x.machines) → IfOk r (λ x. Q x.machines)
 are_map P Q f (Ok x) h = f x.machines h
 are_map P Q f (Err s) h = tt
+
+-- the machine of the node of this name is among those where it goes on
+pub has_chosen : (ordered : List Item) (name : List ℕ) (n : Node) → node_among ordered name ≡ Some n → (o : Obc) (r : Result Runnable Status) → IfOk r (λ x. x.machines ≡ o) → IfOk r (λ x. IsChosen name o n) →
+    IfOk r (λ x. (m : Node) × (node_among ordered name ≡ Some m) × IsChosen name x.machines m)
+has_chosen ordered name n named o (Ok x) same is = (n, named, subst (λ (z : Obc). IsChosen name z n) (sym same) is)
+has_chosen ordered name n named o (Err s) same is = tt
 
 module _ (law : OutcomesLaw) (program ordered : List Item) (kept : AreKept ordered ordered) (node : List ℕ) where
   choosing_are : GreatestSaidLaw → has_controls program ≡ true → (o : Obc) → AreControlledMachines ordered o → (n : Node) × (node_among ordered node ≡ Some n) × IsChosen node o n → RunDecided node program ordered o

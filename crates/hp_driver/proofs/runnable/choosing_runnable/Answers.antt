@@ -6,7 +6,7 @@ use Rattle.hp_driver.specs.Follows.{ChoosingRun, NodeRun}
 use Rattle.hp_driver.specs.Status.{code_of}
 use Rattle.hp_driver.proofs.ChoosingLaws.{its_machine, run_failed, run_memory, run_not_built, run_no_node, choosing_ran}
 use Rattle.hp_driver.proofs.OutcomeLaws.{told_of, told_or_not}
-use Rattle.hp_driver.proofs.RunnableLaws.{ends_map}
+use Rattle.hp_driver.proofs.RunnableLaws.{ends_map, has_chosen}
 use Rattle.hp_driver.proofs.runnable.choosing_runnable.Goals as goal
 
 pub returns-in_default-clause-told : goal.returns-in_default-clause-told
@@ -33,6 +33,11 @@ returns-in-Ok-clause-told g c =
       ends_map (NodeRun o node.now name []) (ChoosingRun name ordered [])
           (λ line status. choosing_ran name ordered c.machines_of_texts_choose_the_greatest.ensures o c.in-Ok.ensures node.now (MatchOption-at_some _ _ node c.in-Some.is c.node_named.ensures) [] line status) c.chosen_runnable.result told.0 told.2,
     )
+
+pub returns-in-Ok-clause-chosen : goal.returns-in-Ok-clause-chosen
+returns-in-Ok-clause-chosen g c =
+    let node = c.in-Some.found in
+    has_chosen c.args.ordered.now c.args.node.now node.now (MatchOption-at_some _ _ node c.in-Some.is c.node_named.ensures) c.in-Ok.machines c.chosen_runnable.result c.chosen_runnable.ensures.machines c.chosen_runnable.ensures.chosen
 
 pub returns-in-Err-NotBuilt-clause-told : goal.returns-in-Err-NotBuilt-clause-told
 returns-in-Err-NotBuilt-clause-told g c =
