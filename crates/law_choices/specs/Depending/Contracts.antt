@@ -1,0 +1,101 @@
+-- What the comparisons of a contract depend on in the clocked equations of its observer: on the input that stands for an output, only where the contract's place depends on that output.
+-- Source: own. So an early one depends on no input that stands for an output which depends on a controllable variable.
+use Rattle.std.specs.Prelude.{ℕ, ◌≡◌, true, List, [], ◌∷◌, ◌++◌, slice_get, Option, None, Some}
+use Rattle.hp_base.specs.declared.value.Value.{Value}
+use Rattle.hp_tree.specs.Expressions.{Expr}
+use Rattle.hp_tree.specs.Blocks.{Eqns, no_eqn, more_eqns}
+use Rattle.hp_tree.specs.declared.program.Item.{Item}
+use Rattle.hp_tree.specs.Programs.{TypeDecl, Contract, Node}
+use Rattle.hp_tree.specs.Instant.{Body, Observer, Assume, Enforce, Named, Equations, Head, Tail, Right, Place}
+use Rattle.hp_tree.specs.Meaning.{declares, controls_of}
+use Rattle.hp_meaning.specs.Causal.Causality.{DependsBy}
+use Rattle.hp_meaning.specs.Contract.Forgetting.{ContractsCallNothing}
+use Rattle.hp_meaning.specs.Contract.FreePlaces.{IsEarly, own_free}
+use Rattle.hp_meaning.specs.Causal.RanksOfPoints.{AllFall}
+use Rattle.law_judged.specs.Named.Scoped.{EachNode, equations_of}
+use Rattle.law_values.specs.Accepted.Laws.{IsReady}
+use Rattle.hp_automata.specs.Lowering.{Enumerations, enumerations, lowered_node}
+use Rattle.law_automata.specs.Lowered.Removable.{IsRemovable}
+use Rattle.law_automata.specs.Lowered.Standing.{Along}
+use Rattle.hp_flat.specs.Equations.{FlatEqn}
+use Rattle.hp_flat.specs.Nodes.{FlatNode}
+use Rattle.law_equations.specs.Flattened.Flatten.{FlatName, Input, Prefix}
+use Rattle.law_equations.specs.Made.Making.{Known}
+use Rattle.law_equations.specs.Made.Laws.{names, Stands}
+use Rattle.hp_watch.specs.Observing.{input_name, observer_of}
+use Rattle.hp_watch.specs.Walk.{events_from, walk_contract}
+use Rattle.law_choices.specs.Depending.Dependence.{DependsOn}
+use Rattle.law_choices.specs.Depending.Found.{TargetsMean}
+use Rattle.law_choices.specs.Depending.Places.{PlaceDependsOnGiven}
+use Rattle.law_choices.specs.Independent.Dependence.{DependsOnGiven}
+use Rattle.law_choices.specs.Observed.Contracts.{IsObservable}
+use Rattle.law_choices.specs.Places.Found.{Both, found, found_in_block}
+use Rattle.law_choices.specs.Places.Laws.{events, places_of}
+use Rattle.law_choices.specs.Places.Spots.{Spot, spots_of_node}
+
+-- ---- places of a contract, and of its observer
+
+-- a place behind some equations
+abbrev pub behind_all : Eqns → Place → Place
+behind_all no_eqn p = p
+behind_all (more_eqns e es) p = Tail ∷ behind_all es p
+
+-- where what is assumed and what is enforced stand in the observer: in the first equations behind those of the contract's block
+abbrev pub at_assumed : Contract → Prefix
+at_assumed c p = Body ∷ Equations ∷ behind_all (equations_of c.body) (Head ∷ Right ∷ p)
+
+abbrev pub at_enforced : Contract → Prefix
+at_enforced c p = Body ∷ Equations ∷ behind_all (equations_of c.body) (Tail ∷ Head ∷ Right ∷ p)
+
+-- where a place of a contract stands in the observer
+abbrev pub in_observer : Contract → Place → Place
+in_observer c (Observer ∷ p) = Body ∷ p
+in_observer c (Assume ∷ p) = at_assumed c p
+in_observer c (Enforce ∷ p) = at_enforced c p
+in_observer c p = p
+
+-- it is a place of the contract
+abbrev pub IsInContract : Place → Type 0
+IsInContract (Observer ∷ p) = Unit {0}
+IsInContract (Assume ∷ p) = Unit {0}
+IsInContract (Enforce ∷ p) = Unit {0}
+IsInContract p = ⊥
+
+-- The comparisons and calls of a contract in the order of slots, each with the place that stands for it in the observer without automata.
+module _ (outputs : List ℕ → List (List ℕ)) where
+  abbrev pub found_told : Option Expr → Prefix → Prefix → Both
+  found_told None w here = []
+  found_told (Some e) w here = found outputs e w here
+
+  abbrev pub found_in_contract : Contract → Both
+  found_in_contract c = found_in_block outputs c.body (λ p. Observer ∷ p) (λ p. Body ∷ p) ++ (found_told c.assume (λ p. Assume ∷ p) (at_assumed c) ++ found_told c.enforce (λ p. Enforce ∷ p) (at_enforced c))
+
+-- ---- laws
+
+-- Of a node with a contract: where a free place of that on the base clock, outside of all blocks, depends in the observer on the input that stands for an output of the node, the place depends on the output in the node.
+abbrev pub ReadsOutputs : Node → Type 0
+ReadsOutputs n =
+    (c : Contract) (i : ℕ) (o : List ℕ) (p : Place) → n.contract ≡ Some c → slice_get (names n.outputs) i ≡ Some o → IsInContract p → own_free n p ≡ Some []
+    → PlaceDependsOnGiven (observer_of n c) (in_observer c p) (input_name i) → (between : List Place) × DependsBy n p between (Body ∷ Named o ∷ [])
+
+-- So it is of each node of a ready program whose contracts can be observed and whose points have ranks.
+abbrev pub ReadsOutputsLaw : Type 0
+ReadsOutputsLaw = (program after : List Item) → IsReady program after → IsRemovable after → EachNode IsObservable after → EachNode ReadsOutputs after
+
+-- The equation with this number of an observer has targets that do not depend on a variable where their places in the contract are early, and an output depends on a controllable variable.
+abbrev pub EventReadsNot : List Item → Node → List ℕ → List ℕ → FlatNode → ℕ → ℕ → Spot × Spot → Type 0
+EventReadsNot program n o x f w i c = (e : FlatEqn) × (slice_get f.eqns i ≡ Some e) × Along (λ v p. IsEarly program n p → DependsOnGiven n o x → DependsOn f.eqns v w → ⊥) e.targets (places_of c.0)
+
+-- Let clocked equations stand for the observer of a node's contract without automata, and the equations of comparisons and calls have targets that stand for their places. Beside a walk over the contract, these targets
+-- depend on no input that stands for an output which depends on a controllable variable, where the places are early.
+abbrev pub KeepsContract : Enumerations → Node → Type 0
+KeepsContract enums n =
+    (c : Contract) (outs : List ℕ → List (List ℕ)) (program : List Item) (i : ℕ) (o x : List ℕ) → n.contract ≡ Some c → slice_get (names n.outputs) i ≡ Some o → declares (controls_of n.contract) x ≡ true
+    → (types : List TypeDecl) (outputs : List ℕ → List (List ℕ)) (k : Known) (fill : Place → Value) (f : FlatNode) (s : Stands types outputs k fill (lowered_node enums (observer_of n c)) f)
+    → (w : ℕ) → s.means w ≡ Input (input_name i) → Along (TargetsMean s.means) (events f.eqns) (spots_of_node outs (lowered_node enums (observer_of n c)))
+    → Along (EventReadsNot program n o x f w) (walk_contract c (events_from 0 f.eqns)).0 (found_in_contract outs c)
+
+-- So it is of each node of a ready program whose contracts can be observed and whose points have ranks.
+abbrev pub ContractsLaw : Type 0
+ContractsLaw =
+    (program after : List Item) (ranks : List (List ℕ)) (enums : Enumerations) → IsReady program after → IsRemovable after → AllFall after ranks → EachNode IsObservable after → EachNode (KeepsContract enums) after
