@@ -298,6 +298,9 @@ module _ (n : Node) (c : Contract) (base : AllBase n.outputs) (known : (x : List
               let same : m + 1 + j ≡ m + suc j = omega arith in
               (suc j, s.1, subst (λ z. IsSource y (given_in observer (input_name z))) same s.2)
 
+      abbrev handing : NameSources
+      handing = of_definitions locals (eqns_of (all_handed_on 0 n.outputs)) all_names (λ q. behind_places (Tail ∷ Tail ∷ q))
+
       -- what an output of the node depends on in the observer
       output_handed : (x : List ℕ) (y : Place) → declares n.outputs x ≡ true → IsSource y (sources_with_inputs observer (Body ∷ Named x ∷ [])) → IsHanded 0 n.outputs x y
       output_handed x y o d = handed_on 0 n.outputs (λ q. behind_places (Tail ∷ Tail ∷ q)) x y (λ z h. h) o last
@@ -308,15 +311,12 @@ module _ (n : Node) (c : Contract) (base : AllBase n.outputs) (known : (x : List
           no_local : IsTrue (some_defines es x) → ⊥
           no_local h = let no : true ≡ false = sym o ∙ local_no_output n c known ds es own inner x (eqn_local n c known ds es own inner x h) in absurd cc
 
-          abbrev handing : Sources
-          handing = of_definitions locals (eqns_of (all_handed_on 0 n.outputs)) all_names (λ q. behind_places (Tail ∷ Tail ∷ q)) x
-
-          last : IsSource y handing
+          last : IsSource y (handing x)
           last =
               let whole = subst (IsSource y) (split_definitions locals lines es all_names (below Equations new_places) x) d in
               let behind = not_first (some_defines es x) _ (of_definitions locals (eqns_of lines) all_names behind_places x) y (false_unless (some_defines es x) no_local) whole in
               let second = not_first (bytes_eq assumed x || false) _ _ y (or_false (bytes_eq assumed x) ∙ other.assumed) behind in
-              not_first (bytes_eq enforced x || false) _ handing y (or_false (bytes_eq enforced x) ∙ other.enforced) second
+              not_first (bytes_eq enforced x || false) _ (handing x) y (or_false (bytes_eq enforced x) ∙ other.enforced) second
 
       -- ---- chains
 

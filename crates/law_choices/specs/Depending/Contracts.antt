@@ -3,13 +3,12 @@
 use Rattle.std.specs.Prelude.{ℕ, ◌≡◌, true, List, [], ◌∷◌, ◌++◌, slice_get, Option, None, Some}
 use Rattle.hp_base.specs.declared.value.Value.{Value}
 use Rattle.hp_tree.specs.Expressions.{Expr}
-use Rattle.hp_tree.specs.Blocks.{Eqns, no_eqn, more_eqns}
+use Rattle.hp_tree.specs.Blocks.{Block, Eqns, no_eqn, more_eqns}
 use Rattle.hp_tree.specs.declared.program.Item.{Item}
 use Rattle.hp_tree.specs.Programs.{TypeDecl, Contract, Node}
 use Rattle.hp_tree.specs.Instant.{Body, Observer, Assume, Enforce, Named, Equations, Head, Tail, Right, Place}
 use Rattle.hp_tree.specs.Meaning.{declares, controls_of}
 use Rattle.hp_meaning.specs.Causal.Causality.{DependsBy}
-use Rattle.hp_meaning.specs.Contract.Forgetting.{ContractsCallNothing}
 use Rattle.hp_meaning.specs.Contract.FreePlaces.{IsEarly, own_free}
 use Rattle.hp_meaning.specs.Causal.RanksOfPoints.{AllFall}
 use Rattle.law_judged.specs.Named.Scoped.{EachNode, equations_of}
@@ -40,19 +39,19 @@ abbrev pub behind_all : Eqns → Place → Place
 behind_all no_eqn p = p
 behind_all (more_eqns e es) p = Tail ∷ behind_all es p
 
--- where what is assumed and what is enforced stand in the observer: in the first equations behind those of the contract's block
-abbrev pub at_assumed : Contract → Prefix
-at_assumed c p = Body ∷ Equations ∷ behind_all (equations_of c.body) (Head ∷ Right ∷ p)
+-- Where what is assumed and what is enforced stand in the observer of a contract with this block: in the first equations behind those of the block.
+abbrev pub at_assumed : Block → Prefix
+at_assumed b p = Body ∷ Equations ∷ behind_all (equations_of b) (Head ∷ Right ∷ p)
 
-abbrev pub at_enforced : Contract → Prefix
-at_enforced c p = Body ∷ Equations ∷ behind_all (equations_of c.body) (Tail ∷ Head ∷ Right ∷ p)
+abbrev pub at_enforced : Block → Prefix
+at_enforced b p = Body ∷ Equations ∷ behind_all (equations_of b) (Tail ∷ Head ∷ Right ∷ p)
 
--- where a place of a contract stands in the observer
-abbrev pub in_observer : Contract → Place → Place
-in_observer c (Observer ∷ p) = Body ∷ p
-in_observer c (Assume ∷ p) = at_assumed c p
-in_observer c (Enforce ∷ p) = at_enforced c p
-in_observer c p = p
+-- where a place of the contract stands there
+abbrev pub in_observer : Block → Place → Place
+in_observer b (Observer ∷ p) = Body ∷ p
+in_observer b (Assume ∷ p) = at_assumed b p
+in_observer b (Enforce ∷ p) = at_enforced b p
+in_observer b p = p
 
 -- it is a place of the contract
 abbrev pub IsInContract : Place → Type 0
@@ -68,7 +67,7 @@ module _ (outputs : List ℕ → List (List ℕ)) where
   found_told (Some e) w here = found outputs e w here
 
   abbrev pub found_in_contract : Contract → Both
-  found_in_contract c = found_in_block outputs c.body (λ p. Observer ∷ p) (λ p. Body ∷ p) ++ (found_told c.assume (λ p. Assume ∷ p) (at_assumed c) ++ found_told c.enforce (λ p. Enforce ∷ p) (at_enforced c))
+  found_in_contract c = found_in_block outputs c.body (λ p. Observer ∷ p) (λ p. Body ∷ p) ++ (found_told c.assume (λ p. Assume ∷ p) (at_assumed c.body) ++ found_told c.enforce (λ p. Enforce ∷ p) (at_enforced c.body))
 
 -- ---- laws
 
@@ -76,11 +75,11 @@ module _ (outputs : List ℕ → List (List ℕ)) where
 abbrev pub ReadsOutputs : Node → Type 0
 ReadsOutputs n =
     (c : Contract) (i : ℕ) (o : List ℕ) (p : Place) → n.contract ≡ Some c → slice_get (names n.outputs) i ≡ Some o → IsInContract p → own_free n p ≡ Some []
-    → PlaceDependsOnGiven (observer_of n c) (in_observer c p) (input_name i) → (between : List Place) × DependsBy n p between (Body ∷ Named o ∷ [])
+    → PlaceDependsOnGiven (observer_of n c) (in_observer c.body p) (input_name i) → (between : List Place) × DependsBy n p between (Body ∷ Named o ∷ [])
 
--- So it is of each node of a ready program whose contracts can be observed and whose points have ranks.
+-- So it is of each node of a ready program whose contracts can be observed.
 abbrev pub ReadsOutputsLaw : Type 0
-ReadsOutputsLaw = (program after : List Item) → IsReady program after → IsRemovable after → EachNode IsObservable after → EachNode ReadsOutputs after
+ReadsOutputsLaw = (program after : List Item) → IsReady program after → EachNode IsObservable after → EachNode ReadsOutputs after
 
 -- The equation with this number of an observer has targets that do not depend on a variable where their places in the contract are early, and an output depends on a controllable variable.
 abbrev pub EventReadsNot : List Item → Node → List ℕ → List ℕ → FlatNode → ℕ → ℕ → Spot × Spot → Type 0
