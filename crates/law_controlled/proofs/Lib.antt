@@ -30,6 +30,7 @@ pub mod NearlyLaws
 pub mod ObserverLaws
 pub mod ObserverShortLaws
 pub mod OneListLaws
+pub mod OwnLaws
 pub mod PartLaws
 pub mod PartShapeLaws
 pub mod PlantLaws
