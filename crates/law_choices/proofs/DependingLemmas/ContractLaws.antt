@@ -43,7 +43,7 @@ use Rattle.law_choices.specs.Observed.Contracts.{IsObservable, IsOther}
 use Rattle.law_choices.specs.Places.Found.{Both, found_in_node}
 use Rattle.law_choices.specs.Places.Laws.{places_of}
 use Rattle.law_choices.specs.Places.Spots.{Spot}
-use Rattle.law_choices.proofs.IndependentLemmas.Given.{Shape, shape, stands_somewhere}
+use Rattle.law_choices.proofs.IndependentLemmas.Given.{Shape, shape}
 use Rattle.law_choices.proofs.IndependentLemmas.Ours.{with_body}
 use Rattle.law_choices.proofs.DependingLemmas.ContractPlaces.{contract-stands, contract-walked, found-moved, moved_pair, moved_places, StandThere}
 use Rattle.law_choices.proofs.DependingLemmas.PlaceLaws.{control_placed}
@@ -257,8 +257,9 @@ module _ (n : Node) (scoped : NodeScoped n) (base : AllBase n.outputs) (obs : Is
         let within = slice_get_within (names n.outputs) i o numbered in
         let long : length (names n.outputs) ≡ length n.outputs = length-map n.outputs (λ (d : Decl). d.name) in
         let few = obs.few in
+        let nought : 0 + i ≡ i = omega arith in
         let declared : declares (n.inputs ++ inputs_for 0 n.outputs) xi ≡ true =
-        declares_append n.inputs (inputs_for 0 n.outputs) xi ∙ or_right (declares n.inputs xi) (declares (inputs_for 0 n.outputs) xi) (input_there 0 n.outputs i (omega (arith, within, long))) in
+        declares_append n.inputs (inputs_for 0 n.outputs) xi ∙ or_right (declares n.inputs xi) (declares (inputs_for 0 n.outputs) xi) (subst (λ z. declares (inputs_for 0 n.outputs) (input_name z) ≡ true) nought (input_there 0 n.outputs i (omega (arith, within, long)))) in
         let given : IsGiven O xi = or_left (declares O.inputs xi) false declared in
         let seen = observer_scoped n c e scoped obs in
         let events_there = events_from 0 f.eqns in

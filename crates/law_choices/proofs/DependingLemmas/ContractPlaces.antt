@@ -62,22 +62,19 @@ module _ (outputs : List ℕ → List (List ℕ)) (g : Place → Place) where
         let A = found outputs a (below First w) (below First here) in
         let B = found outputs b (below Second w) (below Second here) in
         joined (both_compared outputs o (elsewhere w) here) (found outputs a (below First (elsewhere w)) (below First here) ++ found outputs b (below Second (elsewhere w)) (below Second here)) (both_compared outputs o w here) (A ++ B) (compared-moved o w here)
-        (pair-moved a b (below First w) (below First here) (below Second w) (below Second here))
+        (joined (found outputs a (elsewhere (below First w)) (below First here)) (found outputs b (elsewhere (below Second w)) (below Second here)) (found outputs a (below First w) (below First here)) (found outputs b (below Second w) (below Second here)) (expr-moved a (below First w) (below First here)) (expr-moved b (below Second w) (below Second here)))
     expr-moved (choose s a b c) w here =
         let A = found outputs a (below First w) (below First here) in
         let B = found outputs b (below Second w) (below Second here) in
         let C = found outputs c (below Third w) (below Third here) in
         joined (found outputs a (below First (elsewhere w)) (below First here)) (found outputs b (below Second (elsewhere w)) (below Second here) ++ found outputs c (below Third (elsewhere w)) (below Third here)) A (B ++ C) (expr-moved a (below First w) (below First here))
-        (pair-moved b c (below Second w) (below Second here) (below Third w) (below Third here))
+        (joined (found outputs b (elsewhere (below Second w)) (below Second here)) (found outputs c (elsewhere (below Third w)) (below Third here)) (found outputs b (below Second w) (below Second here)) (found outputs c (below Third w) (below Third here)) (expr-moved b (below Second w) (below Second here)) (expr-moved c (below Third w) (below Third here)))
     expr-moved (pre s a) w here = expr-moved a (below First w) (below First here)
-    expr-moved (fby s a b) w here = pair-moved a b (below First w) (below First here) (below Second w) (below Second here)
-    expr-moved (arrow s a b) w here = pair-moved a b (below First w) (below First here) (below Second w) (below Second here)
+    expr-moved (fby s a b) w here = joined (found outputs a (elsewhere (below First w)) (below First here)) (found outputs b (elsewhere (below Second w)) (below Second here)) (found outputs a (below First w) (below First here)) (found outputs b (below Second w) (below Second here)) (expr-moved a (below First w) (below First here)) (expr-moved b (below Second w) (below Second here))
+    expr-moved (arrow s a b) w here = joined (found outputs a (elsewhere (below First w)) (below First here)) (found outputs b (elsewhere (below Second w)) (below Second here)) (found outputs a (below First w) (below First here)) (found outputs b (below Second w) (below Second here)) (expr-moved a (below First w) (below First here)) (expr-moved b (below Second w) (below Second here))
     expr-moved (when_is s a c x) w here = expr-moved a (below First w) (below First here)
     expr-moved (merge s x ps) w here = parts-moved ps (below Args w) (below Args here)
     expr-moved (call s f inlined es) w here = ap₂ (λ (ps : List Place) (rest : Both). (called f ps, call_spot outputs f here) ∷ rest) (named-moved w (outputs f)) (exprs-moved es (below Args w) (below Args here))
-
-    pair-moved : (a b : Expr) (v there w here : Prefix) → found outputs a (elsewhere v) there ++ found outputs b (elsewhere w) here ≡ all_moved (found outputs a v there ++ found outputs b w here)
-    pair-moved a b v there w here = joined (found outputs a (elsewhere v) there) (found outputs b (elsewhere w) here) (found outputs a v there) (found outputs b w here) (expr-moved a v there) (expr-moved b w here)
 
     exprs-moved : (es : Exprs) (w here : Prefix) → found_in_all outputs es (elsewhere w) here ≡ all_moved (found_in_all outputs es w here)
     exprs-moved no_expr w here = refl

@@ -302,8 +302,11 @@ module _ (n : Node) (c : Contract) (base : AllBase n.outputs) (known : (x : List
       handing = of_definitions locals (eqns_of (all_handed_on 0 n.outputs)) all_names (λ q. behind_places (Tail ∷ Tail ∷ q))
 
       -- what an output of the node depends on in the observer
-      output_handed : (x : List ℕ) (y : Place) → declares n.outputs x ≡ true → IsSource y (sources_with_inputs observer (Body ∷ Named x ∷ [])) → IsHanded 0 n.outputs x y
-      output_handed x y o d = handed_on 0 n.outputs (λ q. behind_places (Tail ∷ Tail ∷ q)) x y (λ z h. h) o last
+      output_handed : (x : List ℕ) (y : Place) → declares n.outputs x ≡ true → IsSource y (sources_with_inputs observer (Body ∷ Named x ∷ [])) → (j : ℕ) × (slice_get (names n.outputs) j ≡ Some x) × IsSource y (given_in observer (input_name j))
+      output_handed x y o d =
+          let s = handed_on 0 n.outputs (λ q. behind_places (Tail ∷ Tail ∷ q)) x y (λ z h. h) o last in
+          let same : 0 + s.0 ≡ s.0 = omega arith in
+          (s.0, s.1, subst (λ z. IsSource y (given_in observer (input_name z))) same s.2)
         where
           other : IsOther x
           other = outputs_other n c known x o
@@ -350,12 +353,12 @@ module _ (n : Node) (c : Contract) (base : AllBase n.outputs) (known : (x : List
 
         -- the output that leads to the input is that for which the input stands
         output_is : (x : List ℕ) (between : List Place) → declares n.outputs x ≡ true → Leads (Body ∷ Named x ∷ []) between → x ≡ o
-        output_is x [] out d =
-            let s = output_handed x px out d in
+        output_is x [] told d =
+            let s = output_handed x px told d in
             let g = input_shape (input_name s.0) px s.2 in
             same_output s.0 x s.1 (sym (is_named observer (input_name i) px at) ∙ ap (name_of observer) g.1 ∙ g.2)
-        output_is x (y ∷ ys) out d =
-            let s = output_handed x y out d.0 in
+        output_is x (y ∷ ys) told d =
+            let s = output_handed x y told d.0 in
             let g = input_shape (input_name s.0) y s.2 in
             absurd (none_behind g.0 ys (subst (λ z. Leads z ys) g.1 d.1))
 
@@ -392,14 +395,14 @@ module _ (n : Node) (c : Contract) (base : AllBase n.outputs) (known : (x : List
 
         pub reaches : (p z : Place) → IsInContract p → IsSource z (goes p) → (between : List Place) → Leads z between → Reaches p
         reaches p z h src [] d = let s = step p z px h src (moved_sources pick px px (sources_with_inputs observer z) d picked) in absurd (no_input s.0 s.2)
-        reaches p z h src (y ∷ ys) d = by (kept y)
+        reaches p z h src (y ∷ ys) d = by (kept y) (λ q there g. reaches q y there g ys d.1)
           where
-            next : (q : Place) → IsSource q (sources n p) → IsSource y (goes q) → Follows q y → Reaches p
-            next q g src (inl inside) = let rest = reaches q y inside src ys d.1 in (q ∷ rest.0, (g, rest.1))
-            next q g src (inr it) =
+            next : ((q : Place) → IsInContract q → IsSource y (goes q) → Reaches q) → (q : Place) → IsSource q (sources n p) → IsSource y (goes q) → Follows q y → Reaches p
+            next again q g stands (inl there) = let rest = again q there stands in (q ∷ rest.0, (g, rest.1))
+            next again q g stands (inr it) =
                 let same = output_is it.0 ys it.2 (subst (λ w. Leads w ys) it.3 d.1) in
                 ([], subst (λ w. IsSource w (sources n p)) (it.1 ∙ ap (λ (x : List ℕ). Body ∷ Named x ∷ []) same) g)
 
-            by : Kept y → Reaches p
-            by (inl input) = absurd (none_behind input.0 ys (subst (λ w. Leads w ys) input.1 d.1))
-            by (inr seen_here) = let s = step p z y h src (moved_sources pick y y (sources_with_inputs observer z) d.0 seen_here) in next s.0 s.1 s.2 (follows s.0 y s.2)
+            by : Kept y → ((q : Place) → IsInContract q → IsSource y (goes q) → Reaches q) → Reaches p
+            by (inl input) again = absurd (none_behind input.0 ys (subst (λ w. Leads w ys) input.1 d.1))
+            by (inr seen_here) again = let s = step p z y h src (moved_sources pick y y (sources_with_inputs observer z) d.0 seen_here) in next again s.0 s.1 s.2 (follows s.0 y s.2)
