@@ -31,23 +31,27 @@ use Rattle.law_automata.specs.Lowered.Standing.{Along}
 use Rattle.law_automata.proofs.LoweredLemmas.Apart.{bytes_same}
 use Rattle.hp_flat.specs.Equations.{FlatEqn}
 use Rattle.hp_flat.specs.Nodes.{FlatNode}
-use Rattle.law_equations.specs.Made.Laws.{names}
+use Rattle.law_equations.specs.Flattened.Flatten.{Input}
+use Rattle.law_equations.specs.Made.Laws.{names, Stands}
+use Rattle.law_equations.specs.Made.Making.{Known}
 use Rattle.hp_watch.specs.Observing.{assumed, condition_of, enforced, input_name, inputs_for, lines_of, observer_of, outputs_at, with_lines}
 use Rattle.hp_watch.specs.Walk.{events_from, walk_block, walk_contract}
-use Rattle.law_choices.specs.Depending.Contracts.{behind_all, EventReadsNot, found_in_contract, in_observer, IsInContract, KeepsContract, ReadsOutputs}
+use Rattle.law_choices.specs.Depending.Contracts.{behind_all, found_in_contract, in_observer, IsInContract, KeepsContract, ReadsNoWaiting, ReadsOutputs}
 use Rattle.law_choices.specs.Depending.Dependence.{DependsOn}
-use Rattle.law_choices.specs.Depending.Found.{EventPlacesLaw, EventStaysFree}
+use Rattle.law_choices.specs.Depending.Found.{EventPlacesLaw, EventStaysFree, TargetsMean}
 use Rattle.law_choices.specs.Depending.Places.{DependsByWithInputs, PlaceDependsOnGiven}
 use Rattle.law_choices.specs.Independent.Dependence.{DependsOnGiven, given_in, IsGiven}
 use Rattle.law_choices.specs.Observed.Contracts.{IsObservable, IsOther}
 use Rattle.law_choices.specs.Places.Found.{Both, found_in_node}
-use Rattle.law_choices.specs.Places.Laws.{places_of}
-use Rattle.law_choices.specs.Places.Spots.{Spot}
+use Rattle.law_choices.specs.Places.Laws.{events, places_of, WalkLaw}
+use Rattle.law_choices.specs.Places.Spots.{Spot, spots_of_node}
 use Rattle.law_choices.proofs.IndependentLemmas.Given.{Shape, shape}
 use Rattle.law_choices.proofs.IndependentLemmas.Ours.{with_body}
 use Rattle.law_choices.proofs.DependingLemmas.ContractPlaces.{contract-stands, contract-walked, found-moved, moved_pair, moved_places, StandThere}
+use Rattle.law_choices.proofs.DependingLemmas.EventLaws.{walk_told}
 use Rattle.law_choices.proofs.DependingLemmas.PlaceLaws.{control_placed}
 use Rattle.law_choices.proofs.DependingLemmas.Sourced.{to_control}
+use Rattle.law_choices.proofs.PlacesLemmas.Related.{block-hidden}
 use Rattle.law_choices.proofs.ObservedLemmas.Bodies.{assumed_not_other, enforced_not_other}
 use Rattle.law_choices.proofs.ObservedLemmas.Clocks as clocks
 use Rattle.law_choices.proofs.ObservedLemmas.Clocks.{clock_behind, new_clock, observer_right}
@@ -206,6 +210,9 @@ early_apart program n p o x right control early g reads =
 
 -- ---- events
 
+abbrev AtEvent : List FlatEqn → (ℕ → Place → Type 0) → ℕ → Spot × Spot → Type 0
+AtEvent es P i c = (e : FlatEqn) × (slice_get es i ≡ Some e) × Along P e.targets (places_of c.0)
+
 module _ (S T : ℕ → Place → Type 0) (g : Place → Place) (one : (v : ℕ) (p : Place) → IsInContract p → S v (g p) → T v p) where
   targets_back : (vs : List ℕ) (ps qs : List Place) → Along S vs (map g ps) → Along (λ p q. IsInContract p) ps qs → Along T vs ps
   targets_back [] [] qs h k = tt
@@ -213,9 +220,6 @@ module _ (S T : ℕ → Place → Type 0) (g : Place → Place) (one : (v : ℕ)
   targets_back (v ∷ vs) [] qs h k = absurd h
   targets_back (v ∷ vs) (p ∷ ps) [] h k = absurd k
   targets_back (v ∷ vs) (p ∷ ps) (q ∷ qs) h k = (one v p k.0 h.0, targets_back vs ps qs h.1 k.1)
-
-  abbrev AtEvent : List FlatEqn → (ℕ → Place → Type 0) → ℕ → Spot × Spot → Type 0
-  AtEvent es P i c = (e : FlatEqn) × (slice_get es i ≡ Some e) × Along P e.targets (places_of c.0)
 
   events_back : (outs : List ℕ → List (List ℕ)) (es : List FlatEqn) (is : List ℕ) (fs : Both) → Along (AtEvent es S) is (map (moved_pair g) fs) → StandThere outs fs → Along (AtEvent es T) is fs
   events_back outs es [] [] h k = tt
@@ -225,6 +229,30 @@ module _ (S T : ℕ → Place → Type 0) (g : Place → Place) (one : (v : ℕ)
       let here = h.0 in
       let e = here.0 in
       ((e, here.1, targets_back e.targets (places_of c.0) (places_of c.1) (subst (Along S e.targets) (moved_places g c.0) here.2) k.0), events_back outs es is fs h.1 k.1)
+
+-- ---- what is so for each of many
+
+module _ {A : Type 0} (es : List FlatEqn) (S : A → ℕ → Place → Type 0) where
+  each_target : (vs : List ℕ) (ps : List Place) → Along (λ v p. Unit {0}) vs ps → ((a : A) → Along (S a) vs ps) → Along (λ v p. (a : A) → S a v p) vs ps
+  each_target [] [] h k = tt
+  each_target [] (p ∷ ps) h k = absurd h
+  each_target (v ∷ vs) [] h k = absurd h
+  each_target (v ∷ vs) (p ∷ ps) h k = ((λ a. let it = k a in it.0), each_target vs ps h.1 (λ a. let it = k a in it.1))
+
+  one_event : (i : ℕ) (c : Spot × Spot) (e : FlatEqn) → slice_get es i ≡ Some e → (a : A) → AtEvent es (S a) i c → Along (S a) e.targets (places_of c.0)
+  one_event i c e h a g = subst (λ (d : FlatEqn). Along (S a) d.targets (places_of c.0)) (same (sym g.1 ∙ h)) g.2
+    where
+      same : {d : FlatEqn} → Some d ≡ Some e → d ≡ e
+      same q = cc
+
+  each_event : (is : List ℕ) (fs : Both) → Along (AtEvent es (λ v p. Unit {0})) is fs → ((a : A) → Along (AtEvent es (S a)) is fs) → Along (AtEvent es (λ v p. (a : A) → S a v p)) is fs
+  each_event [] [] h k = tt
+  each_event [] (c ∷ fs) h k = absurd h
+  each_event (i ∷ is) [] h k = absurd h
+  each_event (i ∷ is) (c ∷ fs) h k =
+      let here = h.0 in
+      let e = here.0 in
+      ((e, here.1, each_target e.targets (places_of c.0) here.2 (λ a. let it = k a in one_event i c e here.1 a it.0)), each_event is fs h.1 (λ a. let it = k a in it.1))
 
 -- ---- nodes
 
@@ -249,25 +277,53 @@ module _ (n : Node) (scoped : NodeScoped n) (base : AllBase n.outputs) (obs : Is
   still_free c i o e numbered p there free =
       block_free_there n c base obs.interface scoped.outputs obs.few i o numbered c.body (subst (ContractScoped (interface n)) e scoped.contract) (subst (ContractNames IsOther) e obs.contract) (has_parts n c e) p there free
 
-  module _ (law : EventPlacesLaw) (enums : Enumerations) (ok : NodeOk n) (ranked : Ranked n) where
+  module _ (law : EventPlacesLaw) (walk : WalkLaw) (enums : Enumerations) (ok : NodeOk n) (ranked : Ranked n) where
+    module _ (c : Contract) (outs : List ℕ → List (List ℕ)) (e : n.contract ≡ Some c) (types : List TypeDecl) (outputs : List ℕ → List (List ℕ)) (k : Known) (fill : Place → Value) (f : FlatNode)
+        (s : Stands types outputs k fill (lowered_node enums (observer_of n c)) f) (mean : Along (TargetsMean s.means) (events f.eqns) (spots_of_node outs (lowered_node enums (observer_of n c)))) where
+      abbrev O : Node
+      O = observer_of n c
+
+      -- an output, and a variable of the input that stands for it
+      abbrev Output : Type 0
+      Output = (i : ℕ) × (o : List ℕ) × (w : ℕ) × (slice_get (names n.outputs) i ≡ Some o) × (s.means w ≡ Input (input_name i))
+
+      abbrev Free : Output → ℕ → Place → Type 0
+      Free a v p = own_free O p ≡ Some [] → (PlaceDependsOnGiven O p (input_name a.0) → ⊥) → DependsOn f.eqns v a.2 → ⊥
+
+      one_output : (a : Output) → Along (EventStaysFree O (input_name a.0) f a.2) (walk_block O.body (events_from 0 f.eqns)).0 (found_in_node outs O)
+      one_output a =
+          let i : ℕ = a.0 in
+          let xi = input_name i in
+          let within = slice_get_within (names n.outputs) i a.1 a.3 in
+          let long : length (names n.outputs) ≡ length n.outputs = length-map n.outputs (λ (d : Decl). d.name) in
+          let few = obs.few in
+          let nought : 0 + i ≡ i = omega arith in
+          let declared : declares (n.inputs ++ inputs_for 0 n.outputs) xi ≡ true =
+          declares_append n.inputs (inputs_for 0 n.outputs) xi
+          ∙ or_right (declares n.inputs xi) (declares (inputs_for 0 n.outputs) xi) (subst (λ z. declares (inputs_for 0 n.outputs) (input_name z) ≡ true) nought (input_there 0 n.outputs i (omega (arith, within, long)))) in
+          let given : IsGiven O xi = or_left (declares O.inputs xi) false declared in
+          let seen = observer_scoped n c e scoped obs in
+          law outs types outputs k fill enums O f s xi (observer_ok n c e ok scoped base obs) ((node_names O seen).1) (observer_right n c e scoped base obs right) (observer_has_ranks n c e scoped base obs right ranked) (input_old i (omega (arith, within, long, few)))
+          (is_apart O seen (λ z h. absurd cc) xi given) a.2 a.4 mean
+
+      -- there are as many places as targets
+      as_many : Along (AtEvent f.eqns (λ v p. Unit {0})) (walk_block O.body (events_from 0 f.eqns)).0 (found_in_node outs O)
+      as_many = walk_told outs f.eqns s.means (λ p q. Unit {0}) (λ v p. Unit {0}) (λ v p q m u. tt) walk enums O mean (block-hidden outs (λ p q. Unit {0}) O.body (λ p. Body ∷ p) (λ p. Body ∷ p) (λ p q. tt))
+
+      abbrev All : ℕ → Place → Type 0
+      All v p = (a : Output) → Free a v p
+
+      observed : Along (AtEvent f.eqns All) (walk_contract c (events_from 0 f.eqns)).0 (map (moved_pair (in_observer c.body)) (found_in_contract outs c))
+      observed =
+          let Told : List ℕ → Both → Type 0 = λ is fs. Along (AtEvent f.eqns All) is fs in
+          let there : Told (walk_block O.body (events_from 0 f.eqns)).0 (found_in_node outs O) = each_event f.eqns Free (walk_block O.body (events_from 0 f.eqns)).0 (found_in_node outs O) as_many one_output in
+          subst (Told (walk_contract c (events_from 0 f.eqns)).0) (found-moved outs n c) (subst (λ is. Told is (found_in_node outs O)) (contract-walked n c (events_from 0 f.eqns)) there)
+
+      told : (program : List Item) (v : ℕ) (p : Place) → IsInContract p → All v (in_observer c.body p) → ReadsNoWaiting program n f s.means v p
+      told program v p there free early i o x w numbered ew control waits d =
+          free (i, o, w, numbered, ew) (still_free c i o e numbered p there early.on_base) (λ reads. early_apart program n p o x right control early waits (reads_outputs c i o p e numbered there early.on_base reads)) d
+
     pub keeps_contract : KeepsContract enums n
-    keeps_contract c outs program i o x e numbered control types outputs k fill f s w ew mean =
-        let O : Node = observer_of n c in
-        let xi = input_name i in
-        let within = slice_get_within (names n.outputs) i o numbered in
-        let long : length (names n.outputs) ≡ length n.outputs = length-map n.outputs (λ (d : Decl). d.name) in
-        let few = obs.few in
-        let nought : 0 + i ≡ i = omega arith in
-        let declared : declares (n.inputs ++ inputs_for 0 n.outputs) xi ≡ true =
-        declares_append n.inputs (inputs_for 0 n.outputs) xi ∙ or_right (declares n.inputs xi) (declares (inputs_for 0 n.outputs) xi) (subst (λ z. declares (inputs_for 0 n.outputs) (input_name z) ≡ true) nought (input_there 0 n.outputs i (omega (arith, within, long)))) in
-        let given : IsGiven O xi = or_left (declares O.inputs xi) false declared in
-        let seen = observer_scoped n c e scoped obs in
-        let events_there = events_from 0 f.eqns in
-        let there =
-        law outs types outputs k fill enums O f s xi (observer_ok n c e ok scoped base obs) ((node_names O seen).1) (observer_right n c e scoped base obs right) (observer_has_ranks n c e scoped base obs right ranked) (input_old i (omega (arith, within, long, few)))
-        (is_apart O seen (λ z h. absurd cc) xi given) w ew mean in
-        let walked = subst (λ is. Along (EventStaysFree O xi f w) is (found_in_node outs O)) (contract-walked n c events_there) there in
-        let turned = subst (λ fs. Along (EventStaysFree O xi f w) (walk_contract c events_there).0 fs) (found-moved outs n c) walked in
-        events_back (λ y p. own_free O p ≡ Some [] → (PlaceDependsOnGiven O p xi → ⊥) → DependsOn f.eqns y w → ⊥) (λ v p. IsEarly program n p → DependsOnGiven n o x → DependsOn f.eqns v w → ⊥) (in_observer c.body)
-        (λ v p inside free early waits d. free (still_free c i o e numbered p inside early.on_base) (λ reads. early_apart program n p o x right control early waits (reads_outputs c i o p e numbered inside early.on_base reads)) d)
-        outs f.eqns (walk_contract c events_there).0 (found_in_contract outs c) turned (contract-stands outs c)
+    keeps_contract c outs program e types outputs k fill f s mean =
+        events_back (All c outs e types outputs k fill f s mean) (ReadsNoWaiting program n f s.means) (in_observer c.body) (told c outs e types outputs k fill f s mean program) outs f.eqns (walk_contract c (events_from 0 f.eqns)).0 (found_in_contract outs c)
+        (observed c outs e types outputs k fill f s mean) (contract-stands outs c)

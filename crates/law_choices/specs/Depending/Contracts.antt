@@ -13,7 +13,7 @@ use Rattle.hp_meaning.specs.Contract.FreePlaces.{IsEarly, own_free}
 use Rattle.hp_meaning.specs.Causal.RanksOfPoints.{AllFall}
 use Rattle.law_judged.specs.Named.Scoped.{EachNode, equations_of}
 use Rattle.law_values.specs.Accepted.Laws.{IsReady}
-use Rattle.hp_automata.specs.Lowering.{Enumerations, enumerations, lowered_node}
+use Rattle.hp_automata.specs.Lowering.{Enumerations, lowered_node}
 use Rattle.law_automata.specs.Lowered.Removable.{IsRemovable}
 use Rattle.law_automata.specs.Lowered.Standing.{Along}
 use Rattle.hp_flat.specs.Equations.{FlatEqn}
@@ -81,18 +81,22 @@ ReadsOutputs n =
 abbrev pub ReadsOutputsLaw : Type 0
 ReadsOutputsLaw = (program after : List Item) → IsReady program after → EachNode IsObservable after → EachNode ReadsOutputs after
 
--- The equation with this number of an observer has targets that do not depend on a variable where their places in the contract are early, and an output depends on a controllable variable.
-abbrev pub EventReadsNot : List Item → Node → List ℕ → List ℕ → FlatNode → ℕ → ℕ → Spot × Spot → Type 0
-EventReadsNot program n o x f w i c = (e : FlatEqn) × (slice_get f.eqns i ≡ Some e) × Along (λ v p. IsEarly program n p → DependsOnGiven n o x → DependsOn f.eqns v w → ⊥) e.targets (places_of c.0)
+-- An early place of a contract, and what stands for it in clocked equations of the observer: where an output depends on a controllable variable, that depends on no variable of the input which stands for the output.
+abbrev pub ReadsNoWaiting : List Item → Node → FlatNode → (ℕ → FlatName) → ℕ → Place → Type 0
+ReadsNoWaiting program n f means v p =
+    IsEarly program n p → (i : ℕ) (o x : List ℕ) (w : ℕ) → slice_get (names n.outputs) i ≡ Some o → means w ≡ Input (input_name i) → declares (controls_of n.contract) x ≡ true → DependsOnGiven n o x → DependsOn f.eqns v w → ⊥
 
--- Let clocked equations stand for the observer of a node's contract without automata, and the equations of comparisons and calls have targets that stand for their places. Beside a walk over the contract, these targets
--- depend on no input that stands for an output which depends on a controllable variable, where the places are early.
+-- So it is of the targets of the equation with this number, and of the places of a comparison or call.
+abbrev pub EventReadsNoWaiting : List Item → Node → FlatNode → (ℕ → FlatName) → ℕ → Spot × Spot → Type 0
+EventReadsNoWaiting program n f means i c = (e : FlatEqn) × (slice_get f.eqns i ≡ Some e) × Along (ReadsNoWaiting program n f means) e.targets (places_of c.0)
+
+-- Let clocked equations stand for the observer of a node's contract without automata, and the equations of comparisons and calls have targets that stand for their places. So it is of the numbers that a walk over the contract finds, one by one.
 abbrev pub KeepsContract : Enumerations → Node → Type 0
 KeepsContract enums n =
-    (c : Contract) (outs : List ℕ → List (List ℕ)) (program : List Item) (i : ℕ) (o x : List ℕ) → n.contract ≡ Some c → slice_get (names n.outputs) i ≡ Some o → declares (controls_of n.contract) x ≡ true
+    (c : Contract) (outs : List ℕ → List (List ℕ)) (program : List Item) → n.contract ≡ Some c
     → (types : List TypeDecl) (outputs : List ℕ → List (List ℕ)) (k : Known) (fill : Place → Value) (f : FlatNode) (s : Stands types outputs k fill (lowered_node enums (observer_of n c)) f)
-    → (w : ℕ) → s.means w ≡ Input (input_name i) → Along (TargetsMean s.means) (events f.eqns) (spots_of_node outs (lowered_node enums (observer_of n c)))
-    → Along (EventReadsNot program n o x f w) (walk_contract c (events_from 0 f.eqns)).0 (found_in_contract outs c)
+    → Along (TargetsMean s.means) (events f.eqns) (spots_of_node outs (lowered_node enums (observer_of n c)))
+    → Along (EventReadsNoWaiting program n f s.means) (walk_contract c (events_from 0 f.eqns)).0 (found_in_contract outs c)
 
 -- So it is of each node of a ready program whose contracts can be observed and whose points have ranks.
 abbrev pub ContractsLaw : Type 0
