@@ -30,6 +30,7 @@ pub mod NearlyLaws
 pub mod ObserverLaws
 pub mod ObserverShortLaws
 pub mod OneListLaws
+pub mod OwnContractLaws
 pub mod OwnLaws
 pub mod PartLaws
 pub mod PartShapeLaws
