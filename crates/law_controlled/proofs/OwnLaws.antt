@@ -11,7 +11,7 @@ use Rattle.hp_flat.specs.declared.equation.Atom.TheVariants.{Variable as Read, V
 use Rattle.hp_flat.specs.Equations.{Clock, FlatEqn}
 use Rattle.hp_flat.specs.Nodes.{FlatNode}
 use Rattle.law_equations.specs.Meaning.Fitting.{atom_variables}
-use Rattle.law_equations.specs.Meaning.Scheduling.{AreBelow, clock_variables, reads as all_reads, right_reads}
+use Rattle.law_equations.specs.Meaning.Scheduling.{AreBelow, clock_variables, IsWithin, reads as all_reads, right_reads}
 use Rattle.hp_watch.specs.Adding.{operator_eqn, with_eqn}
 use Rattle.hp_watch.specs.Embedding.{embedded, moved_all, moved_clock, moved_eqn, moved_right, Site, with_inputs, with_room, with_variables}
 use Rattle.hp_watch.specs.Watching.{own_site, reads}
@@ -20,7 +20,7 @@ use Rattle.law_choices.proofs.AddingLemmas.Rows.{each_range}
 use Rattle.law_choices.proofs.AddingLemmas.Steps.{among}
 use Rattle.law_choices.proofs.ClosedLemmas.ClosedLaws.{each_other, first_one, later_one}
 use Rattle.law_controlled.specs.Embedded.{CanStand, EmbeddedLaw, IsOrDependsOn, OwnEmbeddedLaw}
-use Rattle.law_controlled.proofs.EmbeddedLaws.{from_map, moved-last, moved-reads, moved-variables, room-longer, within-below}
+use Rattle.law_controlled.proofs.EmbeddedLaws.{CanBePut, from_map, IsSite, moved-last, moved-reads, moved-variables, room-longer, within-below}
 use Rattle.law_controlled.proofs.StraightLaws.{depends-behind, depends-read, read_cases, StayBelow}
 
 -- ---- copies of what an observer is put over
@@ -228,6 +228,10 @@ pub embedded_law : EmbeddedLaw
 embedded_law n o site can v w g l d = inner-chain n o site can v d.0 w g l d.1
 
 -- ---- the own observer
+
+-- what is known of the node that is watched is what is asked of it
+pub can_stand : (n o : FlatNode) (inputs : ℕ) → IsWithin n → CanBePut o → IsSite n o (own_site inputs n) → CanStand n o (own_site inputs n)
+can_stand n o inputs within can is = record { within = within; observer = can.within; no_inputs = can.no_inputs; clock = refl; restart = refl; inputs = is.inputs; few = is.few }
 
 get-split : {A : Type 0} (xs ys : List A) (j : ℕ) (z : A) → slice_get (xs ++ ys) j ≡ Some z → (slice_get xs j ≡ Some z) ⊎ ((i : ℕ) × (j ≡ length xs + i) × (slice_get ys i ≡ Some z))
 get-split [] ys j z e = inr (j, refl, e)
