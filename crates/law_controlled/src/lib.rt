@@ -210,6 +210,7 @@ pub fn programs_that_choose_have_one_list_of_machines()
 /// Where equations of the node that chooses read each other in a circle, an early bit of the node that is watched depends at that instant on a controllable variable: the controller is asked when early bits are known, and all else that the node gets reads what stands before it.
 pub fn circles_pass_early_bits()
     ensures { CircleLaw }
+{}
 
 /// Where an observer is put among the equations of a node, what depends there on a variable of the node depends in the observer on an input that stands for it, or for one that depends on it; the observer of the node's own contract depends so on outputs.
 pub fn observers_read_their_sites()
@@ -226,7 +227,6 @@ pub fn own_contracts_wait_for_no_choice()
     ready_programs_keep_dependence();
     variables_of_outputs_and_inputs();
 }
-{}
 
 /// A worked node of which an early bit is its controllable variable: what is asked of it is met, and the bit waits for the choice.
 pub fn a_worked_wait()
