@@ -1,9 +1,9 @@
 -- Early places of the own contract of a node depend on no controllable variable, where its observer stands among the equations of the node.
-use Rattle.std.proofs.Common.{◌≡◌, ◌⊎◌, inl, inr, ℕ, zero, suc, ◌+◌, ◌<◌, ◌≤◌, List, [], ◌∷◌, ◌++◌, length, map, drop, Option, None, Some, refl, sym, ap, subst, ◌∙◌, arith}
-use Rattle.std.specs.Prelude.{Contains, IsTrue, ◌||◌, true, slice_get}
+use Rattle.std.proofs.Common.{◌≡◌, inl, inr, ℕ, zero, suc, ◌+◌, ◌<◌, ◌≤◌, List, [], ◌∷◌, ◌++◌, length, map, drop, Some, refl, sym, ap, subst, ◌∙◌, arith}
+use Rattle.std.specs.Prelude.{true, slice_get}
 use Rattle.std.specs.List.{AllByRecursion}
 use Rattle.std.specs.Str.{bytes_eq}
-use Rattle.std.proofs.lemmas.List.{length-append, length-map, map-append}
+use Rattle.std.proofs.lemmas.List.{length-map, map-append}
 use Rattle.std.proofs.lemmas.Option.{slice_get_within}
 use Rattle.hp_base.specs.declared.value.Value.{Value}
 use Rattle.hp_tree.specs.Blocks.{Decl}
@@ -20,7 +20,7 @@ use Rattle.law_automata.specs.Lowered.Standing.{Along}
 use Rattle.law_automata.proofs.LoweredLemmas.Apart.{bytes_same}
 use Rattle.hp_flat.specs.Equations.{FlatEqn}
 use Rattle.hp_flat.specs.Nodes.{FlatNode}
-use Rattle.law_equations.specs.Flattened.Flatten.{At, FlatName, Input}
+use Rattle.law_equations.specs.Flattened.Flatten.{At, Input}
 use Rattle.law_equations.specs.Made.Making.{Known}
 use Rattle.law_equations.specs.Made.Laws.{body_name, names, Stands}
 use Rattle.law_equations.specs.Meaning.Scheduling.{DefinesNoInput}
@@ -29,13 +29,11 @@ use Rattle.hp_watch.specs.Walk.{events_from, walk_contract}
 use Rattle.hp_watch.specs.Watching.{own_site}
 use Rattle.law_choices.specs.Depending.Contracts.{ContractsLaw, EventReadsNoWaiting, found_in_contract, KeepsContract, ReadsNoWaiting}
 use Rattle.law_choices.specs.Depending.Dependence.{DependsOn}
-use Rattle.law_choices.specs.Depending.Found.{TargetsMean}
 use Rattle.law_choices.specs.Depending.Laws.{VariablesLaw}
 use Rattle.law_choices.specs.Independent.Dependence.{locals}
 use Rattle.law_choices.specs.Places.Found.{Both}
 use Rattle.law_choices.specs.Places.Laws.{places_of}
 use Rattle.law_choices.specs.Undisturbed.Laws.{IsUndisturbed, ReadyLaw}
-use Rattle.law_choices.proofs.AddingLemmas.Steps.{among}
 use Rattle.law_choices.proofs.OnClocksLemmas.Programs.{ready_clocks}
 use Rattle.law_controlled.specs.Embedded.{CanStand, EventWaitsForNone, IsOrDependsOn, KeepsOwnContract, OwnContractLaw, OwnEmbeddedLaw, WaitsForNone}
 
@@ -86,7 +84,6 @@ module _ (variables : VariablesLaw) (embeds : OwnEmbeddedLaw) (enums others : En
     observed_input : (i : ℕ) → i < length n.outputs → t.means (inputs + i) ≡ Input (input_name i)
     observed_input i l =
         let row = inputs_for 0 n.outputs in
-        let is : List ℕ × ℕ = ([], 0) in
         let long : length (names n.inputs) ≡ inputs = length-map n.inputs (λ (d : Decl). d.name) in
         let nought : 0 + i ≡ i = omega arith in
         let place : slice_get (names n.inputs ++ names row) (length (names n.inputs) + i) ≡ Some (input_name i) = get-behind (names n.inputs) (names row) i ∙ input_at 0 n.outputs i l ∙ ap (λ z. Some (input_name z)) nought in

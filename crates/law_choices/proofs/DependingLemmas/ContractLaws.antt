@@ -1,5 +1,5 @@
 -- The targets of the equations of a contract's comparisons depend on an input that stands for an output only where the contract reads the output; so early ones depend on no output that waits for the choice.
-use Rattle.std.proofs.Common.{◌≡◌, ◌⊎◌, inl, inr, ⊎_elim, ℕ, zero, suc, ◌+◌, ◌<◌, List, [], ◌∷◌, ◌++◌, length, map, Option, None, Some, refl, sym, ap, subst, ◌∙◌, arith}
+use Rattle.std.proofs.Common.{◌≡◌, inl, inr, ℕ, zero, suc, ◌+◌, ◌<◌, List, [], ◌∷◌, ◌++◌, length, map, Option, None, Some, refl, sym, ap, subst, ◌∙◌, arith}
 use Rattle.std.specs.Prelude.{Bool, true, false, ◌||◌, if◌then◌else◌, IsTrue, slice_get}
 use Rattle.std.specs.Str.{bytes_eq}
 use Rattle.std.proofs.lemmas.Option.{slice_get_within}
@@ -8,14 +8,12 @@ use Rattle.hp_base.specs.declared.value.Value.{Value}
 use Rattle.hp_tree.specs.Expressions.{Expr}
 use Rattle.hp_tree.specs.Blocks.{Decl, Block, block, Eqns, no_eqn, more_eqns, Eqn, define, switch, reset, automaton, eqns_of, list_of_eqns}
 use Rattle.hp_tree.specs.declared.program.Item.{Item}
-use Rattle.hp_tree.specs.declared.program.Item.TheVariants.{TypeItem, NodeItem}
 use Rattle.hp_tree.specs.Programs.{TypeDecl, Contract, Node}
 use Rattle.hp_tree.specs.Instant.{Inputs, Controls, Body, Observer, Assume, Enforce, Named, Equations, Head, Tail, Right, Place, Clock}
 use Rattle.hp_tree.specs.Meaning.{declares, clock_in, controls_of}
 use Rattle.hp_meaning.specs.Causal.Causality.{DependsBy, Ranked, sources}
 use Rattle.hp_meaning.specs.Causal.Clocked.{ClocksRight, ContractRight, on_base}
 use Rattle.hp_meaning.specs.Causal.InputDependence.{ChainWithInputs, sources_with_inputs}
-use Rattle.hp_meaning.specs.Causal.Points.{NamesDeclared}
 use Rattle.hp_meaning.specs.Causal.Sources.{Sources, none, only, both, also, IsRead, IsSource, below}
 use Rattle.hp_meaning.specs.Causal.WhatIsRead.{at_told, control_in, in_block, in_contract, names_in_block, output_in}
 use Rattle.hp_meaning.specs.Clocking.Clocking.{AreDefined}
@@ -46,7 +44,6 @@ use Rattle.law_choices.specs.Places.Found.{Both, found_in_node}
 use Rattle.law_choices.specs.Places.Laws.{events, places_of, WalkLaw}
 use Rattle.law_choices.specs.Places.Spots.{Spot, spots_of_node}
 use Rattle.law_choices.proofs.IndependentLemmas.Given.{Shape, shape}
-use Rattle.law_choices.proofs.IndependentLemmas.Ours.{with_body}
 use Rattle.law_choices.proofs.DependingLemmas.ContractPlaces.{contract-stands, contract-walked, found-moved, moved_pair, moved_places, StandThere}
 use Rattle.law_choices.proofs.DependingLemmas.EventLaws.{walk_told}
 use Rattle.law_choices.proofs.DependingLemmas.PlaceLaws.{control_placed}

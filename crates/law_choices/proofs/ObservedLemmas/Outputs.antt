@@ -1,5 +1,5 @@
 -- Where a place of a contract depends in the observer on an input that stands for an output, it depends in the node on the output.
-use Rattle.std.proofs.Common.{◌≡◌, ◌⊎◌, inl, inr, ℕ, suc, ◌+◌, ◌<◌, Bool, true, false, ◌&&◌, ◌||◌, if◌then◌else◌, List, [], ◌∷◌, ◌++◌, length, map, Option, None, Some, refl, sym, ap, ap₂, subst, ◌∙◌, arith}
+use Rattle.std.proofs.Common.{◌≡◌, ◌⊎◌, inl, inr, ℕ, suc, ◌+◌, ◌<◌, Bool, true, false, ◌&&◌, ◌||◌, if◌then◌else◌, List, [], ◌∷◌, ◌++◌, length, Option, None, Some, refl, sym, ap, ap₂, subst, ◌∙◌, arith}
 use Rattle.std.proofs.Math.Path.{fun_ext}
 use Rattle.std.specs.Prelude.{IsTrue, codes, decimal, slice_get}
 use Rattle.std.specs.Str.{bytes_eq}
@@ -8,13 +8,13 @@ use Rattle.std.proofs.lemmas.List.{append_cancel_left, length-map}
 use Rattle.std.proofs.lemmas.Option.{slice_get_within}
 use Rattle.hp_base.specs.declared.span.Span.{Span}
 use Rattle.hp_tree.specs.Expressions.{Expr}
-use Rattle.hp_tree.specs.Blocks.{Decl, Block, block, Eqns, no_eqn, more_eqns, Eqn, eqns_of, list_of_eqns}
+use Rattle.hp_tree.specs.Blocks.{Decl, Block, block, Eqns, Eqn, eqns_of, list_of_eqns}
 use Rattle.hp_tree.specs.Programs.{Contract, Node}
 use Rattle.hp_tree.specs.Instant.{Inputs, Controls, Body, Observer, Assume, Enforce, Named, Equations, Head, Tail, Right, First, Place, Clock}
-use Rattle.hp_tree.specs.Meaning.{declares, defines, some_defines, clock_in}
+use Rattle.hp_tree.specs.Meaning.{declares, some_defines, clock_in}
 use Rattle.hp_meaning.specs.Causal.Causality.{DependsBy, sources}
 use Rattle.hp_meaning.specs.Causal.Clocked.{AllRight, IsOn, Standing, TellsOnBase, base_alone, on_base, standing_in}
-use Rattle.hp_meaning.specs.Causal.InputDependence.{row_in, input_in, sources_with_inputs}
+use Rattle.hp_meaning.specs.Causal.InputDependence.{sources_with_inputs}
 use Rattle.hp_meaning.specs.Causal.Sources.{Sources, none, only, both, also, IsSource, NameSources, PlaceSources, below}
 use Rattle.hp_meaning.specs.Causal.WhatIsRead.{at_expr, at_told, has_equation, in_block, in_equations, names_in, of_clock, of_definitions, output_in}
 use Rattle.hp_meaning.specs.Clocking.Clocking.{AreDefined}
