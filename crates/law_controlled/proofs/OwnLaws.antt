@@ -2,7 +2,7 @@
 use Rattle.std.proofs.Common.{◌≡◌, ◌⊎◌, inl, inr, ℕ, zero, suc, ◌+◌, ◌<◌, ◌≤◌, Bool, true, false, nat_lt, List, [], ◌∷◌, ◌++◌, length, map, Some, refl, sym, ap, ap₂, subst, ◌∙◌, arith}
 use Rattle.std.specs.Prelude.{Contains, slice_get}
 use Rattle.std.specs.List.{AllByRecursion, flat_map, range_with_len}
-use Rattle.std.proofs.lemmas.Grind.{nat_tests}
+use Rattle.std.proofs.lemmas.Bool.Decides.{nat_tests}
 use Rattle.std.proofs.lemmas.List.{append-nil, append_assoc, map-append}
 use Rattle.std.proofs.lemmas.List.FromFn.{length-range_with_len}
 use Rattle.hp_obc.specs.declared.command.ObcOp.TheVariants.{Copy}
@@ -55,12 +55,12 @@ one-read target a args v w r = by a there.1
 
 copy-read : (args : List Atom) (target v w : ℕ) → IsReadFor (copies [] target args) v w → IsCopy target args v w
 copy-read [] target v w r = absurd (among (λ (d : FlatEqn). ⊥) [] r.0 tt r.1)
-copy-read (a ∷ args) target v w r = by (read_cases (operator_eqn target [] Copy (a ∷ []) ∷ []) (copies [] (target + 1) args) v w r)
+copy-read (a ∷ args) target v w r = by (read_cases (operator_eqn target [] Copy (a ∷ []) ∷ []) (copies [] (target + 1) args) v w r) (λ c. copy-read args (target + 1) v w c)
   where
-    by : IsReadFor (operator_eqn target [] Copy (a ∷ []) ∷ []) v w ⊎ IsReadFor (copies [] (target + 1) args) v w → IsCopy target (a ∷ args) v w
-    by (inl c) = one-read target a args v w c
-    by (inr c) =
-        let s = copy-read args (target + 1) v w c in
+    by : IsReadFor (operator_eqn target [] Copy (a ∷ []) ∷ []) v w ⊎ IsReadFor (copies [] (target + 1) args) v w → (IsReadFor (copies [] (target + 1) args) v w → IsCopy (target + 1) args v w) → IsCopy target (a ∷ args) v w
+    by (inl c) rest = one-read target a args v w c
+    by (inr c) rest =
+        let s = rest c in
         let l = s.1 in
         let e = s.2 in
         (suc s.0, omega (arith, l), omega (arith, e), s.3)
@@ -209,20 +209,15 @@ module _ (n o : FlatNode) (site : Site) (can : CanStand n o site) where
       let r = inner-read x w g c in
       let e = r.1 in
       absurd (omega (arith, e, l))
-  inner-chain x (u ∷ us) w g l c = by (nat_lt y o.inputs) refl
+  inner-chain x (u ∷ us) w g l c =
+      let r = inner-read x u g c.0 in
+      let y : ℕ = r.0 in
+      let next : EquationChain E (y + V) us w = subst (λ z. EquationChain E z us w) r.1 c.1 in
+      by y r.2 next (nat_lt y o.inputs) refl (λ more. inner-chain y us w more l next)
     where
-      r : (y : ℕ) × (u ≡ y + V) × IsReadFor o.eqns x y
-      r = inner-read x u g c.0
-
-      y : ℕ
-      y = r.0
-
-      next : EquationChain E (y + V) us w
-      next = subst (λ z. EquationChain E z us w) r.1 c.1
-
-      by : (b : Bool) → nat_lt y o.inputs ≡ b → Found x w
-      by true e = let s = input-chain y us w (grind (arith, nat_tests, e)) next in (y, s.0, s.1, depends-read o.eqns x y r.2, s.2)
-      by false e = let s = inner-chain y us w (grind (arith, nat_tests, e)) l next in (s.0, s.1, s.2, depends-behind o.eqns x y s.0 r.2 s.3, s.4)
+      by : (y : ℕ) → IsReadFor o.eqns x y → EquationChain E (y + V) us w → (b : Bool) → nat_lt y o.inputs ≡ b → (o.inputs ≤ y → Found y w) → Found x w
+      by y r next true e again = let s = input-chain y us w (grind (arith, nat_tests, e)) next in (y, s.0, s.1, depends-read o.eqns x y r, s.2)
+      by y r next false e again = let s = again (grind (arith, nat_tests, e)) in (s.0, s.1, s.2, depends-behind o.eqns x y s.0 r s.3, s.4)
 
 pub embedded_law : EmbeddedLaw
 embedded_law n o site can v w g l d = inner-chain n o site can v d.0 w g l d.1
@@ -234,9 +229,9 @@ pub can_stand : (n o : FlatNode) (inputs : ℕ) → IsWithin n → CanBePut o �
 can_stand n o inputs within can is = record { within = within; observer = can.within; no_inputs = can.no_inputs; clock = refl; restart = refl; inputs = is.inputs; few = is.few }
 
 get-split : {A : Type 0} (xs ys : List A) (j : ℕ) (z : A) → slice_get (xs ++ ys) j ≡ Some z → (slice_get xs j ≡ Some z) ⊎ ((i : ℕ) × (j ≡ length xs + i) × (slice_get ys i ≡ Some z))
-get-split [] ys j z e = inr (j, refl, e)
+get-split [] ys j z e = inr (j, omega arith, e)
 get-split (x ∷ xs) ys zero z e = inl e
-get-split {A} (x ∷ xs) ys (suc j) z e = by (get-split xs ys j z e)
+get-split (x ∷ xs) ys (suc j) z e = by (get-split xs ys j z e)
   where
     by : (slice_get xs j ≡ Some z) ⊎ ((i : ℕ) × (j ≡ length xs + i) × (slice_get ys i ≡ Some z)) → (slice_get xs j ≡ Some z) ⊎ ((i : ℕ) × (suc j ≡ suc (length xs) + i) × (slice_get ys i ≡ Some z))
     by (inl h) = inl h
