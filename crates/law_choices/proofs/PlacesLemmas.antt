@@ -11,3 +11,4 @@ pub mod Absent
 pub mod Values
 pub mod Named
 pub mod Related
+pub mod Standing

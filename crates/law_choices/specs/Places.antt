@@ -3,3 +3,4 @@ pub mod Found
 pub mod Laws
 pub mod Values
 pub mod Named
+pub mod Standing

@@ -5,6 +5,7 @@
 
 ghost use Rattle.law_choices.specs.Places.Laws.{CountLaw, EventsLaw, FoundLaw, SlotsLaw, WalkLaw};
 ghost use Rattle.law_choices.specs.Places.Named.{CopyLaw, NamedLaw};
+ghost use Rattle.law_choices.specs.Places.Standing.{StandingLaw};
 ghost use Rattle.law_choices.specs.Places.Values.{ValuesLaw};
 
 /// The equations of comparisons and calls that are made of a node without automata are those of its comparisons and calls, in turn: with that operator and one target, or with that callee and a target for each output.
@@ -33,4 +34,9 @@ pub fn found_places_keep_values()
 pub fn named_comparisons_are_copied()
     ensures named { NamedLaw }
     ensures copy { CopyLaw }
+{}
+
+/// Where the variables of what compares or calls stand for the places that its labels name, so do those of the equations that the walk finds.
+pub fn found_places_have_variables()
+    ensures { StandingLaw }
 {}
