@@ -23,10 +23,9 @@ use Rattle.hp_watch.specs.Walk.{compares, events_from, is_event, walk_block}
 use Rattle.law_choices.specs.Places.Found.{found_in_node}
 use Rattle.law_choices.specs.Places.Laws.{AreMadeOf, IsEventOf, KnowsOutputs, events, places_of}
 use Rattle.law_choices.specs.Places.Spots.{Spot, compared, compared_spots, spots, spots_of_all, spots_of_arms, spots_of_block, spots_of_eqn, spots_of_eqns, spots_of_node, spots_of_parts}
-use Rattle.law_choices.specs.Places.Standing.{StandingLaw, StandsAtNumber}
+use Rattle.law_choices.specs.Places.Standing.{StandingLaw, StandsAtNumber, StandsForSpot}
 use Rattle.law_choices.proofs.PlacesLemmas.Events.{constant-none, events-are, false-none}
-use Rattle.law_choices.proofs.PlacesLemmas.Expressions.{made as found_low}
-use Rattle.law_choices.proofs.PlacesLemmas.Numbers.{AtNumber, numbered}
+use Rattle.law_choices.proofs.PlacesLemmas.Numbers.{numbered}
 use Rattle.law_choices.proofs.PlacesLemmas.Relating.{block-goes}
 use Rattle.law_choices.proofs.PlacesLemmas.Slots.{same-comparison}
 use Rattle.law_choices.proofs.PlacesLemmas.Walks.{walk-finds}
@@ -180,10 +179,7 @@ events-alike (e ∷ es) = ap₂ (λ (b : Bool) (fs : List FlatEqn). if b then e 
 -- ---- one by one
 
 module _ (means : ℕ → FlatName) where
-  abbrev StandFor : FlatEqn → Spot → Type 0
-  StandFor e s = IsEventOf e s × (map means e.targets ≡ ats (places_of s))
-
-  both-stand : (es : List FlatEqn) (ls : List Label) (ss : List Spot) → AreMadeAt means es ls → of_labels ls ≡ of_spots ss → Along IsEventOf es ss → Along StandFor es ss
+  both-stand : (es : List FlatEqn) (ls : List Label) (ss : List Spot) → AreMadeAt means es ls → of_labels ls ≡ of_spots ss → Along IsEventOf es ss → Along (StandsForSpot means) es ss
   both-stand [] ls [] h e k = tt
   both-stand [] ls (s ∷ ss) h e k = absurd k
   both-stand (q ∷ es) ls [] h e k = absurd k
@@ -199,6 +195,6 @@ standing-law outputs k enums n es means knows are labelled =
     let ss = spots_of_node outputs low in
     let places : of_labels (block_labels outputs low.body in_body []) ≡ of_spots ss = block-labels outputs low.body in_body [] ∙ append-nil (of_spots ss) in
     let stand = both-stand means (events es) (block_labels outputs low.body in_body []) ss (subst (λ fs. AreMadeAt means fs (block_labels outputs low.body in_body [])) (events-alike es) labelled) places (events-are outputs k low es knows are) in
-    let numbers = numbered (StandFor means) [] es ss stand in
+    let numbers = numbered (StandsForSpot means) [] es ss stand in
     let g = block-goes (StandsAtNumber means es) n.body (events_from 0 es) ss numbers in
     subst (λ ps. Along (StandsAtNumber means es) (walk_block n.body (events_from 0 es)).0 ps) (ap (λ (x : List Spot × List Spot). x.0) (walk-finds outputs enums n)) g.0

@@ -15,9 +15,13 @@ use Rattle.law_choices.specs.Places.Found.{found_in_node}
 use Rattle.law_choices.specs.Places.Laws.{AreMadeOf, IsEventOf, KnowsOutputs, places_of}
 use Rattle.law_choices.specs.Places.Spots.{Spot}
 
--- This number is that of the equation of a comparison or a call, whose variables stand for its places.
+-- the equation of a comparison or a call, whose variables stand for its places
+abbrev pub StandsForSpot : (ℕ → FlatName) → FlatEqn → Spot → Type 0
+StandsForSpot means e s = IsEventOf e s × (map means e.targets ≡ ats (places_of s))
+
+-- the number of such an equation
 abbrev pub StandsAtNumber : (ℕ → FlatName) → List FlatEqn → ℕ → Spot → Type 0
-StandsAtNumber means es i s = (e : FlatEqn) × (slice_get es i ≡ Some e) × IsEventOf e s × (map means e.targets ≡ ats (places_of s))
+StandsAtNumber means es i s = (e : FlatEqn) × (slice_get es i ≡ Some e) × StandsForSpot means e s
 
 -- Where the equations that compare or call are those of the labels of a body without automata, so are the numbers that a walk over the node with its automata finds, in the order of slots.
 abbrev pub StandingLaw : Type 0
