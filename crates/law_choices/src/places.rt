@@ -1,6 +1,6 @@
 //! Laws: the comparisons and calls among a node's equations, by their order, and how a walk over the tree finds them.
 //!
-//! The functions here do nothing: each is a law, which its contract states. What variable stands for which place is said of comparisons that have names alone.
+//! The functions here do nothing: each is a law, which its contract states.
 #![tactic(auto)]
 
 ghost use Rattle.law_choices.specs.Places.Laws.{CountLaw, EventsLaw, FoundLaw, SlotsLaw, WalkLaw};
