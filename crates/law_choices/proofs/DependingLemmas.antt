@@ -17,3 +17,4 @@ pub mod FoundLaws
 pub mod Conditions
 pub mod StrongLaws
 pub mod EventLaws
+pub mod MeantLaws
