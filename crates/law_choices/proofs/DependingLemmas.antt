@@ -17,3 +17,5 @@ pub mod FoundLaws
 pub mod Conditions
 pub mod StrongLaws
 pub mod EventLaws
+pub mod ContractPlaces
+pub mod ContractLaws

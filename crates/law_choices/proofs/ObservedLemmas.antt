@@ -16,3 +16,4 @@ pub mod Swapped
 pub mod Worked
 pub mod Ranks
 pub mod Read
+pub mod Outputs

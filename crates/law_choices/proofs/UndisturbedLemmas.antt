@@ -1,3 +1,4 @@
 pub mod Controls
 pub mod Apart
 pub mod Ready
+pub mod Contracts

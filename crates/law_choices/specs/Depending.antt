@@ -4,3 +4,4 @@ pub mod Laws
 pub mod Targets
 pub mod Places
 pub mod Found
+pub mod Contracts

@@ -3,13 +3,15 @@
 //! The functions here do nothing: each is a law, which its contract states.
 #![tactic(auto)]
 
+ghost use Rattle.law_choices.specs.Depending.Contracts.{ContractsLaw, ReadsOutputsLaw};
 ghost use Rattle.law_choices.specs.Undisturbed.Laws.{ApartLaw, PlacesLaw, ReadyLaw};
 
 use crate::depending::{
-    early_events_depend_on_no_choice, early_places_depend_on_no_choice, passes_add_no_dependence,
-    places_add_no_dependence,
+    early_events_depend_on_no_choice, early_places_depend_on_no_choice, events_add_no_dependence,
+    passes_add_no_dependence, places_add_no_dependence,
 };
 use crate::independent::{automata_add_no_dependence, independent_names_stay_so};
+use crate::places::walks_find_places;
 use hp_meaning::causal::{ranked_is_causal, ranks_of_points};
 use law_values::accepted::ready_programs_are_accepted;
 
@@ -39,4 +41,18 @@ pub fn ready_programs_keep_places()
     places_add_no_dependence();
     ranks_of_points();
     ready_programs_are_accepted();
+}
+
+/// A free place of a contract on the base clock, outside of all blocks, depends in the observer on the input that stands for an output only where the place depends on the output in the node.
+pub fn observers_read_no_more()
+    ensures { ReadsOutputsLaw }
+{}
+
+/// So what stands for an early place of a contract in clocked equations of the observer depends on no input that stands for an output which depends on a controllable variable.
+pub fn ready_programs_keep_contracts()
+    ensures { ContractsLaw }
+{
+    events_add_no_dependence();
+    walks_find_places();
+    ranks_of_points();
 }

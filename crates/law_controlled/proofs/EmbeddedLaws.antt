@@ -38,7 +38,7 @@ within-below k es h = each_other (EqnWithin k) (λ (e : FlatEqn). AreBelow k e.t
 -- ---- moving
 
 -- a number that is moved, or one of those of the site, which are below
-abbrev Came : ℕ → List ℕ → ℕ → Type 0
+abbrev pub Came : ℕ → List ℕ → ℕ → Type 0
 Came by xs y = (y < by) ⊎ ((x : ℕ) × (y ≡ x + by) × Contains xs x)
 
 came-more : (by : ℕ) (xs ys : List ℕ) → ((x : ℕ) → Contains xs x → Contains ys x) → (zs : List ℕ) → AllByRecursion (Came by xs) zs → AllByRecursion (Came by ys) zs
@@ -51,11 +51,11 @@ came-more by xs ys f zs h = each_other (Came by xs) (Came by ys) (λ z c. one z 
 came-below : (by : ℕ) (xs ys : List ℕ) → AreBelow by ys → AllByRecursion (Came by xs) ys
 came-below by xs ys h = each_other (λ y. y < by) (Came by xs) (λ y l. inl l) ys h
 
-came-moved : (by : ℕ) (xs : List ℕ) → AllByRecursion (Came by xs) (moved_all by xs)
+pub came-moved : (by : ℕ) (xs : List ℕ) → AllByRecursion (Came by xs) (moved_all by xs)
 came-moved by [] = tt
 came-moved by (x ∷ xs) = (inr (x, refl, first_one x xs), came-more by xs (x ∷ xs) (λ y c. later_one x y xs c) (moved_all by xs) (came-moved by xs))
 
-moved-variables : (by : ℕ) (clock : Clock) → clock_variables (moved_clock by clock) ≡ moved_all by (clock_variables clock)
+pub moved-variables : (by : ℕ) (clock : Clock) → clock_variables (moved_clock by clock) ≡ moved_all by (clock_variables clock)
 moved-variables by [] = refl
 moved-variables by (on ∷ clock) = ap (λ xs. (on.0 + by) ∷ xs) (moved-variables by clock)
 
@@ -64,7 +64,7 @@ moved-atoms by [] = refl
 moved-atoms by (Read x ∷ args) = ap (λ xs. (x + by) ∷ xs) (moved-atoms by args)
 moved-atoms by (Fixed v ∷ args) = moved-atoms by args
 
-moved-reads : (by : ℕ) (r : Right) → right_reads (moved_right by r) ≡ moved_all by (right_reads r)
+pub moved-reads : (by : ℕ) (r : Right) → right_reads (moved_right by r) ≡ moved_all by (right_reads r)
 moved-reads by (operator op args) = moved-atoms by args
 moved-reads by (register first next) = refl
 moved-reads by (called f args) = moved-atoms by args
@@ -95,7 +95,7 @@ module _ (site : Site) (far : ℕ) (clock : AreBelow far (clock_variables site.c
   unmoved x xs (inl l) h = absurd (omega (arith, l, h))
   unmoved x xs (inr c) h = let same = c.1 in subst (Contains xs) (omega (arith, same)) c.2
 
-  from_map : (es : List FlatEqn) (d : FlatEqn) → Contains (map (moved_eqn site far) es) d → (e : FlatEqn) × Contains es e × (moved_eqn site far e ≡ d)
+  pub from_map : (es : List FlatEqn) (d : FlatEqn) → Contains (map (moved_eqn site far) es) d → (e : FlatEqn) × Contains es e × (moved_eqn site far e ≡ d)
   from_map [] d h = absurd (among (λ (g : FlatEqn). ⊥) [] d tt h)
   from_map (e ∷ es) d h = by (λ c. from_map es d c) (Contains-append_cases (moved_eqn site far e ∷ []) (map (moved_eqn site far) es) d h)
     where
@@ -162,7 +162,7 @@ module _ (site : Site) (far : ℕ) (clock : AreBelow far (clock_variables site.c
 
 -- ---- the node with room
 
-room-longer : (vs : List Variable) (n : FlatNode) → (length (with_variables vs n).variables ≡ length n.variables + length vs) × ((with_variables vs n).eqns ≡ n.eqns)
+pub room-longer : (vs : List Variable) (n : FlatNode) → (length (with_variables vs n).variables ≡ length n.variables + length vs) × ((with_variables vs n).eqns ≡ n.eqns)
 unfolding with_variable
 room-longer [] n = (omega arith, refl)
 room-longer (v ∷ vs) n =
@@ -190,7 +190,7 @@ rises-inputs low high clock (Fixed v ∷ args) target n m c a l u r =
     rises-inputs low high clock args (target + 1) n (with_eqn e m) c a (omega (arith, l)) (omega (arith, u))
     (rises-eqn low high n m e r (operator-rising low high target clock Copy (Fixed v ∷ []) l (omega (arith, u)) (higher low target l (clock_variables clock) c) tt))
 
-moved-last : (site : Site) (far : ℕ) (es : List FlatEqn) (n : FlatNode) → ((with_moved site far es n).eqns ≡ n.eqns ++ map (moved_eqn site far) es) × ((with_moved site far es n).variables ≡ n.variables)
+pub moved-last : (site : Site) (far : ℕ) (es : List FlatEqn) (n : FlatNode) → ((with_moved site far es n).eqns ≡ n.eqns ++ map (moved_eqn site far) es) × ((with_moved site far es n).variables ≡ n.variables)
 unfolding with_eqn
 moved-last site far [] n = (sym (append-nil n.eqns), refl)
 moved-last site far (e ∷ es) n =

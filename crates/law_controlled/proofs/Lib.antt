@@ -30,6 +30,8 @@ pub mod NearlyLaws
 pub mod ObserverLaws
 pub mod ObserverShortLaws
 pub mod OneListLaws
+pub mod OwnContractLaws
+pub mod OwnLaws
 pub mod PartLaws
 pub mod PartShapeLaws
 pub mod PlantLaws

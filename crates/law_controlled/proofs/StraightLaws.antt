@@ -125,7 +125,7 @@ read_cases es fs v w r = by (Contains-append_cases es fs r.0 r.1)
     by (inr c) = inr (r.0, c, r.2, r.3)
 
 module _ (k : ℕ) (es more : List FlatEqn) (low : StayBelow k es) (high : AreBehind k more) where
-  low_read : (v w : ℕ) → IsReadFor es v w → (v < k) × (w < k)
+  pub low_read : (v w : ℕ) → IsReadFor es v w → (v < k) × (w < k)
   low_read v w r =
       let all = among (λ (e : FlatEqn). AreBelow k e.targets × AreBelow k (reads e)) es r.0 low r.1 in
       (among (λ x. x < k) (r.0).targets v all.0 r.2, among (λ x. x < k) (reads r.0) w all.1 r.3)

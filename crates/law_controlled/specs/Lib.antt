@@ -2,6 +2,7 @@ pub mod Alike
 pub mod Allowed
 pub mod AtDepth
 pub mod Early
+pub mod Embedded
 pub mod Fitting
 pub mod Greatest
 pub mod Headed

@@ -5,6 +5,7 @@
 
 ghost use Rattle.law_controlled.specs.Allowed.{AllowedLaw};
 ghost use Rattle.law_controlled.specs.Early.{CircleLaw, SomeWaitsLaw};
+ghost use Rattle.law_controlled.specs.Embedded.{EmbeddedLaw, OwnContractLaw, OwnEmbeddedLaw};
 ghost use Rattle.law_controlled.specs.Headed.{HeadedLaw};
 ghost use Rattle.law_controlled.specs.Machines.{MadeMachinesLaw, TurnMachinesLaw};
 ghost use Rattle.law_controlled.specs.Mirrored.{MirroredLaw};
@@ -29,6 +30,7 @@ use law_choices::adding::{
     watched_nodes_choose,
 };
 use law_choices::answered::extended_nodes_close;
+use law_choices::depending::variables_of_outputs_and_inputs;
 use law_choices::in_turn::{
     a_node_stands_for_each, a_node_tells_each_contract,
     nodes_that_choose_answer_as_the_program_allows, nodes_that_choose_stand_in_turn,
@@ -50,7 +52,9 @@ use law_choices::seeing::{
     contracts_that_are_seen_are_told, named_places_are_seen,
     nodes_that_see_values_choose_the_greatest,
 };
-use law_choices::undisturbed::controls_are_apart;
+use law_choices::undisturbed::{
+    controls_are_apart, ready_programs_keep_contracts, ready_programs_keep_dependence,
+};
 use law_drawing::mirrors::{drawn_games_are_kept, drawn_nodes_are_mirrored};
 use law_equations::fewer::nodes_are_compiled;
 use law_equations::fitting::{calls_are_kept, larger_names_are_free, names_fit, targets_differ};
@@ -207,6 +211,22 @@ pub fn programs_that_choose_have_one_list_of_machines()
 pub fn circles_pass_early_bits()
     ensures { CircleLaw }
 {}
+
+/// Where an observer is put among the equations of a node, what depends there on a variable of the node depends in the observer on an input that stands for it, or for one that depends on it; the observer of the node's own contract depends so on outputs.
+pub fn observers_read_their_sites()
+    ensures site { EmbeddedLaw }
+    ensures own { OwnEmbeddedLaw }
+{}
+
+/// So early places of the own contract of a node depend on no controllable variable there.
+pub fn own_contracts_wait_for_no_choice()
+    ensures { OwnContractLaw }
+{
+    observers_read_their_sites();
+    ready_programs_keep_contracts();
+    ready_programs_keep_dependence();
+    variables_of_outputs_and_inputs();
+}
 
 /// A worked node of which an early bit is its controllable variable: what is asked of it is met, and the bit waits for the choice.
 pub fn a_worked_wait()

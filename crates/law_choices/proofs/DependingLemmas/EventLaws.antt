@@ -42,7 +42,7 @@ module _ (names : List ℕ → List (List ℕ)) (es : List FlatEqn) (means : ℕ
       ((e, here.1, targets_told e.targets (places_of c.0) (places_of c.1) here.2 k.0), each_told is fs h.1 k.1)
 
   -- the equations of a node without automata, beside a walk over the node
-  walk_told : WalkLaw → (enums : Enumerations) (n : Node) → Along (TargetsMean means) (events es) (spots_of_node names (lowered_node enums n)) → All names W (found_in_node names n) → Along Told (walk_block n.body (events_from 0 es)).0 (found_in_node names n)
+  pub walk_told : WalkLaw → (enums : Enumerations) (n : Node) → Along (TargetsMean means) (events es) (spots_of_node names (lowered_node enums n)) → All names W (found_in_node names n) → Along Told (walk_block n.body (events_from 0 es)).0 (found_in_node names n)
   walk_told walk enums n mean all =
       let spots = spots_of_node names (lowered_node enums n) in
       let beside = block-goes (AtNumber (TargetsMean means) es) n.body (events_from 0 es) spots (numbered (TargetsMean means) [] es spots mean) in

@@ -120,7 +120,7 @@ place_law order ranks kept types outputs k fill enums n f s p x ok declared righ
 -- ---- early places
 
 -- a controllable variable stands at a place of its own
-control_placed : (n : Node) (x : List ℕ) (q : Place) → declares (controls_of n.contract) x ≡ true → given_in n x ≡ only q → (p : Place) × (q ≡ Controls ∷ p)
+pub control_placed : (n : Node) (x : List ℕ) (q : Place) → declares (controls_of n.contract) x ≡ true → given_in n x ≡ only q → (p : Place) × (q ≡ Controls ∷ p)
 control_placed n x q c e = by (controls_of n.contract) (λ p. Controls ∷ p) (λ p. (p, refl)) c e
   where
     step : (d : Decl) (cs : List Decl) (w : Place → Place) → ((p : Place) → (s : Place) × (w p ≡ Controls ∷ s)) → (t : Bool) → (t || declares cs x) ≡ true → (if t then only (w (Head ∷ [])) else row_in cs (λ p. only (w (Tail ∷ p))) (input_in n only) x) ≡ only q

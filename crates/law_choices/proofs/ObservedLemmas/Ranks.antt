@@ -22,6 +22,7 @@ use Rattle.law_judged.proofs.NamedLemmas.Sets.{or_left, or_right}
 use Rattle.law_automata.proofs.LoweredLemmas.Apart.{bytes_same, same_bytes}
 use Rattle.hp_meaning.specs.Clocking.Clocking.{AreDefined}
 use Rattle.hp_watch.specs.Observing.{all_handed_on, assumed, condition_of, enforced, input_name, inputs_for, lines_of, observer_of, observer_if, observers, outputs_at, with_lines}
+use Rattle.law_choices.specs.Depending.Contracts.{behind_all as tails}
 use Rattle.law_choices.specs.Observed.Contracts.{IsObservable, IsOther}
 use Rattle.law_choices.proofs.IndependentLemmas.Moved.{mk, mn, move_expr, move_in_block, move_of, moved}
 use Rattle.law_choices.proofs.ObservedLemmas.Bodies.{assumed_not_other, defines_behind, enforced_not_other, eqn_local, lines_define, local_no_output, none_declared, outputs_other}
@@ -33,25 +34,20 @@ use Rattle.law_choices.proofs.ObservedLemmas.Removable.{AllBase}
 -- ---- equations in front of others
 
 -- the place stands in one of these equations
-abbrev inside : Eqns → Place → Bool
+abbrev pub inside : Eqns → Place → Bool
 inside no_eqn p = false
 inside (more_eqns e es) (Head ∷ p) = true
 inside (more_eqns e es) (Tail ∷ p) = inside es p
 inside (more_eqns e es) p = false
 
--- a place behind them
-abbrev tails : Eqns → Place → Place
-tails no_eqn p = p
-tails (more_eqns e es) p = Tail ∷ tails es p
-
 module _ (locals : List Decl) (more : List Eqn) where
-  front : (es : Eqns) (names : NameSources) (k : PlaceSources) (p : Place) → inside es p ≡ true → in_equations locals (eqns_of (list_of_eqns es ++ more)) names k p ≡ in_equations locals es names k p
+  pub front : (es : Eqns) (names : NameSources) (k : PlaceSources) (p : Place) → inside es p ≡ true → in_equations locals (eqns_of (list_of_eqns es ++ more)) names k p ≡ in_equations locals es names k p
   front no_eqn names k p i = absurd cc
   front (more_eqns e es) names k (Head ∷ p) i = refl
   front (more_eqns e es) names k (Tail ∷ p) i = front es names (below Tail k) p i
   front (more_eqns e es) names k p i = refl
 
-  back : (es : Eqns) (names : NameSources) (k : PlaceSources) (q : Place) → in_equations locals (eqns_of (list_of_eqns es ++ more)) names k (tails es q) ≡ in_equations locals (eqns_of more) names (λ r. k (tails es r)) q
+  pub back : (es : Eqns) (names : NameSources) (k : PlaceSources) (q : Place) → in_equations locals (eqns_of (list_of_eqns es ++ more)) names k (tails es q) ≡ in_equations locals (eqns_of more) names (λ r. k (tails es r)) q
   back no_eqn names k q = refl
   back (more_eqns e es) names k q = back es names (below Tail k) q
 
@@ -70,7 +66,7 @@ module _ (locals : List Decl) (more : List Eqn) where
       by (inr (inr f)) = inr (inr (λ names k. f names (below Tail k)))
   split (more_eqns e es) p = inr (inr (λ names k. refl))
 
-  split_definitions : (es : Eqns) (names : NameSources) (k : PlaceSources) (x : List ℕ) → of_definitions locals (eqns_of (list_of_eqns es ++ more)) names k x
+  pub split_definitions : (es : Eqns) (names : NameSources) (k : PlaceSources) (x : List ℕ) → of_definitions locals (eqns_of (list_of_eqns es ++ more)) names k x
       ≡ (if some_defines es x then of_definitions locals es names k x else of_definitions locals (eqns_of more) names (λ r. k (tails es r)) x)
   split_definitions no_eqn names k x = refl
   split_definitions (more_eqns e es) names k x = by (defines e x) (split_definitions es names (below Tail k) x)
@@ -84,11 +80,11 @@ module _ (locals : List Decl) (more : List Eqn) where
 -- ---- what equations read does not depend on other places, nor on declarations that say the same clocks
 
 module _ (ds : List Decl) (names : NameSources) where
-  places_same : (es : Eqns) (k l : PlaceSources) → ((q : Place) → inside es q ≡ true → k q ≡ l q) → in_equations ds es names k ≡ in_equations ds es names l
+  pub places_same : (es : Eqns) (k l : PlaceSources) → ((q : Place) → inside es q ≡ true → k q ≡ l q) → in_equations ds es names k ≡ in_equations ds es names l
   places_same no_eqn k l f = refl
   places_same (more_eqns e es) k l f = ap₂ at_row (ap (in_equation ds e names) (fun_ext (λ q. f (Head ∷ q) refl))) (places_same es (below Tail k) (below Tail l) (λ q i. f (Tail ∷ q) i))
 
-  places_define : (es : Eqns) (k l : PlaceSources) (x : List ℕ) → ((q : Place) → inside es q ≡ true → k q ≡ l q) → of_definitions ds es names k x ≡ of_definitions ds es names l x
+  pub places_define : (es : Eqns) (k l : PlaceSources) (x : List ℕ) → ((q : Place) → inside es q ≡ true → k q ≡ l q) → of_definitions ds es names k x ≡ of_definitions ds es names l x
   places_define no_eqn k l x f = refl
   places_define (more_eqns e es) k l x f =
       let first : below Head k ≡ below Head l = fun_ext (λ q. f (Head ∷ q) refl) in
@@ -101,7 +97,7 @@ module _ (ds locals : List Decl) (same : (x : List ℕ) → clock_in locals x �
   one_local (reset s b e) k = refl
   one_local (automaton s ss) k = refl
 
-  all_local : (es : Eqns) (k : PlaceSources) → in_equations ds es names k ≡ in_equations locals es names k
+  pub all_local : (es : Eqns) (k : PlaceSources) → in_equations ds es names k ≡ in_equations locals es names k
   all_local no_eqn k = refl
   all_local (more_eqns e es) k = ap₂ at_row (one_local e (below Head k)) (all_local es (below Tail k))
 
@@ -111,7 +107,7 @@ module _ (ds locals : List Decl) (same : (x : List ℕ) → clock_in locals x �
   one_definition (reset s b e) k x = refl
   one_definition (automaton s ss) k x = refl
 
-  local_definitions : (es : Eqns) (k : PlaceSources) (x : List ℕ) → of_definitions ds es names k x ≡ of_definitions locals es names k x
+  pub local_definitions : (es : Eqns) (k : PlaceSources) (x : List ℕ) → of_definitions ds es names k x ≡ of_definitions locals es names k x
   local_definitions no_eqn k x = refl
   local_definitions (more_eqns e es) k x = ap₂ (λ s t. if defines e x then s else t) (one_definition e (below Head k) x) (local_definitions es (below Tail k) x)
 
