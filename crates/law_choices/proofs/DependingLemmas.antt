@@ -19,3 +19,4 @@ pub mod StrongLaws
 pub mod EventLaws
 pub mod ContractPlaces
 pub mod ContractLaws
+pub mod MeantLaws

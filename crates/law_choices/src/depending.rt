@@ -3,7 +3,7 @@
 //! The functions here do nothing: each is a law, which its contract states.
 #![tactic(auto)]
 
-ghost use Rattle.law_choices.specs.Depending.Found.{EarlyEventsLaw, EventPlacesLaw, FoundEarlyLaw, FoundPlaceLaw};
+ghost use Rattle.law_choices.specs.Depending.Found.{EarlyEventsLaw, EventPlacesLaw, FoundEarlyLaw, FoundPlaceLaw, LabelsMeanLaw};
 ghost use Rattle.law_choices.specs.Depending.Laws.{BothLaw, NodeLaw, VariablesLaw};
 ghost use Rattle.law_choices.specs.Depending.Places.{EarlyPlaceLaw, PlaceLaw};
 ghost use Rattle.law_choices.specs.Depending.Targets.{TargetsLaw};
@@ -90,3 +90,8 @@ pub fn early_events_depend_on_no_choice()
     found_early_places_depend_on_no_choice();
     walks_find_places();
 }
+
+/// Where the equations that compare or call are made of the labels of a body, their targets stand for the places of its comparisons and calls.
+pub fn labels_name_targets()
+    ensures { LabelsMeanLaw }
+{}

@@ -30,10 +30,10 @@ use Rattle.law_choices.proofs.PlacesLemmas.Walks.{walk-finds}
 -- ---- labels and spots
 
 -- the places of labels, and those of spots, one by one
-abbrev of_labels : List Label → List (List Place)
+abbrev pub of_labels : List Label → List (List Place)
 of_labels ls = map made.places_of ls
 
-abbrev of_spots : List Spot → List (List Place)
+abbrev pub of_spots : List Spot → List (List Place)
 of_spots ss = map places_of ss
 
 -- two parts in a row, in front of what is behind
@@ -109,7 +109,7 @@ module _ (outputs : List ℕ → List (List ℕ)) where
         two-parts (spots outputs e (below Head here)) (spots_of_parts outputs ps (below Tail here)) (of_labels (expr_labels outputs e (below Head here) later)) (of_labels later) (of_labels rest) (expr-labels e (below Head here) later) (parts-labels ps (below Tail here) rest)
 
   mutual
-    block-labels : (b : Block) (here : Prefix) (rest : List Label) → of_labels (block_labels outputs b here rest) ≡ of_spots (spots_of_block outputs b here) ++ of_labels rest
+    pub block-labels : (b : Block) (here : Prefix) (rest : List Label) → of_labels (block_labels outputs b here rest) ≡ of_spots (spots_of_block outputs b here) ++ of_labels rest
     block-labels (block ds es) here rest = eqns-labels es (below Equations here) rest
 
     eqns-labels : (es : Eqns) (here : Prefix) (rest : List Label) → of_labels (eqns_labels outputs es here rest) ≡ of_spots (spots_of_eqns outputs es here) ++ of_labels rest
@@ -169,7 +169,7 @@ right-alike (operator o args) = op-alike o
 right-alike (register first next) = refl
 right-alike (called f args) = refl
 
-events-alike : (es : List FlatEqn) → made.events es ≡ events es
+pub events-alike : (es : List FlatEqn) → made.events es ≡ events es
 events-alike [] = refl
 events-alike (e ∷ es) = ap₂ (λ (b : Bool) (fs : List FlatEqn). if b then e ∷ fs else fs) (right-alike e.right) (events-alike es)
 

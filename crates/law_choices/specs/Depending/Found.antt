@@ -18,6 +18,9 @@ use Rattle.law_automata.specs.Lowered.Standing.{Along}
 use Rattle.hp_flat.specs.Equations.{FlatEqn}
 use Rattle.hp_flat.specs.Nodes.{FlatNode}
 use Rattle.law_equations.specs.Flattened.Flatten.{At, FlatName, Input}
+use Rattle.law_equations.specs.Flattened.Lifted.{in_body}
+use Rattle.law_equations.specs.Made.Labels.{AreMadeAt, block_labels}
+use Rattle.law_equations.specs.Made.Labels as made
 use Rattle.law_equations.specs.Made.Making.{Known}
 use Rattle.law_equations.specs.Made.Laws.{Stands}
 use Rattle.hp_watch.specs.Walk.{events_from, walk_block}
@@ -56,6 +59,12 @@ FoundEarlyLaw =
 -- The targets of an equation stand for places.
 abbrev pub TargetsMean : (ℕ → FlatName) → FlatEqn → Spot → Type 0
 TargetsMean means e s = Along (λ x p. means x ≡ At p) e.targets (places_of s)
+
+-- So it is of the equations that compare or call, in the order of making, where they are made of the labels of a body.
+abbrev pub LabelsMeanLaw : Type 0
+LabelsMeanLaw =
+    (outputs : List ℕ → List (List ℕ)) (n : Node) (es : List FlatEqn) (means : ℕ → FlatName) → AreMadeAt means (made.events es) (block_labels outputs n.body in_body [])
+    → Along (TargetsMean means) (events es) (spots_of_node outputs n)
 
 -- An equation of this number has targets that do not depend on the variable of what is given under a name where their places do not, on the base clock and outside of all blocks.
 abbrev pub EventStaysFree : Node → List ℕ → FlatNode → ℕ → ℕ → Spot × Spot → Type 0
