@@ -4,3 +4,4 @@ pub mod Laws
 pub mod Values
 pub mod Named
 pub mod Standing
+pub mod Groups
