@@ -11,3 +11,4 @@ pub mod Widths
 pub mod Alone
 pub mod Contracts
 pub mod Programs
+pub mod Apiece

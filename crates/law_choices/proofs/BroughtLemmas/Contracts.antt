@@ -33,11 +33,12 @@ use Rattle.law_drawing.proofs.InshapeLemmas.TypesRead.{Agrees, agrees_inside, ag
 use Rattle.law_drawing.proofs.SteeredLemmas.Uncalled.{BlockCallsNothing, ContractCallsNothing, ToldCallsNothing}
 use Rattle.law_equations.specs.Flattened.Flatten.{Prefix, below}
 use Rattle.hp_watch.specs.Observing.{all_handed_on, condition_of, inputs_for, lines_of, observer_of, outputs_at, with_lines}
-use Rattle.hp_watch.specs.Walk.{behind, walk_block, walk_condition, walk_contract, walk_eqns}
+use Rattle.hp_watch.specs.Walk.{behind, walk, walk_block, walk_condition, walk_contract, walk_eqns}
 use Rattle.law_choices.specs.Observed.Contracts.{IsOther}
+use Rattle.law_choices.specs.Places.Groups.{groups, groups_of_equations}
 use Rattle.law_choices.proofs.BroughtLemmas.Brought.{brought, brought_in_block, free_types}
 use Rattle.law_choices.proofs.BroughtLemmas.Rows.{R, rows-append}
-use Rattle.law_choices.proofs.BroughtLemmas.Seen.{Knows, Reading, Sees, expr-sees, sees-as, sees-at, sees-nothing, sees-two}
+use Rattle.law_choices.proofs.BroughtLemmas.Seen.{Knows, Reading, Sees, expr-sees, sees-apiece, sees-as, sees-at, sees-nothing, sees-two}
 use Rattle.law_choices.proofs.BroughtLemmas.Walks.{Judging, behind-lasts, eqns-see, reading-at}
 use Rattle.law_choices.proofs.ObservedLemmas.Fitting.{none}
 use Rattle.law_choices.proofs.ObservedLemmas.Known.{IsKnown}
@@ -45,6 +46,7 @@ use Rattle.law_choices.proofs.ObservedLemmas.Removable.{observer_ok}
 use Rattle.law_choices.proofs.ObservedLemmas.Scoped.{observer_scoped}
 use Rattle.law_choices.proofs.ObservedLemmas.Sound.{front_sound, observer_sound, old_grows, old_names, old_scope, scoped_front}
 use Rattle.law_choices.proofs.ObservedLemmas.Swapped.{eqns_to, test_to, to}
+use Rattle.law_choices.proofs.PlacesLemmas.Grouped.{eqns-row, expr-row}
 use Rattle.law_choices.proofs.PlacesLemmas.Slots.{outputs_slots}
 
 -- ---- lines behind a block
@@ -116,7 +118,9 @@ module _ (types : List TypeDecl) (enums : Enumerations) (among before : List ℕ
     told-sees : (judged new : Scope) (inside_names : tree.Scope) (lasts : Lasts) → Reading types before given outs callee calls judged new same_name inside_names → (q : Option Expr) (at : Span) → ToldSound types before judged lasts q
         → Sees (walk_condition q) (brought given new (renamed same_name (condition_of q at))) (λ w. slots_told types outs callee q inside_names w)
     told-sees judged new inside_names lasts reading None at h = sees-nothing (walk_condition None) (λ w. []) (λ rest. refl) (λ w. refl)
-    told-sees judged new inside_names lasts reading (Some q) at h = expr-sees types before given outs callee calls judged new same_name inside_names lasts reading q ty.Bool h.1 h.0
+    told-sees judged new inside_names lasts reading (Some q) at h =
+        sees-apiece (walk q) (brought given new (renamed same_name q)) (λ w. groups types outs callee q inside_names w) (λ w. slots types outs callee q inside_names w) (expr-row types outs callee q inside_names)
+        (expr-sees types before given outs callee calls judged new same_name inside_names lasts reading q ty.Bool h.1 h.0)
 
     of-block : (b : Block) → OfBlock b
     of-block (block ds es) own inner here okb okm has soundm a a1 a2 h h1 h2 =
@@ -144,7 +148,8 @@ module _ (types : List TypeDecl) (enums : Enumerations) (among before : List ℕ
         let A = brought given new (renamed same_name (condition_of c.assume c.span)) in
         let E = brought given new (renamed same_name (condition_of c.enforce c.span)) in
         let body = behind-lasts types before given outs callee calls (walk_eqns es) B ds (λ w. slots_of_equations types outs callee es inside_names w) (below Equations)
-        (eqns-see types before given outs callee calls enums r itself_renames within es okb.1 (scoped_front (also (also (interface m) []) locals) (also (also no_names m.outputs) locals) es lines here.3) (types_front (HasConstant enums r) es lines has.1) front judged inside_names lasts j bared) in
+        (sees-apiece (walk_eqns es) B (λ w. groups_of_equations types outs callee es inside_names w) (λ w. slots_of_equations types outs callee es inside_names w) (eqns-row types outs callee es inside_names)
+        (eqns-see types before given outs callee calls enums r itself_renames within es okb.1 (scoped_front (also (also (interface m) []) locals) (also (also no_names m.outputs) locals) es lines here.3) (types_front (HasConstant enums r) es lines has.1) front judged inside_names lasts j bared)) in
         let first = sees-two (walk_eqns es) (walk_condition c.assume) B A (λ w. slots_of_block types outs callee (block ds es) names w) (λ w. slots_told types outs callee c.assume inside_names w) (below Observer) (below Assume) body (told c.assume c.span a1 h1) in
         let v = λ (xs : List (List Ty)). let x = walk_eqns es xs in behind x.0 (walk_condition c.assume x.1) in
         let ss : Prefix → List Slot = λ w. slots_of_block types outs callee (block ds es) names (below Observer w) ++ slots_told types outs callee c.assume inside_names (below Assume w) in

@@ -66,6 +66,8 @@ use Rattle.law_choices.specs.Observed.Contracts.{IsObservable}
 use Rattle.hp_meaning.specs.Contract.FreePlaces.{declared_outputs}
 use Rattle.law_choices.proofs.BroughtLemmas.Alone.{block-alone, brought-alike, contract-goes}
 use Rattle.law_choices.proofs.BroughtLemmas.Blocks.{node-brings}
+use Rattle.law_choices.specs.Places.Groups.{groups_of_block}
+use Rattle.law_choices.proofs.BroughtLemmas.Apiece.{row-types, types_apiece, types_of_places}
 use Rattle.law_choices.proofs.BroughtLemmas.Brought.{Brings, brought_in_block, free_types, joined_types}
 use Rattle.law_choices.proofs.BroughtLemmas.Contracts.{contract-sees, low-ok}
 use Rattle.law_choices.proofs.BroughtLemmas.Placed.{AreIn, outputs-shown, own-types, types_in}
@@ -80,6 +82,7 @@ use Rattle.law_choices.proofs.ObservedLemmas.Standing as standing
 use Rattle.law_choices.proofs.OnClocksLemmas.Programs.{some_of}
 use Rattle.law_choices.proofs.PlacesLemmas.Numbers.{AtNumber, numbered}
 use Rattle.law_choices.proofs.PlacesLemmas.Relating.{block-goes}
+use Rattle.law_choices.proofs.PlacesLemmas.Grouped.{block-row}
 use Rattle.law_choices.proofs.PlacesLemmas.Slots.{outputs_slots}
 use Rattle.law_choices.proofs.SeeingLemmas.Integers.{low-stands, outs-are}
 
@@ -291,11 +294,11 @@ module _ (program after : List Item) (r : IsReady program after) (removable : Is
     abbrev outs : List ℕ → List Decl
     outs f = declared_outputs (node_among (reverse after) f)
 
-    -- The comparisons and calls of the node's equations bring what a walk over its body finds, in the order of slots.
-    pub body-brings : (plant : FlatNode) → IsMadeOf k_low low_n plant → (given : List ℕ → List Ty) (callee : List ℕ → Prefix → List Slot) → ((f : List ℕ) (w : Prefix) → given f ≡ free_types (outputs_slots (outs f) (below Instance w) ++ callee f (below Instance w)))
+    -- The comparisons and calls of the node's equations bring what a walk over its body finds, one by one in the order of slots.
+    pub body-apiece : (plant : FlatNode) → IsMadeOf k_low low_n plant → (given : List ℕ → List Ty) (callee : List ℕ → Prefix → List Slot) → ((f : List ℕ) (w : Prefix) → given f ≡ free_types (outputs_slots (outs f) (below Instance w) ++ callee f (below Instance w)))
         → (L : List (List Ty)) × Along (AtNumber (Brings given k_low (sketch_node k_low low_n)) plant.eqns) (walk_block n.body (events_from 0 plant.eqns)).0 L
-        × ((w : Prefix) → joined_types L ≡ free_types (slots_of_block types outs callee n.body (typed_in cs (typed_in n.inputs (typed_in n.outputs untyped))) w))
-    body-brings plant made given callee calls =
+        × ((w : Prefix) → L ≡ types_apiece (groups_of_block types outs callee n.body (typed_in cs (typed_in n.inputs (typed_in n.outputs untyped))) w))
+    body-apiece plant made given callee calls =
         let h = sound_among in
         let okay = (known).ok in
         let sc = (known).scoped in
@@ -314,3 +317,12 @@ module _ (program after : List Item) (r : IsReady program after) (removable : Is
         let walked = (block-goes (AtNumber (Brings given k_low sk) plant.eqns) n.body (events_from 0 plant.eqns) others numbers).0 in
         let found : (walk_block n.body others).0 ≡ S.0 = found_first (walk_block n.body) labels others S.0 same_labels S.1 in
         (S.0, subst (Along (AtNumber (Brings given k_low sk) plant.eqns) (walk_block n.body (events_from 0 plant.eqns)).0) found walked, S.2)
+
+    -- in a row
+    pub body-brings : (plant : FlatNode) → IsMadeOf k_low low_n plant → (given : List ℕ → List Ty) (callee : List ℕ → Prefix → List Slot) → ((f : List ℕ) (w : Prefix) → given f ≡ free_types (outputs_slots (outs f) (below Instance w) ++ callee f (below Instance w)))
+        → (L : List (List Ty)) × Along (AtNumber (Brings given k_low (sketch_node k_low low_n)) plant.eqns) (walk_block n.body (events_from 0 plant.eqns)).0 L
+        × ((w : Prefix) → joined_types L ≡ free_types (slots_of_block types outs callee n.body (typed_in cs (typed_in n.inputs (typed_in n.outputs untyped))) w))
+    body-brings plant made given callee calls =
+        let B = body-apiece plant made given callee calls in
+        let names = typed_in cs (typed_in n.inputs (typed_in n.outputs untyped)) in
+        (B.0, B.1, λ w. ap joined_types (B.2 w) ∙ row-types (groups_of_block types outs callee n.body names w) ∙ ap types_of_places (block-row types outs callee n.body names w))

@@ -14,7 +14,7 @@ use Rattle.hp_tree.specs.Instant.{Args, First, Head, Instance, Second, Tail, Thi
 use Rattle.hp_tree.specs.Operators.{is_comparison}
 use Rattle.hp_tree.specs.Programs.{Node, TypeDecl}
 use Rattle.hp_typing.specs.Types.{type_of, type_of_one, types_in}
-use Rattle.hp_meaning.specs.Contract.Slots.{Slot, control, free, input, is_int, register, slots, slots_of_all, slots_of_parts}
+use Rattle.hp_meaning.specs.Contract.Slots.{FreePlace, Slot, control, free, free_among, input, is_int, register}
 use Rattle.law_judged.specs.Typed.Scopes.{Scope}
 use Rattle.law_values.specs.Valued.Judged.{ExprSound, ExprsSound, Lasts, PartsSound, no_lasts}
 use Rattle.law_values.proofs.AcceptedLemmas.Keeps.{Grows, KeptName}
@@ -24,12 +24,14 @@ use Rattle.law_automata.proofs.ReadiedLemmas.SoundExpressions.{expr_typed}
 use Rattle.law_drawing.proofs.InshapeLemmas.TypesRead.{Agrees}
 use Rattle.law_equations.specs.Flattened.Flatten.{Prefix, below}
 use Rattle.law_wellmade.proofs.BegunLemmas.Typing.{ExprsHave, args_have}
-use Rattle.hp_watch.specs.Walk.{Walked, before, behind, compares, in_front, walk, walk_all, walk_parts}
+use Rattle.hp_watch.specs.Walk.{Walked, behind, compares, walk, walk_all, walk_parts}
+use Rattle.law_choices.specs.Places.Groups.{call_group, compared_groups, groups, groups_of_all, groups_of_parts, in_a_row}
+use Rattle.law_choices.proofs.BroughtLemmas.Apiece.{Apiece, apiece-as, apiece-at, apiece-compared, apiece-front, apiece-nothing, apiece-two, call-apiece, compared-apiece, row-types, types_of_places}
 use Rattle.law_choices.proofs.BroughtLemmas.Brought.{brought, brought_by, brought_in_all, brought_in_parts, free_types, joined_types, of_compared}
 use Rattle.law_choices.proofs.BroughtLemmas.Integers.{int-same}
-use Rattle.law_choices.proofs.PlacesLemmas.Expressions.{Takes, takes-compared, takes-front, takes-two}
-use Rattle.law_choices.proofs.PlacesLemmas.Slots.{outputs_slots, same-comparison}
-use Rattle.law_choices.proofs.PlacesLemmas.Walks.{taken-as, takes-before}
+use Rattle.law_choices.proofs.PlacesLemmas.Expressions.{Takes, takes-two}
+use Rattle.law_choices.proofs.PlacesLemmas.Slots.{outputs_slots}
+use Rattle.law_choices.proofs.PlacesLemmas.Walks.{taken-as}
 
 -- ---- lists
 
@@ -66,31 +68,9 @@ sees-as v A B ss e h = (h.0, taken-as v A B h.0 e h.1, h.2)
 pub sees-two : (v u : List (List Ty) → Walked (List Ty)) (A B : List (List Ty)) (ss ts : Prefix → List Slot) (m n : Prefix → Prefix) → Sees v A ss → Sees u B ts → Sees (λ es. let x = v es in behind x.0 (u x.1)) (A ++ B) (λ w. ss (m w) ++ ts (n w))
 sees-two v u A B ss ts m n h k = (h.0 ++ k.0, takes-two v u A B h.0 k.0 h.1 k.1, λ w. both-joined h.0 k.0 (ss (m w)) (ts (n w)) (h.2 (m w)) (k.2 (n w)))
 
-pub sees-before : (v u : List (List Ty) → Walked (List Ty)) (A B : List (List Ty)) (ss ts : Prefix → List Slot) (m n : Prefix → Prefix) → Sees v A ss → Sees u B ts → Sees (λ es. let x = v es in before x.0 (u x.1)) (A ++ B) (λ w. ts (n w) ++ ss (m w))
-sees-before v u A B ss ts m n h k = (k.0 ++ h.0, takes-before v u A B h.0 k.0 h.1 k.1, λ w. both-joined k.0 h.0 (ts (n w)) (ss (m w)) (k.2 (n w)) (h.2 (m w)))
-
-sees-front : (v : List (List Ty) → Walked (List Ty)) (A : List (List Ty)) (l : List Ty) (ss ts : Prefix → List Slot) (m : Prefix → Prefix) → ((w : Prefix) → l ≡ free_types (ts w)) → Sees v A ss → Sees (λ es. in_front (v es)) (A ++ l ∷ []) (λ w. ts w ++ ss (m w))
-sees-front v A l ss ts m is h = (l ∷ h.0, takes-front v A h.0 l h.1, λ w. ap₂ (λ xs ys. xs ++ ys) (is w) (h.2 (m w)) ∙ sym (free-append (ts w) (ss (m w))))
-
-sees-compared : (c : Bool) (v : List (List Ty) → Walked (List Ty)) (A : List (List Ty)) (l : List Ty) (ss ts : Prefix → List Slot) → ((w : Prefix) → joined_types (if c then l ∷ [] else []) ≡ free_types (ts w)) → Sees v A ss
-    → Sees (λ es. if c then in_front (v es) else v es) (A ++ (if c then l ∷ [] else [])) (λ w. ts w ++ ss w)
-sees-compared c v A l ss ts is h = ((if c then l ∷ [] else []) ++ h.0, takes-compared c v A h.0 l h.1, λ w. both-joined (if c then l ∷ [] else []) h.0 (ts w) (ss w) (is w) (h.2 w))
-
--- ---- comparisons
-
-compared-types : (o : Op2) (i : Bool) (t : Ty) (w : Prefix) → i ≡ is_int t → joined_types (if compares o then of_compared (Some t) ∷ [] else []) ≡ free_types (if is_comparison o && i then free (w []) ty.Bool ∷ [] else [])
-compared-types o i t w e = by (compares o) (is_comparison o) i t (same-comparison o) e
-  where
-    by : (b c i : Bool) (t : Ty) → c ≡ b → i ≡ is_int t → joined_types (if b then of_compared (Some t) ∷ [] else []) ≡ free_types (if c && i then free (w []) ty.Bool ∷ [] else [])
-    by true true true ty.Int q h = refl
-    by true true false ty.Bool q h = refl
-    by true true false (ty.Enum x) q h = refl
-    by true true true ty.Bool q h = absurd cc
-    by true true true (ty.Enum x) q h = absurd cc
-    by true true false ty.Int q h = absurd cc
-    by true false i t q h = absurd cc
-    by false true i t q h = absurd cc
-    by false false i t q h = refl
+-- What is found one by one is what slots have, where the groups in a row are the free ones among these.
+pub sees-apiece : (v : List (List Ty) → Walked (List Ty)) (A : List (List Ty)) (gs : Prefix → List (List FreePlace)) (ss : Prefix → List Slot) → ((w : Prefix) → in_a_row (gs w) ≡ free_among (ss w)) → Apiece v A gs → Sees v A ss
+sees-apiece v A gs ss row h = (h.0, h.1, λ w. ap joined_types (h.2 w) ∙ row-types (gs w) ∙ ap types_of_places (row w))
 
 -- ---- expressions
 
@@ -112,80 +92,77 @@ module _ (types : List TypeDecl) (among : List ℕ → Option Node) (given : Lis
     abbrev E : Expr → List (List Ty)
     E e = brought given r (renamed to e)
 
-    abbrev S : Expr → Prefix → List Slot
-    S e w = slots types outs callee e names w
+    abbrev S : Expr → Prefix → List (List FreePlace)
+    S e w = groups types outs callee e names w
 
     abbrev pub AtExpr : Expr → Type 0
-    AtExpr e = Sees (walk e) (E e) (S e)
+    AtExpr e = Apiece (walk e) (E e) (S e)
 
     still-typed : (e : Expr) (t : Ty) → type_of s e ≡ Some t → type_of r (renamed to e) ≡ Some t
     still-typed e t h = expr_typed types among s r reading.grows to no_lasts no_lasts reading.renames reading.itself (λ x k. k) e t h
 
-    nothing : (v : List (List Ty) → Walked (List Ty)) → ((rest : List (List Ty)) → v rest ≡ ([], rest)) → Sees v [] (λ w. [])
-    nothing v h = sees-nothing v (λ w. []) h (λ w. refl)
+    nothing : (v : List (List Ty) → Walked (List Ty)) → ((rest : List (List Ty)) → v rest ≡ ([], rest)) → Apiece v [] (λ w. [])
+    nothing v h = apiece-nothing v h
 
-    pair-sees : (a b : Expr) (m n : Prefix → Prefix) → AtExpr a → AtExpr b → Sees (λ es. let x = walk a es in behind x.0 (walk b x.1)) (E a ++ E b) (λ w. S a (m w) ++ S b (n w))
-    pair-sees a b m n h k = sees-two (walk a) (walk b) (E a) (E b) (S a) (S b) m n h k
+    pair-sees : (a b : Expr) (m n : Prefix → Prefix) → AtExpr a → AtExpr b → Apiece (λ es. let x = walk a es in behind x.0 (walk b x.1)) (E a ++ E b) (λ w. S a (m w) ++ S b (n w))
+    pair-sees a b m n h k = apiece-two (walk a) (walk b) (E a) (E b) (S a) (S b) m n h k
 
     -- a call, whose arguments are seen
-    call-by : (a : Span) (f : List ℕ) (i : Bool) (es : Exprs) → Sees (walk_all es) (brought_in_all given r (renamed_exprs to es)) (λ w. slots_of_all types outs callee es names w) → AtExpr (call a f i es)
+    call-by : (a : Span) (f : List ℕ) (i : Bool) (es : Exprs) → Apiece (walk_all es) (brought_in_all given r (renamed_exprs to es)) (λ w. groups_of_all types outs callee es names w) → AtExpr (call a f i es)
     call-by a f i es h =
-        let O : Prefix → List Slot = λ w. outputs_slots (outs f) (below Instance w) in
-        let C : Prefix → List Slot = λ w. callee f (below Instance w) in
-        let A : Prefix → List Slot = λ w. slots_of_all types outs callee es names w in
         let made = brought_in_all given r (renamed_exprs to es) in
-        sees-at (walk (call a f i es)) (made ++ given f ∷ []) (λ w. (O w ++ C w) ++ A (below Args w)) (S (call a f i es)) (λ w. w) (λ w. ap free_types (append_assoc (O w) (C w) (A (below Args w))))
-        (sees-front (walk_all es) made (given f) A (λ w. O w ++ C w) (below Args) (calls f) h)
+        apiece-front (walk_all es) made (given f) (λ w. groups_of_all types outs callee es names w) (λ w. call_group types outs callee f (below Instance w)) (below Args)
+        (λ w. calls f w ∙ call-apiece types outs callee f (below Instance w)) h
 
     mutual
       pub expr-sees : (e : Expr) (t : Ty) → type_of s e ≡ Some t → ExprSound types among s lasts e → AtExpr e
       expr-sees (constant a c) t h ok = nothing (walk (constant a c)) (λ rest. refl)
       expr-sees (variable a x) t h ok = nothing (walk (variable a x)) (λ rest. refl)
       expr-sees (last_of a x) t h ok = nothing (walk (last_of a x)) (λ rest. refl)
-      expr-sees (one a o b) t h ok = sees-at (walk b) (E b) (S b) (λ w. S b (below First w)) (below First) (λ w. refl) (expr-sees b (type_of_one o) (one_typed (type_of_one o) (type_of s b) t h).0 ok)
+      expr-sees (one a o b) t h ok = apiece-at (walk b) (E b) (S b) (λ w. S b (below First w)) (below First) (λ w. refl) (expr-sees b (type_of_one o) (one_typed (type_of_one o) (type_of s b) t h).0 ok)
       expr-sees (two a o b c) t h ok =
           let q = two_typed o (type_of s b) (type_of s c) t h in
           let v = λ (es : List (List Ty)). let x = walk b es in behind x.0 (walk c x.1) in
           let l = of_compared (type_of r (renamed to b)) in
           let made = brought_by given o (type_of r (renamed to b)) in
-          let ts : Prefix → List Slot = λ w. if is_comparison o && is_int (tree.type_of types outs b names) then free (w []) ty.Bool ∷ [] else [] in
+          let ts : Prefix → List (List FreePlace) = λ w. compared_groups types outs callee o b names w in
           let both = pair-sees b c (below First) (below Second) (expr-sees b q.0 q.2 ok.0) (expr-sees c q.0 q.3 ok.1) in
           let typed = still-typed b q.0 q.2 in
           let int = int-same types among s lasts names reading.agrees outs reading.knows b q.0 ok.0 q.2 in
-          sees-as (walk (two a o b c)) ((E b ++ E c) ++ made) (E b ++ (E c ++ made)) (S (two a o b c)) (sym (append_assoc (E b) (E c) made))
-          (sees-compared (compares o) v (E b ++ E c) l (λ w. S b (below First w) ++ S c (below Second w)) ts
-          (λ w. ap (λ u. joined_types (if compares o then of_compared u ∷ [] else [])) typed ∙ compared-types o (is_int (tree.type_of types outs b names)) q.0 w int) both)
+          apiece-as (walk (two a o b c)) ((E b ++ E c) ++ made) (E b ++ (E c ++ made)) (S (two a o b c)) (sym (append_assoc (E b) (E c) made))
+          (apiece-compared (compares o) v (E b ++ E c) l (λ w. S b (below First w) ++ S c (below Second w)) ts
+          (λ w. ap (λ u. if compares o then of_compared u ∷ [] else []) typed ∙ compared-apiece o (is_int (tree.type_of types outs b names)) q.0 w int) both)
       expr-sees (choose a b c d) t h ok =
           let q = if_typed (type_of s b) (type_of s c) (type_of s d) t h in
           let v = λ (es : List (List Ty)). let x = walk b es in behind x.0 (walk c x.1) in
           let two_first = pair-sees b c (below First) (below Second) (expr-sees b ty.Bool q.0 ok.0) (expr-sees c t q.1 ok.1.0) in
-          let ss : Prefix → List Slot = λ w. S b (below First w) ++ S c (below Second w) in
-          let all = sees-two v (walk d) (E b ++ E c) (E d) ss (S d) (λ w. w) (below Third) two_first (expr-sees d t q.2 ok.1.1) in
-          sees-as (walk (choose a b c d)) ((E b ++ E c) ++ E d) (E b ++ (E c ++ E d)) (S (choose a b c d)) (sym (append_assoc (E b) (E c) (E d)))
-          (sees-at (walk (choose a b c d)) ((E b ++ E c) ++ E d) (λ w. ss w ++ S d (below Third w)) (S (choose a b c d)) (λ w. w) (λ w. ap free_types (append_assoc (S b (below First w)) (S c (below Second w)) (S d (below Third w)))) all)
-      expr-sees (pre a b) t h ok = sees-at (walk b) (E b) (S b) (S (pre a b)) (below First) (λ w. refl) (expr-sees b t h ok)
+          let ss : Prefix → List (List FreePlace) = λ w. S b (below First w) ++ S c (below Second w) in
+          let all = apiece-two v (walk d) (E b ++ E c) (E d) ss (S d) (λ w. w) (below Third) two_first (expr-sees d t q.2 ok.1.1) in
+          apiece-as (walk (choose a b c d)) ((E b ++ E c) ++ E d) (E b ++ (E c ++ E d)) (S (choose a b c d)) (sym (append_assoc (E b) (E c) (E d)))
+          (apiece-at (walk (choose a b c d)) ((E b ++ E c) ++ E d) (λ w. ss w ++ S d (below Third w)) (S (choose a b c d)) (λ w. w) (λ w. append_assoc (S b (below First w)) (S c (below Second w)) (S d (below Third w))) all)
+      expr-sees (pre a b) t h ok = apiece-at (walk b) (E b) (S b) (S (pre a b)) (below First) (λ w. refl) (expr-sees b t h ok)
       expr-sees (fby a b c) t h ok =
           let q = pair_typed (type_of s b) (type_of s c) t h in
-          sees-at (walk (fby a b c)) (E b ++ E c) (λ w. S b (below First w) ++ S c (below Second w)) (S (fby a b c)) (λ w. w) (λ w. refl) (pair-sees b c (below First) (below Second) (expr-sees b t q.0 ok.0) (expr-sees c t q.1 ok.1))
+          apiece-at (walk (fby a b c)) (E b ++ E c) (λ w. S b (below First w) ++ S c (below Second w)) (S (fby a b c)) (λ w. w) (λ w. refl) (pair-sees b c (below First) (below Second) (expr-sees b t q.0 ok.0) (expr-sees c t q.1 ok.1))
       expr-sees (arrow a b c) t h ok =
           let q = pair_typed (type_of s b) (type_of s c) t h in
-          sees-at (walk (arrow a b c)) (E b ++ E c) (λ w. S b (below First w) ++ S c (below Second w)) (S (arrow a b c)) (λ w. w) (λ w. refl) (pair-sees b c (below First) (below Second) (expr-sees b t q.0 ok.0) (expr-sees c t q.1 ok.1))
-      expr-sees (when_is a b c x) t h ok = sees-at (walk b) (E b) (S b) (λ w. S b (below First w)) (below First) (λ w. refl) (expr-sees b t (when_typed _ _ t h) ok)
+          apiece-at (walk (arrow a b c)) (E b ++ E c) (λ w. S b (below First w) ++ S c (below Second w)) (S (arrow a b c)) (λ w. w) (λ w. refl) (pair-sees b c (below First) (below Second) (expr-sees b t q.0 ok.0) (expr-sees c t q.1 ok.1))
+      expr-sees (when_is a b c x) t h ok = apiece-at (walk b) (E b) (S b) (λ w. S b (below First w)) (below First) (λ w. refl) (expr-sees b t (when_typed _ _ t h) ok)
       expr-sees (merge a x ps) t h ok =
-          sees-at (walk_parts ps) (brought_in_parts given r (renamed_parts to ps)) (λ w. slots_of_parts types outs callee ps names w) (S (merge a x ps)) (below Args) (λ w. refl) (parts-see ps t (merge_typed s (lookup s.variables x) ps t h) ok.1)
+          apiece-at (walk_parts ps) (brought_in_parts given r (renamed_parts to ps)) (λ w. groups_of_parts types outs callee ps names w) (S (merge a x ps)) (below Args) (λ w. refl) (parts-see ps t (merge_typed s (lookup s.variables x) ps t h) ok.1)
       expr-sees (call a f i es) t h ok =
           let q = call_typed (lookup s.nodes f) (types_in s es) t h in
           call-by a f i es (all-see es (args_have s q.0.inputs es q.2) ok.1)
 
-      all-see : (es : Exprs) → ExprsHave s es → ExprsSound types among s lasts es → Sees (walk_all es) (brought_in_all given r (renamed_exprs to es)) (λ w. slots_of_all types outs callee es names w)
+      all-see : (es : Exprs) → ExprsHave s es → ExprsSound types among s lasts es → Apiece (walk_all es) (brought_in_all given r (renamed_exprs to es)) (λ w. groups_of_all types outs callee es names w)
       all-see no_expr h ok = nothing (walk_all no_expr) (λ rest. refl)
       all-see (more_exprs e es) h ok =
-          sees-two (walk e) (walk_all es) (E e) (brought_in_all given r (renamed_exprs to es)) (S e) (λ w. slots_of_all types outs callee es names w) (below Head) (below Tail) (expr-sees e h.0.0 h.0.1 ok.0) (all-see es h.1 ok.1)
+          apiece-two (walk e) (walk_all es) (E e) (brought_in_all given r (renamed_exprs to es)) (S e) (λ w. groups_of_all types outs callee es names w) (below Head) (below Tail) (expr-sees e h.0.0 h.0.1 ok.0) (all-see es h.1 ok.1)
 
-      parts-see : (ps : Parts) (t : Ty) → PartsHave s t ps → PartsSound types among s lasts ps → Sees (walk_parts ps) (brought_in_parts given r (renamed_parts to ps)) (λ w. slots_of_parts types outs callee ps names w)
+      parts-see : (ps : Parts) (t : Ty) → PartsHave s t ps → PartsSound types among s lasts ps → Apiece (walk_parts ps) (brought_in_parts given r (renamed_parts to ps)) (λ w. groups_of_parts types outs callee ps names w)
       parts-see no_part t h ok = nothing (walk_parts no_part) (λ rest. refl)
       parts-see (more_parts c e ps) t h ok =
-          sees-two (walk e) (walk_parts ps) (E e) (brought_in_parts given r (renamed_parts to ps)) (S e) (λ w. slots_of_parts types outs callee ps names w) (below Head) (below Tail) (expr-sees e t h.0 ok.0) (parts-see ps t h.1 ok.1)
+          apiece-two (walk e) (walk_parts ps) (E e) (brought_in_parts given r (renamed_parts to ps)) (S e) (λ w. groups_of_parts types outs callee ps names w) (below Head) (below Tail) (expr-sees e t h.0 ok.0) (parts-see ps t h.1 ok.1)
 
     pub call-sees : (a : Span) (f : List ℕ) (i : Bool) (es : Exprs) → ExprsHave s es → ExprsSound types among s lasts es → AtExpr (call a f i es)
     call-sees a f i es h ok = call-by a f i es (all-see es h ok)

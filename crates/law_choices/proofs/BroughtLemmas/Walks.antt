@@ -18,7 +18,7 @@ use Rattle.hp_tree.specs.Programs.{Node, TypeDecl}
 use Rattle.hp_typing.specs.Scopes.{with_variables}
 use Rattle.hp_typing.specs.Types.{type_of, types_in}
 use Rattle.hp_tables.specs.Defining.Names.{names_of_arms}
-use Rattle.hp_meaning.specs.Contract.Slots.{Slot, slots, slots_of_arms, slots_of_block, slots_of_conditions, slots_of_equation, slots_of_equations, slots_of_states}
+use Rattle.hp_meaning.specs.Contract.Slots.{FreePlace, Slot}
 use Rattle.law_judged.specs.Named.Scoped.{Names, ArmsScoped, BlockScoped, EqnScoped, EqnsScoped, StatesScoped}
 use Rattle.law_judged.specs.Typed.Scopes.{Scope}
 use Rattle.law_judged.proofs.NamedLemmas.Declared.{eqn_owned}
@@ -44,9 +44,11 @@ use Rattle.law_drawing.proofs.InshapeLemmas.TypesRead.{Agrees, agrees_inside, ow
 use Rattle.law_equations.specs.Flattened.Flatten.{Prefix, below}
 use Rattle.law_wellmade.proofs.BegunLemmas.Typing.{args_have}
 use Rattle.hp_watch.specs.Walk.{Walked, behind, walk, walk_arms, walk_block, walk_conditions, walk_eqn, walk_eqns, walk_states}
+use Rattle.law_choices.specs.Places.Groups.{groups, groups_of_arms, groups_of_block, groups_of_conditions, groups_of_equation, groups_of_equations, groups_of_states}
+use Rattle.law_choices.proofs.BroughtLemmas.Apiece.{Apiece, apiece-as, apiece-at, apiece-before, apiece-nothing, apiece-two, both-apiece}
 use Rattle.law_choices.proofs.BroughtLemmas.Brought.{brought, brought_in_arms, brought_in_block, brought_in_eqn, free_types}
 use Rattle.law_choices.proofs.BroughtLemmas.Rows.{R, body-rows, chosen-none, frame-none, idle-none, kept-none, rows-append, state-rows}
-use Rattle.law_choices.proofs.BroughtLemmas.Seen.{Knows, Reading, Sees, call-sees, expr-sees, free-append, joined-append, sees-as, sees-at, sees-before, sees-nothing, sees-two}
+use Rattle.law_choices.proofs.BroughtLemmas.Seen.{Knows, Reading, Sees, call-sees, expr-sees, free-append, sees-at}
 use Rattle.law_choices.proofs.PlacesLemmas.Slots.{lasts_slots, outputs_slots}
 use Rattle.law_choices.proofs.PlacesLemmas.Walks.{state-takes}
 
@@ -99,18 +101,18 @@ module _ (types : List TypeDecl) (among : List ℕ → Option Node) (given : Lis
 
   module _ (q r : Scope) (to : List ℕ → List ℕ) (names : tree.Scope) (lasts : Lasts) (reading : Reads q r to names) where
     conditions-see : (f : Frame) (word : Word) (k n : ℕ) (end : Expr) (j : ℕ) → brought given r end ≡ [] → (ts : List Trans) → TestsSound types among q lasts ts
-        → Sees (walk_conditions ts) (R given r (choices to f word k n end j ts)) (λ w. slots_of_conditions types outs callee ts names w)
-    conditions-see f word k n end j none [] ok = sees-nothing (walk_conditions []) (λ w. []) (λ rest. refl) (λ w. refl)
+        → Apiece (walk_conditions ts) (R given r (choices to f word k n end j ts)) (λ w. groups_of_conditions types outs callee ts names w)
+    conditions-see f word k n end j none [] ok = apiece-nothing (walk_conditions []) (λ rest. refl)
     conditions-see f word k n end j none (t ∷ ts) ok =
         let es = brought given r (renamed to t.cond) in
         let more = R given r (choices to f word k n end (j + 1) ts) in
-        sees-as (walk_conditions (t ∷ ts)) (es ++ more) ((es ++ brought given r (chosen f word k n end (j + 1))) ++ more) (λ w. slots_of_conditions types outs callee (t ∷ ts) names w)
+        apiece-as (walk_conditions (t ∷ ts)) (es ++ more) ((es ++ brought given r (chosen f word k n end (j + 1))) ++ more) (λ w. groups_of_conditions types outs callee (t ∷ ts) names w)
         (ap (λ ys. (es ++ ys) ++ more) (chosen-none given r f word k n end (j + 1) none) ∙ ap (λ ys. ys ++ more) (append-nil es))
-        (sees-two (walk t.cond) (walk_conditions ts) es more (λ w. slots types outs callee t.cond names w) (λ w. slots_of_conditions types outs callee ts names w) (below Head) (below Tail)
+        (apiece-two (walk t.cond) (walk_conditions ts) es more (λ w. groups types outs callee t.cond names w) (λ w. groups_of_conditions types outs callee ts names w) (below Head) (below Tail)
         (expr-sees types among given outs callee calls q r to names lasts reading t.cond ty.Bool ok.0.1 ok.0.0) (conditions-see f word k n end (j + 1) none ts ok.1))
 
     abbrev AtExpr : Expr → Type 0
-    AtExpr e = Sees (walk e) (brought given r (renamed to e)) (λ w. slots types outs callee e names w)
+    AtExpr e = Apiece (walk e) (brought given r (renamed to e)) (λ w. groups types outs callee e names w)
 
     sees-it : (e : Expr) (t : Ty) → type_of q e ≡ Some t → ExprSound types among q lasts e → AtExpr e
     sees-it e t h ok = expr-sees types among given outs callee calls q r to names lasts reading e t h ok
@@ -132,19 +134,21 @@ module _ (types : List TypeDecl) (among : List ℕ → Option Node) (given : Lis
         call-sees types among given outs callee calls q r to names lasts reading a f i es (args_have q o.0.inputs es o.2) ok.0.1
 
   -- the conditions, the body and the states behind a state
-  state-sees : (strong weak body rest : List (List Ty) → Walked (List Ty)) (S W B M : List (List Ty)) (five : List Ty × List Ty × List Ty × List Ty × List Ty) (s w b m : Prefix → List Slot) (at_body at_weak at_strong at_rest : Prefix → Prefix)
-      → Sees strong S s → Sees weak W w → Sees body B b → Sees rest M m
-      → Sees (λ es. let s = strong es in let w = weak (drop 5 s.1) in let b = body w.1 in behind (b.0 ++ w.0 ++ s.0) (rest b.1)) (S ++ (five.0 ∷ five.1 ∷ five.2 ∷ five.3 ∷ five.4 ∷ ((W ++ B) ++ M)))
+  state-sees : (strong weak body rest : List (List Ty) → Walked (List Ty)) (S W B M : List (List Ty)) (five : List Ty × List Ty × List Ty × List Ty × List Ty) (s w b m : Prefix → List (List FreePlace)) (at_body at_weak at_strong at_rest : Prefix → Prefix)
+      → Apiece strong S s → Apiece weak W w → Apiece body B b → Apiece rest M m
+      → Apiece (λ es. let s = strong es in let w = weak (drop 5 s.1) in let b = body w.1 in behind (b.0 ++ w.0 ++ s.0) (rest b.1)) (S ++ (five.0 ∷ five.1 ∷ five.2 ∷ five.3 ∷ five.4 ∷ ((W ++ B) ++ M)))
       (λ v. b (at_body v) ++ (w (at_weak v) ++ (s (at_strong v) ++ m (at_rest v))))
   state-sees strong weak body rest S W B M five s w b m at_body at_weak at_strong at_rest hs hw hb hm = (
     hb.0 ++ (hw.0 ++ (hs.0 ++ hm.0)),
     state-takes strong weak body rest S W B M hb.0 hw.0 hs.0 hm.0 five hs.1 hw.1 hb.1 hm.1,
-    λ v.
-        joined-append hb.0 (hw.0 ++ (hs.0 ++ hm.0))
-        ∙ ap₂ (λ xs ys. xs ++ ys) (hb.2 (at_body v)) (joined-append hw.0 (hs.0 ++ hm.0) ∙ ap₂ (λ xs ys. xs ++ ys) (hw.2 (at_weak v)) (joined-append hs.0 hm.0 ∙ ap₂ (λ xs ys. xs ++ ys) (hs.2 (at_strong v)) (hm.2 (at_rest v))))
-        ∙ sym (free-append (b (at_body v)) (w (at_weak v) ++ (s (at_strong v) ++ m (at_rest v)))
-        ∙ ap (λ xs. free_types (b (at_body v)) ++ xs) (free-append (w (at_weak v)) (s (at_strong v) ++ m (at_rest v)) ∙ ap (λ xs. free_types (w (at_weak v)) ++ xs) (free-append (s (at_strong v)) (m (at_rest v))))),
+    λ v. both-apiece hb.0 (hw.0 ++ (hs.0 ++ hm.0)) (b (at_body v)) (w (at_weak v) ++ (s (at_strong v) ++ m (at_rest v))) (hb.2 (at_body v))
+        (both-apiece hw.0 (hs.0 ++ hm.0) (w (at_weak v)) (s (at_strong v) ++ m (at_rest v)) (hw.2 (at_weak v))
+        (both-apiece hs.0 hm.0 (s (at_strong v)) (m (at_rest v)) (hs.2 (at_strong v)) (hm.2 (at_rest v)))),
   )
+
+  -- where they stand in a part
+  below-it : (v : List (List Ty) → Walked (List Ty)) (A : List (List Ty)) (gs : Prefix → List (List FreePlace)) (m : Prefix → Prefix) → Apiece v A gs → Apiece v A (λ w. gs (m w))
+  below-it v A gs m h = apiece-at v A gs (λ w. gs (m w)) m (λ w. refl) h
 
   -- a block, whose registers are no free places
   pub behind-lasts : (v : List (List Ty) → Walked (List Ty)) (A : List (List Ty)) (ds : List Decl) (ss : Prefix → List Slot) (m : Prefix → Prefix) → Sees v A ss → Sees v A (λ w. lasts_slots types ds w ++ ss (m w))
@@ -162,7 +166,7 @@ module _ (types : List TypeDecl) (among : List ℕ → Option Node) (given : Lis
     mutual
       pub block-sees : {outer : Known} {d : ℕ} {to : List ℕ → List ℕ} → Renames outer d to → {tys : Types} {s r : Scope} {lasts lasts' : Lasts} {seen own : Names} → At d to tys s r lasts lasts' seen own → (sp : Span) (xs : List (List ℕ)) (b : Block)
           → BlockOk outer d b → BlockScoped seen own b → BlockTypes (HasConstant enums base) b → BlockSound types among s lasts b → ((x : List ℕ) → is_name xs x ≡ true → IsTrue (own x)) → ((x : List ℕ) → is_name xs x ≡ true → (block_defines b x ≡ true) ⊎ IsTrue (lasts x))
-          → (q : Scope) (names : tree.Scope) (last : Lasts) → Judging q s r names → BlockSound types among q last b → Sees (walk_block b) (brought_in_block given r (lowered_block enums to tys d sp xs b)) (λ w. slots_of_block types outs callee b names w)
+          → (q : Scope) (names : tree.Scope) (last : Lasts) → Judging q s r names → BlockSound types among q last b → Apiece (walk_block b) (brought_in_block given r (lowered_block enums to tys d sp xs b)) (λ w. groups_of_block types outs callee b names w)
       block-sees {outer} {d} {to} rn {tys} {s} {r} p sp xs (block ds es) ok sc has sound mine completes q names last j judged =
           let within = within_block types among enums base rn p sp xs ds es ok sc has.0 sound mine completes in
           let made = lowered_eqns enums to (declaring tys ds) d es in
@@ -170,30 +174,30 @@ module _ (types : List TypeDecl) (among : List ℕ → Option Node) (given : Lis
           let more = judging-inside q s r names ds (own_types types among (with_variables q ds) es ds judged.0) (own_types types among (with_variables s ds) es ds sound.0) j in
           let r1 = with_variables r ds in
           let all = eqns-see rn within es ok.1 sc.3 has.1 sound.1.1 (with_variables q ds) (typed_in ds names) (lasts_in ds last) more judged.1.1 in
-          sees-as (walk_eqns es) (R given r1 made) (brought_in_block given r (lowered_block enums to tys d sp xs (block ds es))) (λ w. slots_of_block types outs callee (block ds es) names w)
+          apiece-as (walk_eqns es) (R given r1 made) (brought_in_block given r (lowered_block enums to tys d sp xs (block ds es))) (λ w. groups_of_block types outs callee (block ds es) names w)
           (ap (λ z. R given z (made ++ left)) (scope_renamed to ds r) ∙ rows-append given r1 made left ∙ ap (λ ys. R given r1 made ++ ys) (kept-none given r1 to sp xs (block ds es)) ∙ append-nil (R given r1 made))
-          (behind-lasts (walk_eqns es) (R given r1 made) ds (λ w. slots_of_equations types outs callee es (typed_in ds names) w) (below Equations) all)
+          (below-it (walk_eqns es) (R given r1 made) (λ w. groups_of_equations types outs callee es (typed_in ds names) w) (below Equations) all)
 
       pub eqns-see : {outer : Known} {d : ℕ} {to : List ℕ → List ℕ} → Renames outer d to → {tys : Types} {s r : Scope} {lasts lasts' : Lasts} {seen own : Names} → At d to tys s r lasts lasts' seen own → (es : Eqns)
           → EqnsOk outer d es → EqnsScoped seen own es → EqnsTypes (HasConstant enums base) es → EqnsSound types among s lasts es
-          → (q : Scope) (names : tree.Scope) (last : Lasts) → Judging q s r names → EqnsSound types among q last es → Sees (walk_eqns es) (R given r (lowered_eqns enums to tys d es)) (λ w. slots_of_equations types outs callee es names w)
-      eqns-see rn p no_eqn ok sc has sound q names last j judged = sees-nothing (walk_eqns no_eqn) (λ w. []) (λ rest. refl) (λ w. refl)
+          → (q : Scope) (names : tree.Scope) (last : Lasts) → Judging q s r names → EqnsSound types among q last es → Apiece (walk_eqns es) (R given r (lowered_eqns enums to tys d es)) (λ w. groups_of_equations types outs callee es names w)
+      eqns-see rn p no_eqn ok sc has sound q names last j judged = apiece-nothing (walk_eqns no_eqn) (λ rest. refl)
       eqns-see {outer} {d} {to} rn {tys} {s} {r} p (more_eqns e es) ok sc has sound q names last j judged =
-          sees-two (walk_eqn e) (walk_eqns es) (brought_in_eqn given r (lowered_eqn enums to tys d e)) (R given r (lowered_eqns enums to tys d es)) (λ w. slots_of_equation types outs callee e names w) (λ w. slots_of_equations types outs callee es names w) (below Head) (below Tail)
+          apiece-two (walk_eqn e) (walk_eqns es) (brought_in_eqn given r (lowered_eqn enums to tys d e)) (R given r (lowered_eqns enums to tys d es)) (λ w. groups_of_equation types outs callee e names w) (λ w. groups_of_equations types outs callee es names w) (below Head) (below Tail)
           (eqn-sees rn p e ok.1 sc.0 has.0 sound.0 q names last j judged.0) (eqns-see rn p es ok.2 sc.1 has.1 sound.1 q names last j judged.1)
 
       eqn-sees : {outer : Known} {d : ℕ} {to : List ℕ → List ℕ} → Renames outer d to → {tys : Types} {s r : Scope} {lasts lasts' : Lasts} {seen own : Names} → At d to tys s r lasts lasts' seen own → (e : Eqn)
           → EqnOk outer d e → EqnScoped seen own e → EqnTypes (HasConstant enums base) e → EqnSound types among s lasts e
-          → (q : Scope) (names : tree.Scope) (last : Lasts) → Judging q s r names → EqnSound types among q last e → Sees (walk_eqn e) (brought_in_eqn given r (lowered_eqn enums to tys d e)) (λ w. slots_of_equation types outs callee e names w)
+          → (q : Scope) (names : tree.Scope) (last : Lasts) → Judging q s r names → EqnSound types among q last e → Apiece (walk_eqn e) (brought_in_eqn given r (lowered_eqn enums to tys d e)) (λ w. groups_of_equation types outs callee e names w)
       eqn-sees {outer} {d} {to} rn {tys} {s} {r} p (define at ys e) ok sc has sound q names last j judged =
-          sees-at (walk e) (brought given r (renamed to e)) (λ w. slots types outs callee e names w) (λ w. slots types outs callee e names (below Right w)) (below Right) (λ w. refl) (right-sees q r to names last (reading-at p q names j) e ys judged)
+          apiece-at (walk e) (brought given r (renamed to e)) (λ w. groups types outs callee e names w) (λ w. groups types outs callee e names (below Right w)) (below Right) (λ w. refl) (right-sees q r to names last (reading-at p q names j) e ys judged)
       eqn-sees {outer} {d} {to} rn {tys} {s} {r} {lasts} {lasts'} {seen} {own} p (switch at e arms) ok sc has sound q names last j judged =
           let xs = once (names_of_arms arms) in
-          sees-two (walk e) (walk_arms arms) (brought given r (renamed to e)) (brought_in_arms given r (lowered_arms enums to tys d xs arms)) (λ w. slots types outs callee e names w) (λ w. slots_of_arms types outs callee arms names w) (below Test) (below ArmsOf)
+          apiece-two (walk e) (walk_arms arms) (brought given r (renamed to e)) (brought_in_arms given r (lowered_arms enums to tys d xs arms)) (λ w. groups types outs callee e names w) (λ w. groups_of_arms types outs callee arms names w) (below Test) (below ArmsOf)
           (sees-it q r to names last (reading-at p q names j) e judged.1.0.0 judged.1.0.1.0 judged.0)
           (arms-see (within_renames (switch at e arms) rn) p (switch at e arms) xs arms ok.1 sc has sound.1.1 (λ x h. eqn_owned x seen own (switch at e arms) sc (sym (names_of_switch enums arms x) ∙ h)) (λ x h. sym (names_of_switch enums arms x) ∙ h) q names last j judged.1.1)
       eqn-sees {outer} {d} {to} rn {tys} {s} {r} p (reset at b e) ok sc has sound q names last j judged =
-          sees-before (walk e) (walk_block b) (brought given r (renamed to e)) (brought_in_block given r (lowered_block enums to tys d at [] b)) (λ w. slots types outs callee e names w) (λ w. slots_of_block types outs callee b names w) (below Test) (below Body)
+          apiece-before (walk e) (walk_block b) (brought given r (renamed to e)) (brought_in_block given r (lowered_block enums to tys d at [] b)) (λ w. groups types outs callee e names w) (λ w. groups_of_block types outs callee b names w) (below Test) (below Body)
           (sees-it q r to names last (reading-at p q names j) e ty.Bool judged.0.1 judged.0.0)
           (block-sees (within_renames (reset at b e) rn) p at [] b ok.1 sc has sound.1 (λ x h. absurd cc) (λ x h. absurd cc) q names last j judged.1)
       eqn-sees {outer} {d} {to} rn {tys} {s} {r} p (automaton at ss) ok sc has sound q names last j judged =
@@ -201,25 +205,25 @@ module _ (types : List TypeDecl) (among : List ℕ → Option Node) (given : Lis
           let r1 = with_variables r (frame_locals tys f ss) in
           let F = frame_eqns enums to tys f in
           let states = lowered_states enums to tys f 0 ss in
-          sees-as (walk_states ss) (R given r1 states) (brought_in_eqn given r (lowered_eqn enums to tys d (automaton at ss))) (λ w. slots_of_equation types outs callee (automaton at ss) names w)
+          apiece-as (walk_states ss) (R given r1 states) (brought_in_eqn given r (lowered_eqn enums to tys d (automaton at ss))) (λ w. groups_of_equation types outs callee (automaton at ss) names w)
           (rows-append given r1 F states ∙ ap (λ ys. ys ++ R given r1 states) (frame-none given r1 enums to tys f))
-          (sees-at (walk_states ss) (R given r1 states) (λ w. slots_of_states types outs callee ss names w) (λ w. slots_of_equation types outs callee (automaton at ss) names w) (below StatesOf) (λ w. refl)
+          (apiece-at (walk_states ss) (R given r1 states) (λ w. groups_of_states types outs callee ss names w) (λ w. groups_of_equation types outs callee (automaton at ss) names w) (below StatesOf) (λ w. refl)
           (states-see rn p at ss ok sc 0 ss ok.3 sc has sound (λ x h. names_of_frame enums at d ss x ∙ h) (omega arith) q names last j judged))
 
       arms-see : {outer : Known} {d : ℕ} {to : List ℕ → List ℕ} → Renames outer d to → {tys : Types} {s r : Scope} {lasts lasts' : Lasts} {seen own : Names} → At d to tys s r lasts lasts' seen own → (e : Eqn) (xs : List (List ℕ)) (arms : Arms)
           → ArmsOk outer d arms → ArmsScoped seen own arms → ArmsTypes (HasConstant enums base) arms → ArmsSound types among e s lasts arms → ((x : List ℕ) → is_name xs x ≡ true → IsTrue (own x)) → ((x : List ℕ) → is_name xs x ≡ true → defines e x ≡ true)
-          → (q : Scope) (names : tree.Scope) (last : Lasts) → Judging q s r names → ArmsSound types among e q last arms → Sees (walk_arms arms) (brought_in_arms given r (lowered_arms enums to tys d xs arms)) (λ w. slots_of_arms types outs callee arms names w)
-      arms-see rn p e xs no_arm ok sc has sound mine of q names last j judged = sees-nothing (walk_arms no_arm) (λ w. []) (λ rest. refl) (λ w. refl)
+          → (q : Scope) (names : tree.Scope) (last : Lasts) → Judging q s r names → ArmsSound types among e q last arms → Apiece (walk_arms arms) (brought_in_arms given r (lowered_arms enums to tys d xs arms)) (λ w. groups_of_arms types outs callee arms names w)
+      arms-see rn p e xs no_arm ok sc has sound mine of q names last j judged = apiece-nothing (walk_arms no_arm) (λ rest. refl)
       arms-see {outer} {d} {to} rn {tys} {s} {r} p e xs (more_arms c b at arms) ok sc has sound mine of q names last j judged =
-          sees-two (walk_block b) (walk_arms arms) (brought_in_block given r (lowered_block enums to tys d at xs b)) (brought_in_arms given r (lowered_arms enums to tys d xs arms)) (λ w. slots_of_block types outs callee b names w) (λ w. slots_of_arms types outs callee arms names w) (below Head) (below Tail)
+          apiece-two (walk_block b) (walk_arms arms) (brought_in_block given r (lowered_block enums to tys d at xs b)) (brought_in_arms given r (lowered_arms enums to tys d xs arms)) (λ w. groups_of_block types outs callee b names w) (λ w. groups_of_arms types outs callee arms names w) (below Head) (below Tail)
           (block-sees rn p at xs b ok.0 sc.0 has.0 sound.1.0 mine (λ x h. sound.0 x (of x h)) q names last j judged.1.0) (arms-see rn p e xs arms ok.1 sc.1 has.1 sound.1.1 mine of q names last j judged.1.1)
 
       states-see : {outer : Known} {d : ℕ} {to : List ℕ → List ℕ} (rn : Renames outer d to) {tys : Types} {s r : Scope} {lasts lasts' : Lasts} {seen own : Names} (p : At d to tys s r lasts lasts' seen own) (sp : Span) (all : States) (ok : EqnOk outer d (automaton sp all))
           (sc : StatesScoped seen own all) (k : ℕ) (ss : States) → StatesOk all (and_defined (automaton sp all) outer) (d + 1) ss → StatesScoped seen own ss → StatesTypes (HasConstant enums base) ss → StatesSound types among (automaton sp all) s lasts ss
           → ((x : List ℕ) → states_define ss x ≡ true → is_name (frame sp d all).names x ≡ true) → k + count_of ss ≤ count_of all
           → (q : Scope) (names : tree.Scope) (last : Lasts) → Judging q s r names → StatesSound types among (automaton sp all) q last ss
-          → Sees (walk_states ss) (R given (with_variables r (frame_locals tys (frame sp d all) all)) (lowered_states enums to tys (frame sp d all) k ss)) (λ w. slots_of_states types outs callee ss names w)
-      states-see rn p sp all ok sc k no_state oks scs has sound sub room q names last j judged = sees-nothing (walk_states no_state) (λ w. []) (λ rest. refl) (λ w. refl)
+          → Apiece (walk_states ss) (R given (with_variables r (frame_locals tys (frame sp d all) all)) (lowered_states enums to tys (frame sp d all) k ss)) (λ w. groups_of_states types outs callee ss names w)
+      states-see rn p sp all ok sc k no_state oks scs has sound sub room q names last j judged = apiece-nothing (walk_states no_state) (λ rest. refl)
       states-see {outer} {d} {to} rn {tys} {s} {r} {lasts} {lasts'} p sp all ok sc k (more_states x (block ds es) until unless at ss) oks scs has sound sub room q names last j judged =
           let f = frame sp d all in
           let words = frame_locals tys f all in
@@ -249,13 +253,13 @@ module _ (types : List TypeDecl) (among : List ℕ → Option Node) (given : Lis
           let of_body : brought_in_block given r1 body ≡ W ++ B = ap (λ z. R given z ((choices within f Weak k (length until) (stays f k) 0 until ++ own_next f k Weak (length until) (stays f k) ∷ []) ++ (made ++ left))) scope_is
           ∙ body-rows given r2 within f k until made left (kept-none given r2 within sp f.names (block ds es)) in
           let five = rows.0 in
-          sees-as (walk_states (more_states x (block ds es) until unless at ss)) (C ++ (five.0 ∷ five.1 ∷ five.2 ∷ five.3 ∷ five.4 ∷ ((W ++ B) ++ M))) (R given r1 (lowered_states enums to tys f k (more_states x (block ds es) until unless at ss)))
-          (λ w. slots_of_states types outs callee (more_states x (block ds es) until unless at ss) names w)
+          apiece-as (walk_states (more_states x (block ds es) until unless at ss)) (C ++ (five.0 ∷ five.1 ∷ five.2 ∷ five.3 ∷ five.4 ∷ ((W ++ B) ++ M))) (R given r1 (lowered_states enums to tys f k (more_states x (block ds es) until unless at ss)))
+          (λ w. groups_of_states types outs callee (more_states x (block ds es) until unless at ss) names w)
           (rows.1 ∙ ap (λ ys. C ++ (five.0 ∷ five.1 ∷ five.2 ∷ five.3 ∷ five.4 ∷ (ys ++ M))) of_body)
-          (state-sees (walk_conditions unless) (walk_conditions until) (walk_eqns es) (walk_states ss) C W B M five (λ w. slots_of_conditions types outs callee unless names w) (λ w. slots_of_conditions types outs callee until (typed_in ds names) w) (λ w. slots_of_block types outs callee (block ds es) names w)
-          (λ w. slots_of_states types outs callee ss names w) (λ w. below Body (below Head w)) (λ w. below Until (below Head w)) (λ w. below Unless (below Head w)) (below Tail)
+          (state-sees (walk_conditions unless) (walk_conditions until) (walk_eqns es) (walk_states ss) C W B M five (λ w. groups_of_conditions types outs callee unless names w) (λ w. groups_of_conditions types outs callee until (typed_in ds names) w) (λ w. groups_of_block types outs callee (block ds es) names w)
+          (λ w. groups_of_states types outs callee ss names w) (λ w. below Body (below Head w)) (λ w. below Until (below Head w)) (λ w. below Unless (below Head w)) (below Tail)
           (conditions-see q r1 to names last (reading-at outside q names j1) f Strong k (length unless) (pending_of f) 0 refl unless judged.1.1.1.0)
           (conditions-see (with_variables q ds) r2 within (typed_in ds names) (lasts_in ds last) (reading-at inside (with_variables q ds) (typed_in ds names) j2) f Weak k (length until) (stays f k) 0 refl until judged.1.1.0)
-          (behind-lasts (walk_eqns es) B ds (λ w. slots_of_equations types outs callee es (typed_in ds names) w) (below Equations)
+          (below-it (walk_eqns es) B (λ w. groups_of_equations types outs callee es (typed_in ds names) w) (below Equations)
           (eqns-see renames inside es oks.0.0.1 scs.0.3 has.0.1 sound.1.0.1.1 (with_variables q ds) (typed_in ds names) (lasts_in ds last) j2 judged.1.0.1.1))
           (states-see rn p sp all ok sc (k + 1) ss oks.1 scs.1 has.1 sound.1.1.1.1 more (omega (arith, room)) q names last j judged.1.1.1.1))

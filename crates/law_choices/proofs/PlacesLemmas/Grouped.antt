@@ -25,12 +25,12 @@ use Rattle.law_choices.proofs.PlacesLemmas.Slots.{lasts_slots, outputs_slots, sa
 
 -- ---- lists
 
-free-append : (xs ys : List Slot) → free_among (xs ++ ys) ≡ free_among xs ++ free_among ys
-free-append [] ys = refl
-free-append (register p k ∷ xs) ys = free-append xs ys
-free-append (free p t ∷ xs) ys = ap (λ zs. (p, t) ∷ zs) (free-append xs ys)
-free-append (input p t ∷ xs) ys = ap (λ zs. (p, t) ∷ zs) (free-append xs ys)
-free-append (control p t ∷ xs) ys = free-append xs ys
+pub among-append : (xs ys : List Slot) → free_among (xs ++ ys) ≡ free_among xs ++ free_among ys
+among-append [] ys = refl
+among-append (register p k ∷ xs) ys = among-append xs ys
+among-append (free p t ∷ xs) ys = ap (λ zs. (p, t) ∷ zs) (among-append xs ys)
+among-append (input p t ∷ xs) ys = ap (λ zs. (p, t) ∷ zs) (among-append xs ys)
+among-append (control p t ∷ xs) ys = among-append xs ys
 
 pub row-append : (xs ys : List (List FreePlace)) → in_a_row (xs ++ ys) ≡ in_a_row xs ++ in_a_row ys
 row-append [] ys = refl
@@ -44,7 +44,7 @@ lasts-none types (d ∷ ds) w = by d.last (lasts-none types ds w)
     by None h = h
     by (Some c) h = h
 
-outputs-free : (ds : List Decl) (w : Prefix) → free_outputs ds w ≡ free_among (outputs_slots ds w)
+pub outputs-free : (ds : List Decl) (w : Prefix) → free_outputs ds w ≡ free_among (outputs_slots ds w)
 outputs-free [] w = refl
 outputs-free (d ∷ ds) w = by d.ty (outputs-free ds w)
   where
@@ -64,7 +64,7 @@ module _ (types : List TypeDecl) (outs : List ℕ → List Decl) (callee : List 
   Grouped ss fs gs = Along OfPair fs gs × (in_a_row gs ≡ free_among ss)
 
   grouped-both : (ss ts : List Slot) (fs hs : Both) (gs ks : List (List FreePlace)) → Grouped ss fs gs → Grouped ts hs ks → Grouped (ss ++ ts) (fs ++ hs) (gs ++ ks)
-  grouped-both ss ts fs hs gs ks h k = (along-both OfPair fs hs gs ks h.0 k.0, row-append gs ks ∙ ap₂ (λ xs ys. xs ++ ys) h.1 k.1 ∙ sym (free-append ss ts))
+  grouped-both ss ts fs hs gs ks h k = (along-both OfPair fs hs gs ks h.0 k.0, row-append gs ks ∙ ap₂ (λ xs ys. xs ++ ys) h.1 k.1 ∙ sym (among-append ss ts))
 
   grouped-compared : (o : Op2) (i : Bool) (w here : Prefix) → Grouped (if is_comparison o && i then free (w []) ty.Bool ∷ [] else []) (both_compared names_of o w here) (if compares o then (if i then (w [], ty.Bool) ∷ [] else []) ∷ [] else [])
   grouped-compared o i w here = by (is_comparison o) (compares o) i (same-comparison o)
@@ -78,7 +78,7 @@ module _ (types : List TypeDecl) (outs : List ℕ → List Decl) (callee : List 
 
   -- the registers of a block are no free places
   behind-lasts : (ds : List Decl) (v : Prefix) (ss : List Slot) (fs : Both) (gs : List (List FreePlace)) → Grouped ss fs gs → Grouped (lasts_slots types ds v ++ ss) fs gs
-  behind-lasts ds v ss fs gs h = (h.0, h.1 ∙ sym (free-append (lasts_slots types ds v) ss ∙ ap (λ xs. xs ++ free_among ss) (lasts-none types ds v)))
+  behind-lasts ds v ss fs gs h = (h.0, h.1 ∙ sym (among-append (lasts_slots types ds v) ss ∙ ap (λ xs. xs ++ free_among ss) (lasts-none types ds v)))
 
   mutual
     expr-grouped : (e : Expr) (names : Scope) (w here : Prefix) → Grouped (slots types outs callee e names w) (found names_of e w here) (groups types outs callee e names w)
@@ -111,8 +111,8 @@ module _ (types : List TypeDecl) (outs : List ℕ → List Decl) (callee : List 
           ((v, refl, refl), args.0),
           append_assoc (free_outputs (outs f) v) (free_among (callee f v)) (in_a_row (groups_of_all types outs callee es names (below Args w)))
               ∙ ap₂ (λ xs ys. xs ++ (free_among (callee f v) ++ ys)) (outputs-free (outs f) v) args.1
-              ∙ ap (λ xs. free_among O ++ xs) (sym (free-append (callee f v) S))
-              ∙ sym (free-append O (callee f v ++ S)),
+              ∙ ap (λ xs. free_among O ++ xs) (sym (among-append (callee f v) S))
+              ∙ sym (among-append O (callee f v ++ S)),
         )
 
     all-grouped : (es : Exprs) (names : Scope) (w here : Prefix) → Grouped (slots_of_all types outs callee es names w) (found_in_all names_of es w here) (groups_of_all types outs callee es names w)
@@ -185,6 +185,16 @@ module _ (types : List TypeDecl) (outs : List ℕ → List Decl) (callee : List 
         grouped-both A (C ++ (D ++ M)) P (Q ++ (U ++ V)) GA (GC ++ (GD ++ GM)) (body-grouped b until names (below Body (below Head w)) (at_body unless here))
         (grouped-both C (D ++ M) Q (U ++ V) GC (GD ++ GM) (conditions-grouped until (scope_of b names) (below Until (below Head w)) (below Equations (at_body unless here)))
         (grouped-both D M U V GD GM (conditions-grouped unless names (below Unless (below Head w)) here) (states-grouped ss names (below Tail w) (behind_state unless here))))
+
+-- in a row they are the free places of a part
+pub expr-row : (types : List TypeDecl) (outs : List ℕ → List Decl) (callee : List ℕ → Prefix → List Slot) (e : Expr) (names : Scope) (w : Prefix) → in_a_row (groups types outs callee e names w) ≡ free_among (slots types outs callee e names w)
+expr-row types outs callee e names w = (expr-grouped types outs callee e names w w).1
+
+pub eqns-row : (types : List TypeDecl) (outs : List ℕ → List Decl) (callee : List ℕ → Prefix → List Slot) (es : Eqns) (names : Scope) (w : Prefix) → in_a_row (groups_of_equations types outs callee es names w) ≡ free_among (slots_of_equations types outs callee es names w)
+eqns-row types outs callee es names w = (eqns-grouped types outs callee es names w w).1
+
+pub block-row : (types : List TypeDecl) (outs : List ℕ → List Decl) (callee : List ℕ → Prefix → List Slot) (b : Block) (names : Scope) (w : Prefix) → in_a_row (groups_of_block types outs callee b names w) ≡ free_among (slots_of_block types outs callee b names w)
+block-row types outs callee b names w = (block-grouped types outs callee b names w w).1
 
 pub groups_law : GroupsLaw
 groups_law types outs callee b names w here = block-grouped types outs callee b names w here
