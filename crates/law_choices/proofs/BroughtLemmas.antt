@@ -12,3 +12,4 @@ pub mod Alone
 pub mod Contracts
 pub mod Programs
 pub mod Apiece
+pub mod Flagged

@@ -233,6 +233,10 @@ module _ (observers : Observing) (inside : (f : List ℕ) (o : Observed) → obs
   last-stands : Stands (length n.eqns) (placed observers (length n.eqns) begun)
   last-stands = all-stand (length n.eqns) (omega arith)
 
+  -- where an equation of the node stands, with what its call brings
+  pub placed-is : (i : ℕ) (e : FlatEqn) → slice_get n.eqns i ≡ Some e → free_placed observers last_placed i ≡ free_by last_placed.node i e.right e.targets ++ free_moved (called_by observers e.right) (shift_at last_placed.shifts i)
+  placed-is i e at = ap (λ u. free_placed_by observers last_placed i u) (same_at (length n.eqns) last_placed last-stands i (number_below n.eqns i e at) ∙ at)
+
   pub placed-grows : Grows begun last_placed.node
   placed-grows = (last-stands).later
 
@@ -242,7 +246,7 @@ module _ (observers : Observing) (inside : (f : List ℕ) (o : Observed) → obs
     abbrev there : FlatNode
     there = last_placed.node
 
-    typed-there : (x : ℕ) (t : FlatTy) → HasType d x t → (type_at there x ≡ t) × (x < length there.variables)
+    pub typed-there : (x : ℕ) (t : FlatTy) → HasType d x t → (type_at there x ≡ t) × (x < length there.variables)
     typed-there x t h =
         let g = grows-both n begun there grown placed-grows in
         let in_node : slice_get n.variables x ≡ Some h.0 = ap (λ vs. slice_get vs x) variables ∙ h.1 in
@@ -258,7 +262,7 @@ module _ (observers : Observing) (inside : (f : List ℕ) (o : Observed) → obs
         let h = (last-stands).calls i e o l at is in
         ap (λ s. types_in there (free_moved (Some o) s)) h.1 ∙ h.2
 
-    one-types : (i : ℕ) (e : FlatEqn) (l : List Ty) → slice_get n.eqns i ≡ Some e → Brings given k d e l → types_in there (free_placed observers last_placed i) ≡ map (flat_type k.types) l
+    pub one-types : (i : ℕ) (e : FlatEqn) (l : List Ty) → slice_get n.eqns i ≡ Some e → Brings given k d e l → types_in there (free_placed observers last_placed i) ≡ map (flat_type k.types) l
     one-types i e l at b =
         let below = number_below n.eqns i e at in
         ap (λ u. types_in there (free_placed_by observers last_placed i u)) (same_at (length n.eqns) last_placed last-stands i below ∙ at)
