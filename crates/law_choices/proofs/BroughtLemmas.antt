@@ -13,3 +13,4 @@ pub mod Contracts
 pub mod Programs
 pub mod Apiece
 pub mod Flagged
+pub mod Inputless

@@ -1,0 +1,130 @@
+-- Among the slots of a block no inputs stand, so the flags of its free places say which of these are early.
+use Rattle.std.proofs.Common.{◌≡◌, ⊤, ⊥, ℕ, Bool, true, false, if◌then◌else◌, List, [], ◌∷◌, ◌++◌, Option, None, Some}
+use Rattle.std.specs.Prelude.{◌&&◌}
+use Rattle.hp_base.specs.declared.ty.Const.{Const}
+use Rattle.hp_base.specs.declared.ty.Ty.{Ty}
+use Rattle.hp_base.specs.declared.ty.Ty.TheVariants as ty
+use Rattle.hp_tree.specs.declared.block.Trans.{Trans}
+use Rattle.hp_tree.specs.declared.expr.Op2.{Op2}
+use Rattle.hp_tree.specs.Expressions.{Expr, constant, variable, last_of, one, two, choose, pre, fby, arrow, when_is, merge, call, Exprs, no_expr, more_exprs, Parts, no_part, more_parts}
+use Rattle.hp_tree.specs.Blocks.{Decl, Block, block, Eqns, no_eqn, more_eqns, Eqn, define, switch, reset, automaton, Arms, no_arm, more_arms, States, no_state, more_states}
+use Rattle.hp_tree.specs.Programs.{TypeDecl}
+use Rattle.hp_tree.specs.Operators.{is_comparison}
+use Rattle.hp_tree.specs.ExpressionTypes.{Scope, typed_in, scope_of, type_of}
+use Rattle.hp_tree.specs.Instant.{Body, Named, Equations, Head, Tail, Right, Test, Arms as ArmsOf, States as StatesOf, Until, Unless, First, Second, Third, Args, Instance, Place}
+use Rattle.hp_meaning.specs.Contract.Slots.{Slot, register, free, input, control, FreePlace, free_among, is_int, slots, slots_of_all, slots_of_parts, slots_of_conditions, slots_of_block, slots_of_equations, slots_of_equation, slots_of_arms, slots_of_states}
+use Rattle.law_automata.specs.Lowered.Standing.{Along}
+use Rattle.law_equations.specs.Flattened.Flatten.{Prefix, below}
+use Rattle.hp_watch.specs.declared.watching.Free.{Free}
+use Rattle.law_choices.specs.Playing.Mirrored.{early_flags}
+use Rattle.law_choices.proofs.PlacesLemmas.Slots.{lasts_slots, outputs_slots}
+
+-- none of the slots is an input
+abbrev pub HasNoInput : List Slot → Type 0
+HasNoInput [] = ⊤
+HasNoInput (input p t ∷ ss) = ⊥
+HasNoInput (register p k ∷ ss) = HasNoInput ss
+HasNoInput (free p t ∷ ss) = HasNoInput ss
+HasNoInput (control p t ∷ ss) = HasNoInput ss
+
+pub none-both : (ss ts : List Slot) → HasNoInput ss → HasNoInput ts → HasNoInput (ss ++ ts)
+none-both [] ts h k = k
+none-both (register p q ∷ ss) ts h k = none-both ss ts h k
+none-both (free p t ∷ ss) ts h k = none-both ss ts h k
+none-both (control p t ∷ ss) ts h k = none-both ss ts h k
+none-both (input p t ∷ ss) ts h k = absurd h
+
+-- What is so of early places and their variables is so of variables whose flag is set.
+pub flags-kept : (early : Place → Bool) (D : ℕ → Type 0) (ss : List Slot) (fs : List Free) → HasNoInput ss → Along (λ (f : Free) (q : FreePlace). early q.0 ≡ true → D f.variable) fs (free_among ss)
+    → Along (λ (f : Free) (b : Bool). b ≡ true → D f.variable) fs (early_flags early ss)
+flags-kept early D [] [] h k = tt
+flags-kept early D [] (f ∷ fs) h k = absurd k
+flags-kept early D (register p t ∷ ss) fs h k = flags-kept early D ss fs h k
+flags-kept early D (control p t ∷ ss) fs h k = flags-kept early D ss fs h k
+flags-kept early D (input p t ∷ ss) fs h k = absurd h
+flags-kept early D (free p t ∷ ss) [] h k = absurd k
+flags-kept early D (free p t ∷ ss) (f ∷ fs) h k = (k.0, flags-kept early D ss fs h k.1)
+
+lasts-none : (types : List TypeDecl) (ds : List Decl) (w : Prefix) → HasNoInput (lasts_slots types ds w)
+lasts-none types [] w = tt
+lasts-none types (d ∷ ds) w = by d.last (lasts-none types ds w)
+  where
+    by : (o : Option Const) → HasNoInput (lasts_slots types ds w) → HasNoInput (lasts_slots types (record d { last = o } ∷ ds) w)
+    by None h = h
+    by (Some c) h = h
+
+outputs-none : (ds : List Decl) (w : Prefix) → HasNoInput (outputs_slots ds w)
+outputs-none [] w = tt
+outputs-none (d ∷ ds) w = by d.ty (outputs-none ds w)
+  where
+    by : (t : Ty) → HasNoInput (outputs_slots ds w) → HasNoInput (outputs_slots (record d { ty = t } ∷ ds) w)
+    by ty.Bool h = h
+    by ty.Int h = h
+    by (ty.Enum x) h = h
+
+compared-none : (b : Bool) (p : Place) → HasNoInput (if b then free p ty.Bool ∷ [] else [])
+compared-none true p = tt
+compared-none false p = tt
+
+module _ (types : List TypeDecl) (outs : List ℕ → List Decl) (callee : List ℕ → Prefix → List Slot) (none : (f : List ℕ) (w : Prefix) → HasNoInput (callee f w)) where
+  mutual
+    expr-none : (e : Expr) (names : Scope) (w : Prefix) → HasNoInput (slots types outs callee e names w)
+    expr-none (constant s c) names w = tt
+    expr-none (variable s x) names w = tt
+    expr-none (last_of s x) names w = tt
+    expr-none (one s o a) names w = expr-none a names (below First w)
+    expr-none (two s o a b) names w =
+        none-both (if is_comparison o && is_int (type_of types outs a names) then free (w []) ty.Bool ∷ [] else []) (slots types outs callee a names (below First w) ++ slots types outs callee b names (below Second w))
+        (compared-none (is_comparison o && is_int (type_of types outs a names)) (w []))
+        (none-both (slots types outs callee a names (below First w)) (slots types outs callee b names (below Second w)) (expr-none a names (below First w)) (expr-none b names (below Second w)))
+    expr-none (choose s a b c) names w =
+        none-both (slots types outs callee a names (below First w)) (slots types outs callee b names (below Second w) ++ slots types outs callee c names (below Third w)) (expr-none a names (below First w))
+        (none-both (slots types outs callee b names (below Second w)) (slots types outs callee c names (below Third w)) (expr-none b names (below Second w)) (expr-none c names (below Third w)))
+    expr-none (pre s a) names w = expr-none a names (below First w)
+    expr-none (fby s a b) names w = none-both (slots types outs callee a names (below First w)) (slots types outs callee b names (below Second w)) (expr-none a names (below First w)) (expr-none b names (below Second w))
+    expr-none (arrow s a b) names w = none-both (slots types outs callee a names (below First w)) (slots types outs callee b names (below Second w)) (expr-none a names (below First w)) (expr-none b names (below Second w))
+    expr-none (when_is s a c x) names w = expr-none a names (below First w)
+    expr-none (merge s x ps) names w = parts-none ps names (below Args w)
+    expr-none (call s f inlined es) names w =
+        none-both (outputs_slots (outs f) (below Instance w)) (callee f (below Instance w) ++ slots_of_all types outs callee es names (below Args w)) (outputs-none (outs f) (below Instance w))
+        (none-both (callee f (below Instance w)) (slots_of_all types outs callee es names (below Args w)) (none f (below Instance w)) (all-none es names (below Args w)))
+
+    all-none : (es : Exprs) (names : Scope) (w : Prefix) → HasNoInput (slots_of_all types outs callee es names w)
+    all-none no_expr names w = tt
+    all-none (more_exprs e es) names w = none-both (slots types outs callee e names (below Head w)) (slots_of_all types outs callee es names (below Tail w)) (expr-none e names (below Head w)) (all-none es names (below Tail w))
+
+    parts-none : (ps : Parts) (names : Scope) (w : Prefix) → HasNoInput (slots_of_parts types outs callee ps names w)
+    parts-none no_part names w = tt
+    parts-none (more_parts c e ps) names w = none-both (slots types outs callee e names (below Head w)) (slots_of_parts types outs callee ps names (below Tail w)) (expr-none e names (below Head w)) (parts-none ps names (below Tail w))
+
+  conditions-none : (ts : List Trans) (names : Scope) (w : Prefix) → HasNoInput (slots_of_conditions types outs callee ts names w)
+  conditions-none [] names w = tt
+  conditions-none (t ∷ ts) names w = none-both (slots types outs callee t.cond names (below Head w)) (slots_of_conditions types outs callee ts names (below Tail w)) (expr-none t.cond names (below Head w)) (conditions-none ts names (below Tail w))
+
+  mutual
+    pub block-none : (b : Block) (names : Scope) (w : Prefix) → HasNoInput (slots_of_block types outs callee b names w)
+    block-none (block ds es) names w = none-both (lasts_slots types ds w) (slots_of_equations types outs callee es (typed_in ds names) (below Equations w)) (lasts-none types ds w) (eqns-none es (typed_in ds names) (below Equations w))
+
+    eqns-none : (es : Eqns) (names : Scope) (w : Prefix) → HasNoInput (slots_of_equations types outs callee es names w)
+    eqns-none no_eqn names w = tt
+    eqns-none (more_eqns e es) names w = none-both (slots_of_equation types outs callee e names (below Head w)) (slots_of_equations types outs callee es names (below Tail w)) (eqn-none e names (below Head w)) (eqns-none es names (below Tail w))
+
+    eqn-none : (e : Eqn) (names : Scope) (w : Prefix) → HasNoInput (slots_of_equation types outs callee e names w)
+    eqn-none (define s ys e) names w = expr-none e names (below Right w)
+    eqn-none (switch s e arms) names w = none-both (slots types outs callee e names (below Test w)) (slots_of_arms types outs callee arms names (below ArmsOf w)) (expr-none e names (below Test w)) (arms-none arms names (below ArmsOf w))
+    eqn-none (reset s b e) names w = none-both (slots_of_block types outs callee b names (below Body w)) (slots types outs callee e names (below Test w)) (block-none b names (below Body w)) (expr-none e names (below Test w))
+    eqn-none (automaton s ss) names w = states-none ss names (below StatesOf w)
+
+    arms-none : (arms : Arms) (names : Scope) (w : Prefix) → HasNoInput (slots_of_arms types outs callee arms names w)
+    arms-none no_arm names w = tt
+    arms-none (more_arms c b s arms) names w = none-both (slots_of_block types outs callee b names (below Head w)) (slots_of_arms types outs callee arms names (below Tail w)) (block-none b names (below Head w)) (arms-none arms names (below Tail w))
+
+    states-none : (ss : States) (names : Scope) (w : Prefix) → HasNoInput (slots_of_states types outs callee ss names w)
+    states-none no_state names w = tt
+    states-none (more_states f b until unless s ss) names w =
+        let A = slots_of_block types outs callee b names (below Body (below Head w)) in
+        let C = slots_of_conditions types outs callee until (scope_of b names) (below Until (below Head w)) in
+        let D = slots_of_conditions types outs callee unless names (below Unless (below Head w)) in
+        let M = slots_of_states types outs callee ss names (below Tail w) in
+        none-both A (C ++ (D ++ M)) (block-none b names (below Body (below Head w)))
+        (none-both C (D ++ M) (conditions-none until (scope_of b names) (below Until (below Head w))) (none-both D M (conditions-none unless names (below Unless (below Head w))) (states-none ss names (below Tail w))))
