@@ -51,10 +51,14 @@ module _ (V : ℕ → Place → Type 0) where
   -- a comparison, where it compares integers or not
   compared-kept : (n : FlatNode) (i x : ℕ) (p : Place) (b : Bool) (g : List FreePlace) → V x p → length (if b then free_target n i x ++ [] else []) ≡ length g → (g ≡ []) ⊎ (g ≡ (p, ty.Bool) ∷ [])
       → Kept (if b then free_target n i x ++ [] else []) g
-  compared-kept n i x p b g h e (inl none) = subst (Kept (if b then free_target n i x ++ [] else [])) (sym none) (none-kept (if b then free_target n i x ++ [] else []) (e ∙ ap length none))
-  compared-kept n i x p b g h e (inr one) = subst (Kept (if b then free_target n i x ++ [] else [])) (sym one) (by b (is_integer (type_at n x)) (e ∙ ap length one))
+  compared-kept n i x p b g h e (inl none) =
+      let fs : List Free = if b then free_target n i x ++ [] else [] in
+      subst (Kept fs) (sym none) (none-kept fs (e ∙ ap (λ (z : List FreePlace). length z) none))
+  compared-kept n i x p b g h e (inr one) =
+      let fs : List Free = if b then free_target n i x ++ [] else [] in
+      subst (Kept fs) (sym one) (by b (is_integer (type_at n x)) (e ∙ ap (λ (z : List FreePlace). length z) one))
     where
-      by : (b c : Bool) → length (if b then (if c then [] else record { variable = x; eqn = Some i } ∷ []) ++ [] else []) ≡ 1 → Kept (if b then (if c then [] else record { variable = x; eqn = Some i } ∷ []) ++ [] else []) ((p, ty.Bool) ∷ [])
+      by : (b c : Bool) → length {A = Free} (if b then (if c then [] else record { variable = x; eqn = Some i } ∷ []) ++ [] else []) ≡ 1 → Kept (if b then (if c then [] else record { variable = x; eqn = Some i } ∷ []) ++ [] else []) ((p, ty.Bool) ∷ [])
       by true false l = (h, tt)
       by true true l = absurd (omega (arith, l))
       by false c l = absurd (omega (arith, l))

@@ -19,7 +19,7 @@ use Rattle.law_equations.specs.Flattened.Flatten.{Prefix, below}
 use Rattle.hp_watch.specs.Walk.{compares}
 use Rattle.law_choices.specs.Places.Spots.{Spot, compared, call_spot}
 use Rattle.law_choices.specs.Places.Found.{Both, behind, behind_state, at_body, at_states, at_condition, both_compared, found, found_in_all, found_in_parts, found_in_conditions, found_in_block, found_in_eqns, found_in_eqn, found_in_arms, found_in_states, found_in_body}
-use Rattle.law_choices.specs.Places.Groups.{AreAlike, GroupsLaw, IsGroupOf, call_group, compared_groups, free_outputs, groups, groups_of_all, groups_of_arms, groups_of_block, groups_of_conditions, groups_of_equation, groups_of_equations, groups_of_parts, groups_of_states, in_a_row, unless_integer}
+use Rattle.law_choices.specs.Places.Groups.{AreAlike, GroupsLaw, IsGroupOf, IsInFront, call_group, compared_groups, free_outputs, groups, groups_of_all, groups_of_arms, groups_of_block, groups_of_conditions, groups_of_equation, groups_of_equations, groups_of_parts, groups_of_states, in_a_row, unless_integer}
 use Rattle.law_choices.proofs.PlacesLemmas.Relating.{along-both}
 use Rattle.law_choices.proofs.PlacesLemmas.Slots.{lasts_slots, outputs_slots, same-comparison}
 
@@ -196,5 +196,8 @@ eqns-row types outs callee es names w = (eqns-grouped types outs callee (λ w. �
 pub block-row : (types : List TypeDecl) (outs : List ℕ → List Decl) (callee : List ℕ → Prefix → List Slot) (b : Block) (names : Scope) (w : Prefix) → in_a_row (groups_of_block types outs callee b names w) ≡ free_among (slots_of_block types outs callee b names w)
 block-row types outs callee b names w = (block-grouped types outs callee (λ w. ⊤) (λ s w h. tt) b names w w tt).1
 
+pub front-below : (s : Step) (w : Prefix) → IsInFront w → IsInFront (below s w)
+front-below s w h = (h.0 ++ s ∷ [], λ p. h.1 (s ∷ p) ∙ sym (append_assoc h.0 (s ∷ []) p))
+
 pub groups_law : GroupsLaw
-groups_law types outs callee P closed b names w here h = block-grouped types outs callee P closed b names w here h
+groups_law types outs callee b names w here h = block-grouped types outs callee IsInFront front-below b names w here h

@@ -1,6 +1,6 @@
 -- The free places that each comparison and each call of a part brings, in the order of slots.
 -- Source: own. A comparison brings its own place where it compares integers. A call brings its outputs that are no integers, and behind them the free places of the contract that is called.
-use Rattle.std.specs.Prelude.{ℕ, ◌≡◌, ◌⊎◌, ⊥, if◌then◌else◌, List, [], ◌∷◌, ◌++◌, map}
+use Rattle.std.specs.Prelude.{ℕ, ◌≡◌, ◌⊎◌, if◌then◌else◌, List, [], ◌∷◌, ◌++◌, map}
 use Rattle.hp_base.specs.declared.ty.Ty.{Ty}
 use Rattle.hp_base.specs.declared.ty.Ty.TheVariants as ty
 use Rattle.hp_tree.specs.declared.block.Trans.{Trans}
@@ -9,7 +9,7 @@ use Rattle.hp_tree.specs.Expressions.{Expr, constant, variable, last_of, one, tw
 use Rattle.hp_tree.specs.ExpressionTypes.{Scope, typed_in, scope_of, type_of}
 use Rattle.hp_tree.specs.Blocks.{Decl, Block, block, Eqns, no_eqn, more_eqns, Eqn, define, switch, reset, automaton, Arms, no_arm, more_arms, States, no_state, more_states}
 use Rattle.hp_tree.specs.Programs.{TypeDecl}
-use Rattle.hp_tree.specs.Instant.{Body, Named, Equations, Head, Tail, Right, Test, Arms as ArmsOf, States as StatesOf, Until, Unless, First, Second, Third, Args, Instance, Step, Place}
+use Rattle.hp_tree.specs.Instant.{Body, Named, Equations, Head, Tail, Right, Test, Arms as ArmsOf, States as StatesOf, Until, Unless, First, Second, Third, Args, Instance, Place}
 use Rattle.hp_meaning.specs.Contract.Slots.{Slot, FreePlace, free_among, is_int, slots_of_block}
 use Rattle.law_automata.specs.Lowered.Standing.{Along}
 use Rattle.law_equations.specs.Flattened.Flatten.{Prefix, below}
@@ -98,6 +98,10 @@ AreAlike (compared o p) (compared u q) = o ≡ u
 AreAlike (called f ps) (called h qs) = f ≡ h
 AreAlike s t = ⊥
 
+-- a prefix that puts a place in front
+abbrev pub IsInFront : Prefix → Type 0
+IsInFront w = (q : Place) × ((p : Place) → w p ≡ q ++ p)
+
 -- lists in a row
 abbrev pub in_a_row : List (List FreePlace) → List FreePlace
 in_a_row [] = []
@@ -106,6 +110,6 @@ in_a_row (g ∷ gs) = g ++ in_a_row gs
 -- What a walk over a block finds brings these groups, one by one, and in a row they are its free places.
 abbrev pub GroupsLaw : Type 0
 GroupsLaw =
-    (types : List TypeDecl) (outs : List ℕ → List Decl) (callee : List ℕ → Prefix → List Slot) (P : Prefix → Type 0) → ((s : Step) (w : Prefix) → P w → P (below s w)) → (b : Block) (names : Scope) (w here : Prefix) → P w
-    → Along (λ (c : Spot × Spot) (g : List FreePlace). IsGroupOf types outs callee P c.0 g × AreAlike c.0 c.1) (found_in_block (λ f. map (λ (d : Decl). d.name) (outs f)) b w here) (groups_of_block types outs callee b names w)
+    (types : List TypeDecl) (outs : List ℕ → List Decl) (callee : List ℕ → Prefix → List Slot) (b : Block) (names : Scope) (w here : Prefix) → IsInFront w
+    → Along (λ (c : Spot × Spot) (g : List FreePlace). IsGroupOf types outs callee IsInFront c.0 g × AreAlike c.0 c.1) (found_in_block (λ f. map (λ (d : Decl). d.name) (outs f)) b w here) (groups_of_block types outs callee b names w)
     × (in_a_row (groups_of_block types outs callee b names w) ≡ free_among (slots_of_block types outs callee b names w))
