@@ -1,5 +1,5 @@
 -- What is so of the targets of comparisons and calls, and of their places, is so of the free places that these bring, one by one in the order of slots.
-use Rattle.std.proofs.Common.{◌≡◌, ℕ, Bool, true, false, if◌then◌else◌, List, [], ◌∷◌, ◌++◌, length, map, slice_get, Option, Some, inl, inr, refl, sym, ap, ap₂, subst, ◌∙◌, arith}
+use Rattle.std.proofs.Common.{◌≡◌, ℕ, Bool, true, false, if◌then◌else◌, List, [], ◌∷◌, ◌++◌, length, map, slice_get, Option, Some, inl, inr, sym, ap, ap₂, subst, ◌∙◌, arith}
 use Rattle.std.specs.Prelude.{◌⊎◌, ◌+◌}
 use Rattle.std.specs.List.{flat_map}
 use Rattle.std.proofs.lemmas.List.{append-nil, length-append, length-map}
@@ -28,7 +28,7 @@ use Rattle.law_choices.specs.Places.Laws.{IsEventOf, IsNumberOf, places_of}
 use Rattle.law_choices.specs.Places.Spots.{Spot, called, compared}
 use Rattle.law_choices.proofs.BroughtLemmas.Apiece.{types_apiece, types_of_places}
 use Rattle.law_choices.proofs.BroughtLemmas.Brought.{Brings, Calls, Compares}
-use Rattle.law_choices.proofs.BroughtLemmas.Placed.{AreIn, last_placed, observed_types, one-types, placed-is, shown_types, typed-there, types_in}
+use Rattle.law_choices.proofs.BroughtLemmas.Placed.{AreIn, last_placed, observed_types, one-types, placed-is, shown_types, typed-there}
 use Rattle.law_choices.proofs.PlacesLemmas.Numbers.{AtNumber}
 use Rattle.law_choices.proofs.PlacesLemmas.Relating.{along-both, along-length}
 

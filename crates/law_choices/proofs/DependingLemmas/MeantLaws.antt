@@ -1,7 +1,6 @@
 -- The targets of comparisons and calls stand for the places of these, in the order of making, where labels of the body say so.
-use Rattle.std.proofs.Common.{◌≡◌, ℕ, List, [], ◌∷◌, map, refl, ap, subst, ◌∙◌}
+use Rattle.std.proofs.Common.{◌≡◌, ℕ, List, [], ◌∷◌, map, ap, subst, ◌∙◌}
 use Rattle.std.proofs.lemmas.List.{append-nil}
-use Rattle.hp_tree.specs.Programs.{Node}
 use Rattle.hp_tree.specs.Instant.{Place}
 use Rattle.hp_flat.specs.Equations.{FlatEqn}
 use Rattle.law_automata.specs.Lowered.Standing.{Along}

@@ -12,14 +12,14 @@ use Rattle.hp_tree.specs.Blocks.{Decl, Block, block, Eqns, no_eqn, more_eqns, Eq
 use Rattle.hp_tree.specs.Programs.{TypeDecl}
 use Rattle.hp_tree.specs.Operators.{is_comparison}
 use Rattle.hp_tree.specs.ExpressionTypes.{Scope, typed_in, scope_of, type_of}
-use Rattle.hp_tree.specs.Instant.{Body, Named, Equations, Head, Tail, Right, Test, Arms as ArmsOf, States as StatesOf, Until, Unless, First, Second, Third, Args, Instance, Step, Place}
+use Rattle.hp_tree.specs.Instant.{Body, Named, Equations, Head, Tail, Right, Test, Arms as ArmsOf, States as StatesOf, Until, Unless, First, Second, Third, Args, Instance, Step}
 use Rattle.hp_meaning.specs.Contract.Slots.{Slot, register, free, input, control, FreePlace, free_among, is_int, slots, slots_of_all, slots_of_parts, slots_of_conditions, slots_of_block, slots_of_equations, slots_of_equation, slots_of_arms, slots_of_states}
 use Rattle.law_automata.specs.Lowered.Standing.{Along}
 use Rattle.law_equations.specs.Flattened.Flatten.{Prefix, below}
 use Rattle.hp_watch.specs.Walk.{compares}
-use Rattle.law_choices.specs.Places.Spots.{Spot, compared, call_spot}
+use Rattle.law_choices.specs.Places.Spots.{Spot, compared}
 use Rattle.law_choices.specs.Places.Found.{Both, behind, behind_state, at_body, at_states, at_condition, both_compared, found, found_in_all, found_in_parts, found_in_conditions, found_in_block, found_in_eqns, found_in_eqn, found_in_arms, found_in_states, found_in_body}
-use Rattle.law_choices.specs.Places.Groups.{AreAlike, GroupsLaw, IsGroupOf, IsInFront, call_group, compared_groups, free_outputs, groups, groups_of_all, groups_of_arms, groups_of_block, groups_of_conditions, groups_of_equation, groups_of_equations, groups_of_parts, groups_of_states, in_a_row, unless_integer}
+use Rattle.law_choices.specs.Places.Groups.{AreAlike, GroupsLaw, IsGroupOf, IsInFront, compared_groups, free_outputs, groups, groups_of_all, groups_of_arms, groups_of_block, groups_of_conditions, groups_of_equation, groups_of_equations, groups_of_parts, groups_of_states, in_a_row, unless_integer}
 use Rattle.law_choices.proofs.PlacesLemmas.Relating.{along-both}
 use Rattle.law_choices.proofs.PlacesLemmas.Slots.{lasts_slots, outputs_slots, same-comparison}
 

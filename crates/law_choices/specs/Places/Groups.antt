@@ -15,7 +15,7 @@ use Rattle.law_automata.specs.Lowered.Standing.{Along}
 use Rattle.law_equations.specs.Flattened.Flatten.{Prefix, below}
 use Rattle.hp_watch.specs.Walk.{compares}
 use Rattle.law_choices.specs.Places.Spots.{Spot, compared, called}
-use Rattle.law_choices.specs.Places.Found.{Both, found_in_block}
+use Rattle.law_choices.specs.Places.Found.{found_in_block}
 
 -- a place with its type, unless it is an integer
 abbrev pub unless_integer : Place → Ty → List FreePlace
