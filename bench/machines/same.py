@@ -1,11 +1,15 @@
 #!/usr/bin/env python3
-"""Compares the machines that two programs compile of the same texts: another order of commands, and nothing else.
+"""Compares the machines that two programs compile of the same texts: another order of commands, or fewer copies and tests, and nothing else.
 
-same.py BEFORE AFTER TABLE..     BEFORE and AFTER are programs `hept`, each TABLE a list of rows of commands (crates/hp_rows/data/README.md)
+same.py BEFORE AFTER TABLE..           BEFORE and AFTER are programs `hept`, each TABLE a list of rows of commands (crates/hp_rows/data/README.md)
+same.py fewer BEFORE AFTER TABLE..     where AFTER leaves out copies, tests and what no output needs
 
 For each text of the tables it asks that both programs refuse it, or that both write machines in which types, headings, memories and instances are the same (memories
 and instances as sets, by kind and first value, since their names tell their order), and the commands the same but for their order: each command with the cases that stand
-around it. Then it runs each node on the lines of the row by both machines, and asks for the same words. It says how many cases stand in both, and ends with status 1 where something differs."""
+around it. Then it runs each node on the lines of the row by both machines, and asks for the same words. It says how many cases stand in both, and ends with status 1 where something differs.
+
+With `fewer` it asks of the commands that outputs need, in each machine: the same operations, calls and resets as a multiset, whatever their operands are called and whichever cases stand around them, but for copies (`set x y`) and tests
+(comparisons by `@eq`, `@or`, `@mux`), of which AFTER has as many or fewer; and the same memories and instances among those that are needed. A command is needed where an output is computed from what it sets, now or at a later step."""
 import collections
 import json
 import os
@@ -154,6 +158,89 @@ def differences(before, after):
             yield f'{name}: commands'
 
 
+# what a choice among states is made of
+TESTS = {'@eq', '@or', '@mux'}
+
+
+def flat(commands, around=()):
+    """Each command that is no case, with the variables of the cases around it."""
+    for command in commands:
+        if command[0] == 'case':
+            for _, inner in command[2]:
+                yield from flat(inner, (*around, command[1]))
+        else:
+            yield command, around
+
+
+def given_by(command):
+    """What a command gives a value to; a reset does to the memories of an instance."""
+    return command[2] if command[0] == 'call' else command[1:2]
+
+
+def read_by(command):
+    """What a command reads: of a call the memories of its instance, too."""
+    if command[0] == 'call':
+        return (command[1], *command[3])
+    return command[2:3] + command[3] if command[0] == 'set' else ()
+
+
+def needed_of(machine):
+    """The commands from which outputs are computed, now or at a later step, and the names that these read."""
+    left, names, found, grows = list(flat(machine['step'])), {one[0] for one in listed(machine['out'])}, [], True
+    while grows:
+        grows, rest = False, []
+        for command, around in left:
+            if names.isdisjoint(given_by(command)):
+                rest.append((command, around))
+                continue
+            found.append(command)
+            names.update(around, read_by(command))
+            grows = True
+        left = rest
+    return found, names
+
+
+def operations_of(commands, instances):
+    """Operations but copies, and of these tests by themselves; calls and resets by the machine that they are of."""
+    done, tests = collections.Counter(), collections.Counter()
+    for command in commands:
+        if command[0] != 'set':
+            done[command[0], instances[command[1]]] += 1
+            continue
+        is_copy = not command[2].startswith('@')
+        # a choice between two equal values becomes a copy
+        tests['copy or choice'] += is_copy or command[2] == '@mux'
+        if command[2] in TESTS:
+            tests[command[2]] += 1
+        elif not is_copy:
+            done[command[2]] += 1
+    return done, tests
+
+
+def fewer(before, after):
+    """Why the machines of the second file are not those of the first with fewer copies and tests."""
+    if before[0] != after[0]:
+        yield 'types'
+    if list(before[1]) != list(after[1]):
+        yield 'machines'
+        return
+    for name, old in before[1].items():
+        new = after[1][name]
+        for part in ('in', 'out'):
+            if old[part] != new[part]:
+                yield f'{name}: {part}'
+        found = []
+        for machine in (old, new):
+            commands, names = needed_of(machine)
+            kept = [sorted(plain(it) for it in listed(machine[part]) if it[0] in names) for part in ('mem', 'inst')]
+            found.append((*kept, *operations_of(commands, {it[0]: it[-1] for it in listed(machine['inst'])})))
+        for part, one, other in zip(('mem', 'inst', 'operations'), *found):
+            if one != other:
+                yield f'{name}: {part}'
+        if found[1][3] - found[0][3]:
+            yield f'{name}: more copies or tests'
+
+
 def run(program, words, given=''):
     """The status of a call and what it says."""
     done = subprocess.run([program, *words], input=given, capture_output=True, text=True, timeout=120, check=False)
@@ -179,7 +266,8 @@ def told(program, text, node, given, folder):
 
 
 class Counts:
-    def __init__(self):
+    def __init__(self, differences):
+        self.differences = differences
         self.texts = self.same_text = self.runs = self.wrong = 0
         self.cases = [0, 0]
 
@@ -206,7 +294,7 @@ def compare(programs, row, counts, folder):
         before, after = Reader(old).file(), Reader(new).file()
         for at, it in enumerate((before, after)):
             counts.cases[at] += sum(cases(machine['step']) for machine in it[1].values())
-        for why in differences(before, after):
+        for why in counts.differences(before, after):
             wrong(counts, row, name, why)
         for step in row.get('steps', []):
             if step['words'][:1] == ['run'] and step['words'][1] == name:
@@ -221,7 +309,9 @@ def wrong(counts, row, name, why):
 
 
 def main():
-    programs, tables, counts = sys.argv[1:3], sys.argv[3:], Counts()
+    is_fewer = sys.argv[1:2] == ['fewer']
+    words = sys.argv[1 + is_fewer:]
+    programs, tables, counts = words[:2], words[2:], Counts(fewer if is_fewer else differences)
     with tempfile.TemporaryDirectory() as folder:
         for table in tables:
             with open(table, encoding='utf-8') as file:
