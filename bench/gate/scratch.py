@@ -227,6 +227,8 @@ def opened(item):
 
 def thinned(lines, wanted):
     """Of a block its head, its abbreviations and records as far as they are read, and the signatures that are wanted."""
+    if re.match(r'(pub )?mutual', lines[0]):
+        return [line for _, part in mutual(lines, wanted, '') for line in part]
     head, chunks, indent = split_block(lines)
     pad, kept = ' ' * indent, []
     for chunk in chunks:
@@ -248,10 +250,16 @@ def thinned(lines, wanted):
 
 
 def mutual(chunk, wanted, pad):
+    """The signatures that are wanted of a block of lemmas that cite each other, which need no block without their proofs."""
     if chunk[0].strip().startswith('abbrev'):
         return [(None, chunk)]
-    found = [(named, line) for line in chunk for named in [re.match(r'\s+(?:pub )?([^\s:(){}]+) : (.*)$', line)] if named]
-    return [(None, [f'{pad}pub {named[1]} : {named[2]}', f'{pad}{named[1]} = ?']) for named, _ in found if named[1] in wanted]
+    found = []
+    for lines in split_block(chunk)[1]:
+        first = turned(lines[0].strip())
+        named = HEAD.match(first + ' ')
+        if named and named[1] in wanted:
+            found.append((None, [f"{pad}pub {first.removeprefix('pub ')}", *lines[1:], f'{pad}{named[1]} = ?']))
+    return found
 
 
 def read_parts(parts, wanted):
