@@ -8,7 +8,7 @@ dir=$(mktemp -d)
 trap 'rm -rf "$dir"' EXIT
 "$hept" exec "$here/../../examples/delay.obc" f </dev/null # builds the program where it is stale
 cc -O2 -o "$dir/by_hand" "$here/by_hand.c"
-spent() { # the least processor time of three runs of a command from a trace into a file, in nanoseconds
+spent() { # the least processor time of five runs of a command from a trace into a file, in nanoseconds
     python3 "$here/../spent.py" "$@"
 }
 for what in counter chain wide deep copy; do

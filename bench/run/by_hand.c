@@ -1,7 +1,7 @@
-/* The five programs of make.py as a compiler of the language would write them in C, a memory and a step for each node: see README.md. */
+/* The programs of make.py as a compiler of the language would write them in C, a memory and a step for each node: see README.md. */
 #include "../lines.h"
 
-enum { STATES = 20, CALLS = 60 };
+enum { CALLS = 60 };
 
 static int32_t counter(bool up, bool again) {
     static int32_t kept;
@@ -11,17 +11,31 @@ static int32_t counter(bool up, bool again) {
     return n;
 }
 
+#define STATE(k, n) case k: y = wrapped_sum(last, k); if (up) state = (k + 1) % n; break;
+#define FIVE(k, n) STATE(k, n) STATE(k + 1, n) STATE(k + 2, n) STATE(k + 3, n) STATE(k + 4, n)
+#define TWENTY(k, n) FIVE(k, n) FIVE(k + 5, n) FIVE(k + 10, n) FIVE(k + 15, n)
+#define HUNDRED(k, n) TWENTY(k, n) TWENTY(k + 20, n) TWENTY(k + 40, n) TWENTY(k + 60, n) TWENTY(k + 80, n)
+
 static int32_t states(bool up) {
     static int state;
     static int32_t last;
-    int32_t n = 0;
+    int32_t y = 0;
     switch (state) {
-#define STATE(k) case k: n = wrapped_sum(last, k); if (up) state = (k + 1) % STATES; break;
-#define FIVE(k) STATE(k) STATE(k + 1) STATE(k + 2) STATE(k + 3) STATE(k + 4)
-        FIVE(0) FIVE(5) FIVE(10) FIVE(15)
+        TWENTY(0, 20)
     }
-    last = n;
-    return n;
+    last = y;
+    return y;
+}
+
+static int32_t states200(bool up) {
+    static int state;
+    static int32_t last;
+    int32_t y = 0;
+    switch (state) {
+        HUNDRED(0, 200) HUNDRED(100, 200)
+    }
+    last = y;
+    return y;
 }
 
 enum outer { WORK, REST };
@@ -93,7 +107,8 @@ static int32_t calls(int32_t x) {
 int main(int count, char **words) {
     static char buffer[LINE];
     if (count != 2) return 2;
-    char what = words[1][0] == 'c' ? words[1][1] : words[1][0]; /* o, a, s, n or f */
+    char what = words[1][0] == 'c' ? words[1][1] : words[1][0]; /* o, a, s, n or f; 2 for states200 */
+    if (what == 's' && words[1][6]) what = words[1][6];
     while (fgets(buffer, LINE, stdin)) {
         char *at = buffer;
         bool a = false, b = false;
@@ -106,6 +121,10 @@ int main(int count, char **words) {
         case 's':
             if (!read_bool(&at, &a)) return 3;
             y = states(a);
+            break;
+        case '2':
+            if (!read_bool(&at, &a)) return 3;
+            y = states200(a);
             break;
         case 'n':
             if (!read_bool(&at, &a) || !read_bool(&at, &b)) return 3;

@@ -8,14 +8,15 @@ dir=$(mktemp -d)
 trap 'rm -rf "$dir"' EXIT
 "$hept" run "$here/../../examples/p1.ept" f </dev/null # builds the program where it is stale
 cc -O2 -o "$dir/by_hand" "$here/by_hand.c"
-spent() { # the least processor time of three runs of a command from a trace into a file, in nanoseconds
+spent() { # the least processor time of five runs of a command from a trace into a file, in nanoseconds
     python3 "$here/../spent.py" "$@"
 }
-for what in counter states nested filtered calls; do
+for what in counter states states200 nested filtered calls; do
     python3 "$here/make.py" "$what" >"$dir/$what.ept"
     python3 "$here/make.py" "$what" "$lines" >"$dir/$what.trace"
     node=$what
     [ "$what" = calls ] && node=c59
+    [ "$what" = states200 ] && node=states
     a=$(spent "$dir/$what.trace" "$dir/ours" "$hept" run "$dir/$what.ept" "$node")
     b=$(spent "$dir/$what.trace" "$dir/theirs" "$dir/by_hand" "$what")
     cmp "$dir/ours" "$dir/theirs"
