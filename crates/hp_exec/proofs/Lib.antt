@@ -4,6 +4,7 @@ pub mod Flows
 pub mod Written
 pub mod NeedLaws
 pub mod CopyLaws
+pub mod MarkLaws
 pub mod SpecialLaws
 pub mod SlimLaws
 pub mod FlatLaws

@@ -11,6 +11,7 @@ pub mod Finishing
 pub mod Resuming
 pub mod Inlining
 pub mod Copies
+pub mod Marking
 pub mod Needs
 pub mod Specialising
 pub mod Serving

@@ -8,6 +8,7 @@ mod copy_propagation;
 mod count;
 mod error;
 mod exec;
+mod facts;
 mod flat;
 mod frame;
 mod frame_offset;
