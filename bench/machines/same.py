@@ -297,7 +297,7 @@ def compare(programs, row, counts, folder):
         for why in counts.differences(before, after):
             wrong(counts, row, name, why)
         for step in row.get('steps', []):
-            if step['words'][:1] == ['run'] and step['words'][1] == name:
+            if step['words'][:2] == ['run', name] and len(step['words']) > 2:
                 counts.runs += 1
                 if told(programs[0], old, step['words'][2], text_of(step.get('input', '')), folder) != told(programs[1], new, step['words'][2], text_of(step.get('input', '')), folder):
                     wrong(counts, row, name, 'what is said')
