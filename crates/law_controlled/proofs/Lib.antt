@@ -7,6 +7,7 @@ pub mod AskingLaws
 pub mod BareLaws
 pub mod BroughtLaws
 pub mod CircleLaws
+pub mod ClearLaws
 pub mod ControlLaws
 pub mod DepthLaws
 pub mod DutyLaws
