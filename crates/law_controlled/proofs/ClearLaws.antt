@@ -42,6 +42,13 @@ step-all P (on ∷ clock) step h l = (h.0, step-all P clock step h.1 l)
 pub at_contained : (es : List FlatEqn) (k : ℕ) (e : FlatEqn) → slice_get es k ≡ Some e → Contains es e
 at_contained es k e at = at_number (Contains es) es k e at (recursion_from_All (Contains es) es (All-contains_itself es))
 
+-- an equation of this number defines the variable of a free place
+abbrev pub IsStanding : FlatNode → Free → Type 0
+IsStanding n f = (k : ℕ) × (e : FlatEqn) × (f.eqn ≡ Some k) × (slice_get n.eqns k ≡ Some e) × Contains e.targets f.variable
+
+pub standing-grown : (n other : FlatNode) (more : List FlatEqn) → other.eqns ≡ n.eqns ++ more → (f : Free) → IsStanding n f → IsStanding other f
+standing-grown n other more are f h = (h.0, h.1, h.2, ap (λ es. slice_get es h.0) are ∙ get_front n.eqns more h.0 (number_below n.eqns h.0 h.1 h.3) ∙ h.3, h.4)
+
 module _ (first past : ℕ) where
   -- A variable is none of the controllable ones, which have these numbers, and depends on none of them.
   abbrev pub IsClear : List FlatEqn → ℕ → Type 0
@@ -178,6 +185,29 @@ module _ (first past : ℕ) where
       let rest = with_bits tests place bit.node in
       (good-grown bit.node rest.node (gets-bits tests place bit.node (each_other (Good bit.node) (λ x. x < length bit.node.variables) (λ x h. h.0) tests tm)) sm bit.value made, bits-good tests place bit.node sm (omega (arith, high, long, more)) tm)
 
+  -- ---- free places
+
+  -- a free place whose variable is clear, and which is an input or stands at an equation
+  abbrev pub IsClearFree : FlatNode → Free → Type 0
+  IsClearFree n f = Good n f.variable × ((f.eqn ≡ None) ⊎ IsStanding n f)
+
+  free-grown : (n other : FlatNode) → Gets n other → IsSound n → (f : Free) → IsClearFree n f → IsClearFree other f
+  free-grown n other g s f h = (good-grown n other g s f.variable h.0, by h.1)
+    where
+      by : (f.eqn ≡ None) ⊎ IsStanding n f → (f.eqn ≡ None) ⊎ IsStanding other f
+      by (inl e) = inl e
+      by (inr e) = let r = g.rises in inr (standing-grown n other r.more r.eqns f e)
+
+  -- free places of which it is said which are early: those are clear
+  abbrev pub AreClear : FlatNode → List Free → List Bool → Type 0
+  AreClear n fs bs = Along (λ (f : Free) (b : Bool). b ≡ true → IsClearFree n f) fs bs
+
+  clear-all-grown : (n other : FlatNode) → Gets n other → IsSound n → (fs : List Free) (bs : List Bool) → AreClear n fs bs → AreClear other fs bs
+  clear-all-grown n other g s [] [] h = tt
+  clear-all-grown n other g s [] (b ∷ bs) h = absurd h
+  clear-all-grown n other g s (f ∷ fs) [] h = absurd h
+  clear-all-grown n other g s (f ∷ fs) (b ∷ bs) h = ((λ e. free-grown n other g s f (h.0 e)), clear-all-grown n other g s fs bs h.1)
+
   module _ (types : List ObcType) where
     spelling-good : (t : FlatTy) (value : ℕ) (n : FlatNode) → IsSound n → past ≤ length n.variables → Good n value → AllByRecursion (Good (with_spelling types t value n).node) (with_spelling types t value n).bits
     spelling-good ty.Bool value n s high g = (g, tt)
@@ -229,17 +259,9 @@ module _ (first past : ℕ) where
         let more = all.1 in
         (omega (arith, more), new-clear m (with_step types clock step inner.value m) cases.0 cases.1 sm (omega (arith, high, long)) cases.2 (next_variable m) (omega arith))
 
-    -- ---- free places
+    -- ---- places
 
-    -- an equation of this number defines the variable of a free place
-    abbrev pub IsStanding : FlatNode → Free → Type 0
-    IsStanding n f = (k : ℕ) × (e : FlatEqn) × (f.eqn ≡ Some k) × (slice_get n.eqns k ≡ Some e) × Contains e.targets f.variable
-
-    -- a free place whose variable is clear, and which is an input or stands at an equation
-    abbrev pub IsClearFree : FlatNode → Free → Type 0
-    IsClearFree n f = Good n f.variable × ((f.eqn ≡ None) ⊎ IsStanding n f)
-
-    -- so is its clock, since the equation reads that
+    -- where a free place is clear, so is its clock, since the equation reads that
     clock-good : (n : FlatNode) (f : Free) → IsSound n → IsClearFree n f → AllByRecursion (Good n) (clock_variables (clock_of n f.eqn))
     clock-good n f s h = by h.1
       where
@@ -265,26 +287,6 @@ module _ (first past : ℕ) where
         let gets : Gets n value.node = first.gets in
         let long = gets.longer in
         spelling-good (type_at value.node value.value) value.value value.node (gets-sound n value.node gets s) (omega (arith, high, long)) (lifted-good on [] f.variable n s high h.0 tt clock)
-
-    pub standing-grown : (n other : FlatNode) (more : List FlatEqn) → other.eqns ≡ n.eqns ++ more → (f : Free) → IsStanding n f → IsStanding other f
-    standing-grown n other more are f h = (h.0, h.1, h.2, ap (λ es. slice_get es h.0) are ∙ get_front n.eqns more h.0 (number_below n.eqns h.0 h.1 h.3) ∙ h.3, h.4)
-
-    free-grown : (n other : FlatNode) → Gets n other → IsSound n → (f : Free) → IsClearFree n f → IsClearFree other f
-    free-grown n other g s f h = (good-grown n other g s f.variable h.0, by h.1)
-      where
-        by : (f.eqn ≡ None) ⊎ IsStanding n f → (f.eqn ≡ None) ⊎ IsStanding other f
-        by (inl e) = inl e
-        by (inr e) = let r = g.rises in inr (standing-grown n other r.more r.eqns f e)
-
-    -- free places of which it is said which are early: those are clear
-    abbrev pub AreClear : FlatNode → List Free → List Bool → Type 0
-    AreClear n fs bs = Along (λ (f : Free) (b : Bool). b ≡ true → IsClearFree n f) fs bs
-
-    clear-all-grown : (n other : FlatNode) → Gets n other → IsSound n → (fs : List Free) (bs : List Bool) → AreClear n fs bs → AreClear other fs bs
-    clear-all-grown n other g s [] [] h = tt
-    clear-all-grown n other g s [] (b ∷ bs) h = absurd h
-    clear-all-grown n other g s (f ∷ fs) [] h = absurd h
-    clear-all-grown n other g s (f ∷ fs) (b ∷ bs) h = ((λ e. free-grown n other g s f (h.0 e)), clear-all-grown n other g s fs bs h.1)
 
     placed-good : (f : Free) (b : Bool) (w : Watched) → IsSound w.node → past ≤ length w.node.variables → (b ≡ true → IsClearFree w.node f) → Gets w.node (with_place types f b w).node → AllByRecursion (Good w.node) w.early
         → AllByRecursion (Good (with_place types f b w).node) (with_place types f b w).early
