@@ -17,9 +17,10 @@ use Rattle.hp_tree.specs.Meaning.{clock_of}
 use Rattle.hp_tree.specs.Reaction.{Each}
 use Rattle.hp_meaning.specs.Causal.RanksOfPoints.{same_step}
 use Rattle.hp_meaning.specs.Contract.FreePlaces.{FreeClocks, by_step, free_in, free_in_all, free_in_block, free_in_conditions, free_in_contract, free_in_equation, free_in_equations, free_in_parts, free_in_states, free_in_told, if_compared, none_free, outputs_free, own_free}
-use Rattle.hp_meaning.specs.Contract.Slots.{Slot, register, free, input, control, FreePlace, callee_slots, free_among, is_int, slots, slots_of_all, slots_of_parts, slots_of_conditions, slots_of_block, slots_of_equations, slots_of_equation, slots_of_arms, slots_of_states}
+use Rattle.hp_meaning.specs.Contract.Slots.{Slot, register, free, input, control, FreePlace, callee_slots, free_among, is_int, slots, slots_of_all, slots_of_parts, slots_of_conditions, slots_of_block, slots_of_equations, slots_of_equation, slots_of_arms, slots_of_states, slots_of_contract}
 use Rattle.hp_meaning.proofs.CausalLemmas.Ranking.{step_same}
 use Rattle.law_equations.specs.Flattened.Flatten.{Prefix, below}
+use Rattle.law_choices.proofs.PlacesLemmas.Grouped.{among-append, told_slots}
 use Rattle.law_choices.proofs.PlacesLemmas.Slots.{lasts_slots}
 
 -- ---- places through a contract
@@ -174,13 +175,13 @@ stand-free w (register p q ∷ ss) h = stand-free w ss h
 stand-free w (control p t ∷ ss) h = stand-free w ss h
 
 -- where nothing is called
+abbrev outs : List ℕ → List Decl
+outs f = []
+
+abbrev callee : List ℕ → Prefix → List Slot
+callee f w = []
+
 module _ (types : List TypeDecl) where
-  abbrev outs : List ℕ → List Decl
-  outs f = []
-
-  abbrev callee : List ℕ → Prefix → List Slot
-  callee f w = []
-
   stand-compared : (b : Bool) (w : Prefix) → StandIn w (if b then free (w []) ty.Bool ∷ [] else [])
   stand-compared true w = (([], refl), tt)
   stand-compared false w = tt
@@ -270,3 +271,44 @@ each-both P (x ∷ xs) ys h k = (h.0, each-both P xs ys h.1 k)
 each-as : (P Q : FreePlace → Type 0) → ((q : FreePlace) → P q → Q q) → (xs : List FreePlace) → Each P xs → Each Q xs
 each-as P Q f [] h = tt
 each-as P Q f (x ∷ xs) h = (f x h.0, each-as P Q f xs h.1)
+
+module _ (types : List TypeDecl) where
+  told-late : (o : Option Expr) (names : Scope) (t : Step) (w : Prefix) → is_told t ≡ true → Each (BehindTold w) (free_among (told_slots types outs callee o names (below t w)))
+  told-late None names t w h = tt
+  told-late (Some e) names t w h =
+      let ss = slots types outs callee e names (below t w) in
+      each-as (λ (q : FreePlace). (r : Place) × (q.0 ≡ below t w r)) (BehindTold w) (λ q k. (t, h, k.0, k.1)) (free_among ss) (stand-free (below t w) ss (expr-stands types e names (below t w)))
+
+  contract-late : (c : Contract) (names : Scope) (w : Prefix) → Each (BehindTold w) (free_among (slots_of_contract types outs callee (Some c) names w))
+  contract-late c names w =
+      let B = slots_of_block types outs callee c.body names (below Observer w) in
+      let A = told_slots types outs callee c.assume (scope_of c.body names) (below Assume w) in
+      let E = told_slots types outs callee c.enforce (scope_of c.body names) (below Enforce w) in
+      let first : Each (BehindTold w) (free_among B) = each-as (λ (q : FreePlace). (r : Place) × (q.0 ≡ below Observer w r)) (BehindTold w) (λ q k. (Observer, refl, k.0, k.1)) (free_among B) (stand-free (below Observer w) B (block-stands types c.body names (below Observer w))) in
+      subst (Each (BehindTold w)) (sym (among-append B (A ++ E) ∙ ap (λ xs. free_among B ++ xs) (among-append A E)))
+      (each-both (BehindTold w) (free_among B) (free_among A ++ free_among E) first
+      (each-both (BehindTold w) (free_among A) (free_among E) (told-late c.assume (scope_of c.body names) Assume w refl) (told-late c.enforce (scope_of c.body names) Enforce w refl)))
+
+  callee-late : (o : Option Node) (w : Prefix) → Each (BehindTold w) (free_among (callee_slots types o w))
+  callee-late None w = tt
+  callee-late (Some n) w = by n.contract
+    where
+      by : (o : Option Contract) → Each (BehindTold w) (free_among (callee_slots types (Some (record n { contract = o })) w))
+      by None = tt
+      by (Some c) =
+          let names = typed_in n.inputs (typed_in n.outputs untyped) in
+          let L = lasts_slots types n.outputs w in
+          let S = slots_of_contract types outs callee (Some c) names w in
+          subst (Each (BehindTold w)) (sym (among-append L S)) (each-both (BehindTold w) (free_among L) (free_among S) (each-as (λ (q : FreePlace). (r : Place) × (q.0 ≡ below Observer w r)) (BehindTold w) (λ q k. (Observer, refl, k.0, k.1)) (free_among L) (stand-free (below Observer w) L (stand-lasts types n.outputs w (below Observer w)))) (contract-late c names w))
+
+-- a prefix that puts a step and more in front
+abbrev pub IsInside : Prefix → Type 0
+IsInside w = (s : Step) × (q : Place) × ((p : Place) → w p ≡ s ∷ (q ++ p))
+
+pub inside-below : (s : Step) (w : Prefix) → IsInside w → IsInside (below s w)
+inside-below s w h = (h.0, h.1 ++ s ∷ [], λ p. h.2 (s ∷ p) ∙ ap (λ z. h.0 ∷ z) (sym (append_assoc h.1 (s ∷ []) p)))
+
+-- So the free places that a callee's contract brings are none of the node's own.
+pub callee-not-own : (n : Node) (types : List TypeDecl) (o : Option Node) (w : Prefix) → IsInside w → Each (λ (q : FreePlace). own_free n q.0 ≡ None) (free_among (callee_slots types o w))
+callee-not-own n types o w h =
+    each-as (BehindTold w) (λ (q : FreePlace). own_free n q.0 ≡ None) (λ q k. ap (own_free n) (k.3 ∙ h.2 (k.0 ∷ k.2)) ∙ not-own n h.0 h.1 k.2 k.0 k.1) (free_among (callee_slots types o w)) (callee-late types o w)
