@@ -12,6 +12,7 @@ pub mod ControlLaws
 pub mod DepthLaws
 pub mod DutyLaws
 pub mod EarlyLaws
+pub mod EarlyNodeLaws
 pub mod EmbeddedLaws
 pub mod ExtraLaws
 pub mod FitLaws
@@ -44,6 +45,7 @@ pub mod SaidLaws
 pub mod SeenLaws
 pub mod ShortLaws
 pub mod SightLaws
+pub mod StandingLaws
 pub mod StraightLaws
 pub mod ToldLaws
 pub mod WaitLaws
