@@ -35,7 +35,6 @@ use Rattle.law_choices.specs.Places.Found.{Both, found_in_node}
 use Rattle.law_choices.specs.Places.Laws.{events, places_of, WalkLaw}
 use Rattle.law_choices.specs.Places.Spots.{Spot, spots_of_node}
 use Rattle.law_choices.specs.Undisturbed.Laws.{KeepsPlaces}
-use Rattle.law_choices.proofs.AddingLemmas.Steps.{among}
 use Rattle.law_choices.proofs.AddingLemmas.Surveyed.{at_number}
 use Rattle.law_choices.proofs.BroughtLemmas.Flagged.{At, Targets}
 use Rattle.law_choices.proofs.ClosedLemmas.ClosedLaws.{first_one, later_one}

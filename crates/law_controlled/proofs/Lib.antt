@@ -11,6 +11,7 @@ pub mod ClearLaws
 pub mod ControlLaws
 pub mod DepthLaws
 pub mod DutyLaws
+pub mod EarlyFreeLaws
 pub mod EarlyLaws
 pub mod EarlyNodeLaws
 pub mod EmbeddedLaws

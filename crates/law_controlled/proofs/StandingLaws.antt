@@ -1,5 +1,5 @@
 -- Clocked equations that are made of a node of a program that can be compiled stand for its flat names, and those of its comparisons and calls have labels.
-use Rattle.std.proofs.Common.{◌≡◌, ℕ, List, ◌∷◌, ◌++◌, reverse, subst}
+use Rattle.std.proofs.Common.{◌≡◌, ℕ, List, [], ◌∷◌, ◌++◌, reverse, subst}
 use Rattle.hp_base.specs.declared.value.Value.{Value}
 use Rattle.hp_tree.specs.Instant.{Place}
 use Rattle.hp_tree.specs.Meaning.{types_of, nodes}

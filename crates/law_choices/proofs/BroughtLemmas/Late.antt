@@ -268,7 +268,7 @@ each-both : (P : FreePlace → Type 0) (xs ys : List FreePlace) → Each P xs �
 each-both P [] ys h k = k
 each-both P (x ∷ xs) ys h k = (h.0, each-both P xs ys h.1 k)
 
-each-as : (P Q : FreePlace → Type 0) → ((q : FreePlace) → P q → Q q) → (xs : List FreePlace) → Each P xs → Each Q xs
+pub each-as : (P Q : FreePlace → Type 0) → ((q : FreePlace) → P q → Q q) → (xs : List FreePlace) → Each P xs → Each Q xs
 each-as P Q f [] h = tt
 each-as P Q f (x ∷ xs) h = (f x h.0, each-as P Q f xs h.1)
 

@@ -153,7 +153,7 @@ module _ (program after : List Item) (r : IsReady program after) (removable : Is
   there = ready_seen program after r (some_of (types_of program) form.counts) known_all
 
   module _ (earlier : List Item) (n : Node) (stands : Stands after earlier n) where
-    known : IsKnown types n
+    pub known : IsKnown types n
     known = (each_at (IsKnown types) stands.0 n earlier (subst (EachNode (IsKnown types)) stands.1 (there).known)).0
 
     old : NodeNames IsOld n
@@ -186,7 +186,7 @@ module _ (program after : List Item) (r : IsReady program after) (removable : Is
       abbrev k : Known
       k = known_of (lowered_program seen)
 
-      observer_stands : (later : List Item) × (reverse (lowered_program seen) ≡ later ++ NodeItem m ∷ before)
+      pub observer_stands : (later : List Item) × (reverse (lowered_program seen) ≡ later ++ NodeItem m ∷ before)
       observer_stands =
           let of_split : observers (reverse after) ≡ observers stands.0 ++ (NodeItem (observer_of n c) ∷ observers earlier) =
           ap observers stands.1 ∙ flat_map-append item_of stands.0 (NodeItem n ∷ earlier) ∙ ap (λ o. observers stands.0 ++ (observer_if n o ++ observers earlier)) is in (
