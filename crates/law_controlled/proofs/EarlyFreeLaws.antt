@@ -118,7 +118,7 @@ module _ (program after : List Item) (r : IsReady program after) (removable : Is
   abbrev callee : List ℕ → (Place → Place) → List Slot
   callee f w = callee_slots types (node_among (reverse after) f) w
 
-  abbrev names_of : List ℕ → List (List ℕ)
+  abbrev pub names_of : List ℕ → List (List ℕ)
   names_of f = map (λ (d : Decl). d.name) (outs f)
 
   abbrev here : Place → Place
@@ -136,7 +136,7 @@ module _ (program after : List Item) (r : IsReady program after) (removable : Is
   its_calls : (f : List ℕ) (w : Place → Place) → its_given f ≡ free_types (outputs_slots (outs f) (below Instance w) ++ callee f (below Instance w))
   its_calls = calls program after r removable form short nothing observable seen are places_same
 
-  known-outs : (f : List ℕ) → outputs_of (k.nodes f) ≡ outs f
+  pub known-outs : (f : List ℕ) → outputs_of (k.nodes f) ≡ outs f
   known-outs = outs-known program after r removable form short nothing observable seen are places_same
 
   -- places of callees' contracts are never early
@@ -147,7 +147,7 @@ module _ (program after : List Item) (r : IsReady program after) (removable : Is
 
   -- ---- comparisons and calls
 
-  abbrev body_slots : List Slot
+  abbrev pub body_slots : List Slot
   body_slots = slots_of_block types outs callee n.body (typed_in (controls_of n.contract) (typed_in n.inputs (typed_in n.outputs untyped))) (below Body here)
 
   abbrev grown : Grows plant begun
@@ -179,16 +179,16 @@ module _ (program after : List Item) (r : IsReady program after) (removable : Is
 
   -- ---- the contract
 
-  abbrev contract_slots : List Slot
+  abbrev pub contract_slots : List Slot
   contract_slots = slots_of_contract types outs callee (Some c) (typed_in n.inputs (typed_in n.outputs untyped)) here
 
   abbrev O : Node
   O = observer_of n c
 
-  its_made : IsMadeOf k_seen (lowered_node enums O) own.node × (own.free ≡ flat_map (free_at own.node) (walk_contract c (events_from 0 own.node.eqns)).0)
+  pub its_made : IsMadeOf k_seen (lowered_node enums O) own.node × (own.free ≡ flat_map (free_at own.node) (walk_contract c (events_from 0 own.node.eqns)).0)
   its_made = observer-made program after r removable form short nothing observable seen are earlier n stands c has own (ap seen (sym made.name) ∙ its)
 
-  calls-nothing : ContractCallsNothing (Some c)
+  pub calls-nothing : ContractCallsNothing (Some c)
   calls-nothing = let it = known program after r removable form short nothing observable earlier n stands in subst ContractCallsNothing has it.alone
 
   abbrev seen_given : List ℕ → List Ty
@@ -233,7 +233,7 @@ module _ (program after : List Item) (r : IsReady program after) (removable : Is
   -- ---- flags
 
   module _ (early : Place → Bool) (right : (p : Place) → IsFree (free_places after n) p → early p ≡ true → IsEarly after n p) where
-    abbrev I : List Slot
+    abbrev pub I : List Slot
     I = row_of_slots input n.inputs (below Inputs here)
 
     abbrev Ls : List Slot

@@ -50,6 +50,7 @@ pub mod StandingLaws
 pub mod StraightLaws
 pub mod ToldLaws
 pub mod WaitLaws
+pub mod WaitingLaws
 pub mod WatchedLaws
 pub mod WellMadeLaws
 pub mod WorkedLaws

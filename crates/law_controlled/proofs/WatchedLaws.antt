@@ -114,7 +114,7 @@ module _ (types : List ObcType) (callees : Callees) (clock : ℕ → Clock) (obs
   abbrev inputs : ℕ
   inputs = length node.inputs
 
-  own_site_is : (own : Observed) → observers n.name ≡ Some own → IsSite n own.node (own_site inputs n)
+  pub own_site_is : (own : Observed) → observers n.name ≡ Some own → IsSite n own.node (own_site inputs n)
   own_site_is own has =
       let row = range_with_len 0 inputs in
       let many = as-many-inputs n.name own (suit n.name own has) in
