@@ -1,6 +1,6 @@
 -- Early free places of a node of a ready program depend on no controllable variable: those of its comparisons and calls in its clocked equations, and those of its contract where its observer stands among these.
-use Rattle.std.proofs.Common.{◌≡◌, ℕ, List, [], ◌∷◌, ◌++◌, length, map, reverse, slice_get, Option, None, Some, refl, sym, ap, ap₂, subst, ◌∙◌}
-use Rattle.std.specs.Prelude.{Bool, true, false, inl, inr}
+use Rattle.std.proofs.Common.{◌≡◌, ℕ, inl, inr, List, [], ◌∷◌, ◌++◌, length, map, reverse, slice_get, Option, None, Some, refl, sym, ap, ap₂, subst, ◌∙◌}
+use Rattle.std.specs.Prelude.{Bool, true, false}
 use Rattle.std.specs.List.{flat_map}
 use Rattle.std.proofs.lemmas.List.{append-nil, append_assoc, length-map}
 use Rattle.hp_base.specs.declared.ty.Ty.{Ty}
@@ -67,7 +67,6 @@ use Rattle.law_choices.proofs.PlayingLemmas.Flags.{flags-append, flags-none}
 use Rattle.law_choices.proofs.PlayingLemmas.Inputs.{row_of_slots}
 use Rattle.hp_controlled.specs.Compiled.{AreObserved}
 use Rattle.law_controlled.proofs.BroughtLaws.{calls, given, gives, inputs-free, inputs-types, inside, observer-made, outs-known}
-use Rattle.law_controlled.proofs.ClearLaws.{IsClear, IsStanding}
 
 -- ---- lists
 
