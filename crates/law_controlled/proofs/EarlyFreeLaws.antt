@@ -1,11 +1,10 @@
 -- Early free places of a node of a ready program depend on no controllable variable: those of its comparisons and calls in its clocked equations, and those of its contract where its observer stands among these.
-use Rattle.std.proofs.Common.{◌≡◌, ℕ, inl, inr, List, [], ◌∷◌, ◌++◌, length, map, reverse, slice_get, Option, None, Some, refl, sym, ap, ap₂, subst, ◌∙◌}
+use Rattle.std.proofs.Common.{◌≡◌, ℕ, inl, inr, List, [], ◌∷◌, ◌++◌, length, map, reverse, slice_get, None, Some, refl, sym, ap, ap₂, subst, ◌∙◌}
 use Rattle.std.specs.Prelude.{Bool, true, false}
 use Rattle.std.specs.List.{flat_map}
 use Rattle.std.proofs.lemmas.List.{append-nil, append_assoc, length-map}
 use Rattle.hp_base.specs.declared.ty.Ty.{Ty}
 use Rattle.hp_base.specs.declared.ty.Ty.TheVariants as ty
-use Rattle.hp_obc.specs.declared.command.ObcOp.{ObcOp}
 use Rattle.hp_tree.specs.Blocks.{Decl}
 use Rattle.hp_tree.specs.ExpressionTypes.{typed_in, untyped}
 use Rattle.hp_tree.specs.Instant.{Body, Controls, Inputs, Observer, Assume, Enforce, Tail, Instance, Place}
@@ -14,7 +13,7 @@ use Rattle.hp_tree.specs.Programs.{Contract, Node, TypeDecl}
 use Rattle.hp_tree.specs.Reaction.{Each}
 use Rattle.hp_tree.specs.declared.program.Item.{Item}
 use Rattle.hp_flat.specs.declared.equation.Atom.{Atom}
-use Rattle.hp_flat.specs.Equations.{FlatEqn, Right, called}
+use Rattle.hp_flat.specs.Equations.{FlatEqn, called}
 use Rattle.hp_flat.specs.Nodes.{FlatNode}
 use Rattle.hp_meaning.specs.Causal.Sources.{below}
 use Rattle.hp_meaning.specs.Contract.Forgetting.{ContractsCallNothing}
@@ -26,7 +25,7 @@ use Rattle.hp_automata.specs.Lowering.{Enumerations, enumerations, lowered_node,
 use Rattle.law_automata.specs.Lowered.Removable.{IsRemovable}
 use Rattle.law_automata.specs.Lowered.Standing.{Along}
 use Rattle.law_drawing.proofs.SteeredLemmas.Uncalled.{ContractCallsNothing}
-use Rattle.law_equations.specs.Followed.Programs.{CallsAmong, CallsOnly}
+use Rattle.law_equations.specs.Followed.Programs.{CallsAmong}
 use Rattle.law_equations.specs.Flattened.Flatten.{Prefix}
 use Rattle.law_equations.specs.Made.Making.{Known, flat_type, outputs_of, sketch_node}
 use Rattle.law_equations.specs.Made.Types.{obc_types_of}
@@ -41,7 +40,7 @@ use Rattle.hp_watch.specs.Adding.{type_at}
 use Rattle.hp_watch.specs.Embedding.{embedded}
 use Rattle.hp_watch.specs.Growing.{Grows}
 use Rattle.hp_watch.specs.Observing.{observer_of, observers}
-use Rattle.hp_watch.specs.Walk.{events_from, walk_block, walk_contract}
+use Rattle.hp_watch.specs.Walk.{events_from, walk_contract}
 use Rattle.hp_watch.specs.Watching.{Observed, Observing, called_by, free_at, free_by, free_inputs, free_moved, free_of, free_placed, own_site, placed, shift_at, walked}
 use Rattle.law_choices.specs.Depending.Contracts.{found_in_contract, in_observer}
 use Rattle.law_choices.specs.InTurn.Calling.{CallNothing}

@@ -1,5 +1,5 @@
 -- Targets of comparisons and calls, whose places are early, depend on no controllable variable: in the clocked equations of a node, and in those of its contract's observer where this stands among them.
-use Rattle.std.proofs.Common.{◌≡◌, ◌⊎◌, inl, inr, ℕ, zero, suc, ◌+◌, ◌-◌, ◌<◌, ◌≤◌, List, [], ◌∷◌, ◌++◌, length, map, slice_get, Option, None, Some, refl, sym, ap, ap₂, subst, ◌∙◌, arith}
+use Rattle.std.proofs.Common.{◌≡◌, inl, inr, ℕ, zero, suc, ◌+◌, ◌-◌, ◌<◌, ◌≤◌, List, [], ◌∷◌, ◌++◌, length, slice_get, Some, refl, sym, ap, ap₂, ◌∙◌, arith}
 use Rattle.std.specs.Prelude.{true, Contains}
 use Rattle.std.specs.List.{AllByRecursion}
 use Rattle.std.specs.Str.{bytes_eq}
@@ -33,7 +33,7 @@ use Rattle.law_choices.specs.Depending.Found.{LabelsMeanLaw, TargetsMean}
 use Rattle.law_choices.specs.Depending.Laws.{VariablesLaw}
 use Rattle.law_choices.specs.Places.Found.{Both, found_in_node}
 use Rattle.law_choices.specs.Places.Laws.{events, places_of, WalkLaw}
-use Rattle.law_choices.specs.Places.Spots.{Spot, spots_of_node}
+use Rattle.law_choices.specs.Places.Spots.{spots_of_node}
 use Rattle.law_choices.specs.Undisturbed.Laws.{KeepsPlaces}
 use Rattle.law_choices.proofs.AddingLemmas.Surveyed.{at_number}
 use Rattle.law_choices.proofs.BroughtLemmas.Flagged.{At, Targets}
@@ -43,13 +43,8 @@ use Rattle.law_choices.proofs.DependingLemmas.EventLaws.{walk_told}
 use Rattle.law_choices.proofs.PlacesLemmas.Related.{block-hidden}
 use Rattle.law_controlled.specs.Embedded.{CanStand, KeepsOwnContract, WaitsForNone}
 use Rattle.law_controlled.proofs.ClearLaws.{IsClear, IsStanding}
+use Rattle.law_controlled.proofs.OwnContractLaws.{get-behind}
 use Rattle.law_controlled.proofs.StandingLaws.{StandsThere}
-
--- ---- rows
-
-get-behind : {A : Type 0} (xs ys : List A) (i : ℕ) → slice_get (xs ++ ys) (length xs + i) ≡ slice_get ys i
-get-behind [] ys i = let same : 0 + i ≡ i = omega arith in ap (slice_get ys) same
-get-behind (x ∷ xs) ys i = let same : suc (length xs) + i ≡ suc (length xs + i) = omega arith in ap (slice_get (x ∷ xs ++ ys)) same ∙ get-behind xs ys i
 
 -- a declaration of this number, by its name
 declared-at : (ds : List Decl) (j : ℕ) → j < length ds → (x : List ℕ) × (slice_get (names ds) j ≡ Some x) × (declares ds x ≡ true)

@@ -1,10 +1,10 @@
 -- In the node that is watched no variable depends on itself.
 use Rattle.std.proofs.Common.{◌≡◌, ◌⊎◌, inl, inr, ℕ, zero, suc, ◌+◌, ◌-◌, ◌≤◌, ◌<◌, Bool, true, false, if◌then◌else◌, List, [], ◌∷◌, ◌++◌, length, map, slice_get, Option, None, Some, refl, sym, ap, subst, ◌∙◌, arith}
-use Rattle.std.specs.Prelude.{Contains}
+use Rattle.std.specs.Prelude.{Contains, option_map}
 use Rattle.std.specs.List.{AllByRecursion, flat_map, range_with_len}
 use Rattle.std.proofs.lemmas.List.{append-nil, append_assoc, length-append, length-map}
-use Rattle.std.proofs.lemmas.List.Elements.{Contains-append_cases}
 use Rattle.std.proofs.lemmas.List.FromFn.{length-range_with_len}
+use Rattle.std.proofs.lemmas.Option.{slice_get-map}
 use Rattle.hp_base.specs.Kinds.{KindData}
 use Rattle.hp_obc.specs.Machines.{ObcType}
 use Rattle.hp_tree.specs.Programs.{Node}
@@ -29,41 +29,24 @@ use Rattle.law_choices.specs.Adding.Surveyed.{AllSuit, Suits}
 use Rattle.law_choices.specs.Adding.Watched.{IsFree}
 use Rattle.law_choices.specs.Depending.Dependence.{IsReadFor}
 use Rattle.law_choices.proofs.AddingLemmas.Choosing.{seen_in}
+use Rattle.law_choices.proofs.AddingLemmas.Embeds.{map_has}
 use Rattle.law_choices.proofs.AddingLemmas.Rows.{each_range}
 use Rattle.law_choices.proofs.AddingLemmas.Steps.{among, higher}
 use Rattle.law_choices.proofs.AddingLemmas.Surveyed.{at_number, flat_all, get_front, get_some}
-use Rattle.law_choices.proofs.ClosedLemmas.ClosedLaws.{each_other, first_one, later_one}
+use Rattle.law_choices.proofs.ClosedLemmas.ClosedLaws.{each_other}
 use Rattle.law_choices.proofs.PlacesLemmas.Relating.{along-both}
 use Rattle.law_choices.proofs.AddingLemmas.Adding.{both}
 use Rattle.law_controlled.proofs.ApartLaws.{FreeApart, inputs-apart, moved-apart, placed-apart, places-apart, StandsApart}
 use Rattle.law_controlled.proofs.EmbeddedLaws.{CanBePut, embedded-behind, embedded-front, embedded-longer, embedded-sound, IsSite, moved-last, within-below}
 use Rattle.law_controlled.specs.Early.{WaitsForChoice}
 use Rattle.law_controlled.proofs.ClearLaws.{AreClear, at_contained, clear-by, clear-grown, Good, IsClear, IsClearFree, IsStanding, places-good, standing-grown}
+use Rattle.law_controlled.proofs.OwnContractLaws.{get-behind}
 use Rattle.law_controlled.proofs.RisingLaws.{FreeBelow, IsSound, places-sound}
 use Rattle.law_controlled.proofs.StraightLaws.{AreBehind, ranked_straight}
 
 -- all observers can be put into a node
 abbrev pub AllCanBePut : Observing → Type 0
 AllCanBePut observers = (f : List ℕ) (o : Observed) → observers f ≡ Some o → CanBePut o.node
-
--- ---- lists
-
-get-behind : {A : Type 0} (xs ys : List A) (i : ℕ) → slice_get (xs ++ ys) (length xs + i) ≡ slice_get ys i
-get-behind [] ys i = let same : 0 + i ≡ i = omega arith in ap (slice_get ys) same
-get-behind (x ∷ xs) ys i = let same : suc (length xs) + i ≡ suc (length xs + i) = omega arith in ap (slice_get (x ∷ xs ++ ys)) same ∙ get-behind xs ys i
-
-get_map : {A B : Type 0} (f : A → B) (xs : List A) (i : ℕ) (x : A) → slice_get xs i ≡ Some x → slice_get (map f xs) i ≡ Some (f x)
-get_map f [] i x e = absurd cc
-get_map f (y ∷ xs) zero x e = let same : y ≡ x = cc in ap (λ z. Some (f z)) same
-get_map f (y ∷ xs) (suc i) x e = get_map f xs i x e
-
-map_contains : (f : ℕ → ℕ) (xs : List ℕ) (x : ℕ) → Contains xs x → Contains (map f xs) (f x)
-map_contains f [] x c = absurd (among (λ y. ⊥) [] x tt c)
-map_contains f (y ∷ xs) x c = by (Contains-append_cases (y ∷ []) xs x c) (λ d. map_contains f xs x d)
-  where
-    by : Contains (y ∷ []) x ⊎ Contains xs x → (Contains xs x → Contains (map f xs) (f x)) → Contains (f y ∷ map f xs) (f x)
-    by (inl d) rest = let same : y ≡ x = among (λ z. y ≡ z) (y ∷ []) x (refl, tt) d in subst (λ z. Contains (f y ∷ map f xs) (f z)) same (first_one (f y) (map f xs))
-    by (inr d) rest = later_one (f y) (f x) (map f xs) (rest d)
 
 -- inputs are at no equation
 inputs_are : (n : FlatNode) (count : ℕ) → AllByRecursion (λ (f : Free). (f.eqn ≡ None) × (f.variable < count)) (free_inputs n count)
@@ -410,8 +393,8 @@ module _ (types : List ObcType) (callees : Callees) (clock : ℕ → Clock) (obs
           let swap : length room.eqns + s.0 ≡ s.0 + length room.eqns = omega arith in
           let at : slice_get start.eqns (s.0 + length room.eqns) ≡ Some moved =
           ap (λ es. slice_get es (s.0 + length room.eqns)) all ∙ ap (slice_get (room.eqns ++ map (moved_eqn site V) own.node.eqns)) (sym swap)
-          ∙ get-behind room.eqns (map (moved_eqn site V) own.node.eqns) s.0 ∙ get_map (moved_eqn site V) own.node.eqns s.0 e s.3 in
-          let target : Contains moved.targets (f.variable + V) = map_contains (λ x. x + V) e.targets f.variable s.4 in
+          ∙ get-behind room.eqns (map (moved_eqn site V) own.node.eqns) s.0 ∙ slice_get-map (moved_eqn site V) own.node.eqns s.0 ∙ ap (option_map (moved_eqn site V)) s.3 in
+          let target : Contains moved.targets (f.variable + V) = map_has (λ (x : ℕ). x + V) e.targets f.variable s.4 in
           let p = last in
           (standing-grown start its.node p.added p.later (moved_free (shift_of own.node site n) f) (s.0 + length room.eqns, moved, ap (moved_number (length room.eqns)) s.2, at, target), omega (arith, below, long))
 

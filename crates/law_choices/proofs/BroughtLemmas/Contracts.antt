@@ -33,7 +33,7 @@ use Rattle.law_drawing.proofs.InshapeLemmas.TypesRead.{Agrees, agrees_inside, ag
 use Rattle.law_drawing.proofs.SteeredLemmas.Uncalled.{BlockCallsNothing, ContractCallsNothing, ToldCallsNothing}
 use Rattle.law_equations.specs.Flattened.Flatten.{Prefix, below}
 use Rattle.hp_watch.specs.Observing.{all_handed_on, condition_of, inputs_for, lines_of, observer_of, outputs_at, with_lines}
-use Rattle.hp_watch.specs.Walk.{behind, walk, walk_block, walk_condition, walk_contract, walk_eqns}
+use Rattle.hp_watch.specs.Walk.{behind, walk_block, walk_condition, walk_contract, walk_eqns}
 use Rattle.law_choices.specs.Observed.Contracts.{IsOther}
 use Rattle.law_choices.specs.Places.Groups.{groups_of_block, groups_of_contract, groups_of_equations, groups_of_told}
 use Rattle.law_choices.proofs.BroughtLemmas.Apiece.{Apiece, apiece-as, apiece-at, apiece-nothing, apiece-two}

@@ -4,7 +4,6 @@ use Rattle.std.specs.Prelude.{⊤, ◌&&◌}
 use Rattle.std.specs.List.{AllByRecursion}
 use Rattle.std.proofs.lemmas.List.{append_assoc}
 use Rattle.hp_base.specs.declared.ty.Const.{Const}
-use Rattle.hp_base.specs.declared.ty.Ty.{Ty}
 use Rattle.hp_base.specs.declared.ty.Ty.TheVariants as ty
 use Rattle.hp_tree.specs.declared.block.Trans.{Trans}
 use Rattle.hp_tree.specs.Expressions.{Expr, constant, variable, last_of, one, two, choose, pre, fby, arrow, when_is, merge, call, Exprs, no_expr, more_exprs, Parts, no_part, more_parts}
@@ -16,7 +15,7 @@ use Rattle.hp_tree.specs.Instant.{Step, Body, Observer, Assume, Enforce, Named, 
 use Rattle.hp_tree.specs.Meaning.{clock_of}
 use Rattle.hp_tree.specs.Reaction.{Each}
 use Rattle.hp_meaning.specs.Causal.RanksOfPoints.{same_step}
-use Rattle.hp_meaning.specs.Contract.FreePlaces.{FreeClocks, by_step, free_in, free_in_all, free_in_block, free_in_conditions, free_in_contract, free_in_equation, free_in_equations, free_in_parts, free_in_states, free_in_told, if_compared, none_free, outputs_free, own_free}
+use Rattle.hp_meaning.specs.Contract.FreePlaces.{FreeClocks, by_step, free_in, free_in_all, free_in_block, free_in_conditions, free_in_contract, free_in_equation, free_in_equations, free_in_parts, free_in_states, free_in_told, if_compared, outputs_free, own_free}
 use Rattle.hp_meaning.specs.Contract.Slots.{Slot, register, free, input, control, FreePlace, callee_slots, free_among, is_int, slots, slots_of_all, slots_of_parts, slots_of_conditions, slots_of_block, slots_of_equations, slots_of_equation, slots_of_arms, slots_of_states, slots_of_contract}
 use Rattle.hp_meaning.proofs.CausalLemmas.Ranking.{step_same}
 use Rattle.law_equations.specs.Flattened.Flatten.{Prefix, below}

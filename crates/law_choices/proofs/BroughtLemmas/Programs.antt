@@ -243,9 +243,11 @@ module _ (program after : List Item) (r : IsReady program after) (removable : Is
           → (L : List (List Ty)) × ((types_in g (observed c g).free ≡ map (flat_type k.types) (joined_types L)) × AreIn g (observed c g).free) × ((w : Prefix) → joined_types L ≡ free_types (slots_of_contract types outs callee (Some c) (typed_in n.inputs (typed_in n.outputs untyped)) w))
       observer-brings g made given outs callee calls =
           let B = observer-apiece g made given outs callee calls in
-          let names = typed_in n.inputs (typed_in n.outputs untyped) in
-          (B.0, own-types calls_bring k (sketch_node k m) g made.variables (λ f. outputs-shown k.types (outputs_of (k.nodes f)) (λ p. p)) (walk_contract c (events_from 0 g.eqns)).0 B.0 B.1,
-          λ w. ap joined_types (B.2 w) ∙ row-types (groups_of_contract types outs callee c names w) ∙ ap types_of_places (contract-row types outs callee c names w))
+          let names = typed_in n.inputs (typed_in n.outputs untyped) in (
+            B.0,
+            own-types calls_bring k (sketch_node k m) g made.variables (λ f. outputs-shown k.types (outputs_of (k.nodes f)) (λ p. p)) (walk_contract c (events_from 0 g.eqns)).0 B.0 B.1,
+            λ w. ap joined_types (B.2 w) ∙ row-types (groups_of_contract types outs callee c names w) ∙ ap types_of_places (contract-row types outs callee c names w),
+          )
 
     -- ---- its body
 
