@@ -14,3 +14,4 @@ pub mod Programs
 pub mod Apiece
 pub mod Flagged
 pub mod Inputless
+pub mod Late

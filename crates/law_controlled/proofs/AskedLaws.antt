@@ -111,12 +111,12 @@ module _ (laws : TurnLaws) (made_law : CompiledMadeLaw) (observer_law : Observer
   abbrev all : Callees
   all = callees_of after
 
-  suit : AllSuit types all seen × CallNothing seen
+  pub suit : AllSuit types all seen × CallNothing seen
   suit =
       let equations = are.equations in
       observers_suit_by types all observer_law after seen are (observed_by made_law laws.called laws.calls program after all are.nodes q.ready q.form signs can (λ f e. (refl, refl)) equations.made)
 
-  puts : AllCanBePut seen
+  pub puts : AllCanBePut seen
   puts f o has =
       let equations = are.equations in
       let s = (suit.0) f o has in
@@ -127,10 +127,10 @@ module _ (laws : TurnLaws) (made_law : CompiledMadeLaw) (observer_law : Observer
 
   module _ (node : Node) (n : FlatNode) (names : List (List ℕ)) (t : IsTurned types k names (lowered_node enums node) n) (made : IsMadeOf k (lowered_node enums node) n) (r : IsReadyMade types all n)
       (signed : (g : List ℕ) → has_name names g ≡ true → is_new g ≡ false) (plain : is_new n.name ≡ false) where
-    bytes : HaveBytes types
+    pub bytes : HaveBytes types
     bytes = laws.bytes types (subst (λ (ts : List TypeDecl). TypesForm (obc_types ts)) (sym (types_same program after q.ready)) q.form)
 
-    of : IsOfNode types all r.clock node n
+    pub of : IsOfNode types all r.clock node n
     of = of_node laws types k enums seen all bytes suit.0 suit.1 (λ f e. (refl, refl)) (λ (n : Node). ⊤) names node n t made r signed plain
 
     module _ (a : Abstraction) (is : IsAbstractionOf after node a) (control : a.machine.control ≡ sum a.machine.widths) (s : Suits types seen node n a) where

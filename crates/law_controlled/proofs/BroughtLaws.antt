@@ -44,7 +44,8 @@ use Rattle.hp_watch.specs.Adding.{type_at, type_of}
 use Rattle.hp_watch.specs.Embedding.{embedded, shift_of}
 use Rattle.hp_watch.specs.Growing.{Grows}
 use Rattle.hp_watch.specs.Observing.{observer_if, observer_of, observers}
-use Rattle.hp_watch.specs.Watching.{Observed, Observing, free_input, free_inputs, free_placed, is_integer, moved_free, observed, own_site, surveyed, walked}
+use Rattle.hp_watch.specs.Walk.{events_from, walk_contract}
+use Rattle.hp_watch.specs.Watching.{Observed, Observing, free_at, free_input, free_inputs, free_placed, is_integer, moved_free, observed, own_site, surveyed, walked}
 use Rattle.law_choices.specs.Observed.Contracts.{IsObservable}
 use Rattle.hp_meaning.specs.Contract.FreePlaces.{declared_outputs}
 use Rattle.law_choices.proofs.BroughtLemmas.Brought.{free_types, joined_types}
@@ -125,7 +126,7 @@ controls-free (d ∷ ds) w = by d.ty (controls-free ds (below Tail w))
     by ty.Int h = h
     by (ty.Enum x) h = h
 
-inputs-free : (places : List ℕ → Option ℕ) (ds : List Decl) (w : Place → Place) → map (flat_type places) (free_types (row_of_slots input ds w)) ≡ shown_types places ds
+pub inputs-free : (places : List ℕ → Option ℕ) (ds : List Decl) (w : Place → Place) → map (flat_type places) (free_types (row_of_slots input ds w)) ≡ shown_types places ds
 inputs-free places [] w = refl
 inputs-free places (d ∷ ds) w = by d.ty (inputs-free places ds (below Tail w))
   where
@@ -297,6 +298,22 @@ module _ (program after : List Item) (r : IsReady program after) (removable : Is
             λ w. B.2 w ∙ ap₂ (λ (m : Node) (d : Contract). free_types (slots_of_contract types outs callee (Some d) (typed_in m.inputs (typed_in m.outputs untyped)) w)) same one,
           )
 
+  abbrev Made : Node → Contract → Observed → Type 0
+  Made m d z = IsMadeOf k_seen (lowered_node enums (observer_of m d)) z.node × (z.free ≡ flat_map (free_at z.node) (walk_contract d (events_from 0 z.node.eqns)).0)
+
+  -- the observer that is seen of it is made of its contract
+  pub observer-made : (earlier : List Item) (n : Node) → Stands after earlier n → (c : Contract) → n.contract ≡ Some c → (o : Observed) → seen n.name ≡ Some o
+      → IsMadeOf k_seen (lowered_node enums (observer_of n c)) o.node × (o.free ≡ flat_map (free_at o.node) (walk_contract c (events_from 0 o.node.eqns)).0)
+  observer-made earlier n stands c has o e = by (answer n.name)
+    where
+      by : Answer after n.name (seen n.name) → IsMadeOf k_seen (lowered_node enums (observer_of n c)) o.node × (o.free ≡ flat_map (free_at o.node) (walk_contract c (events_from 0 o.node.eqns)).0)
+      by (inl h) = absurd (let no : Some o ≡ None = sym e ∙ h.0 in cc)
+      by (inr h) =
+          let same : h.node ≡ n = one-node h.node n (sym (found-there h.earlier h.node h.stands) ∙ ap (node_among (reverse after)) h.named ∙ found-there earlier n stands) in
+          let one : h.contract ≡ c = one-contract h.contract c (sym h.has ∙ ap (λ (z : Node). z.contract) same ∙ has) in
+          let it : observed h.contract h.made_as ≡ o = one-observed (observed h.contract h.made_as) o (sym h.is ∙ e) in
+          subst (λ (m : Node). Made m c o) same (subst (λ (d : Contract). Made h.node d o) one (subst (Made h.node h.contract) it (h.made, refl)))
+
   -- the free places of observers are variables
   pub inside : (f : List ℕ) (o : Observed) → seen f ≡ Some o → AreIn o.node o.free
   inside f o e = by (answer f)
@@ -360,7 +377,7 @@ module _ (program after : List Item) (r : IsReady program after) (removable : Is
         let B = called f in
         free-append (outputs_slots (outs f) here) (callee f here) ∙ ap₂ (λ xs ys. xs ++ ys) (outputs-free (outs f) here (below Instance w)) (B.1 here ∙ sym (B.1 (below Instance w))) ∙ sym (free-append (outputs_slots (outs f) (below Instance w)) (callee f (below Instance w)))
 
-    outs-known : (f : List ℕ) → outputs_of (k.nodes f) ≡ outs f
+    pub outs-known : (f : List ℕ) → outputs_of (k.nodes f) ≡ outs f
     outs-known f =
         ap outputs_of (nodes-known (lowered_program after) f ∙ ap (λ xs. node_among xs f) (map_reverse (lowered_item enums) after) ∙ lowered_among enums (reverse after) f) ∙ by (node_among (reverse after) f)
       where
@@ -410,7 +427,7 @@ module _ (program after : List Item) (r : IsReady program after) (removable : Is
           sym (take-append-drop plant.inputs plant.variables) ∙ ap (λ vs. vs ++ drop plant.inputs plant.variables) (signed.first ∙ map-append (variable_of k.types) n.inputs (controls_of n.contract))
           ∙ append_assoc (variables_of k.types n.inputs) (variables_of k.types (controls_of n.contract)) (drop plant.inputs plant.variables)
 
-      inputs-types : types_in plant (free_inputs plant (length n.inputs)) ≡ shown_types k.types n.inputs
+      pub inputs-types : types_in plant (free_inputs plant (length n.inputs)) ≡ shown_types k.types n.inputs
       inputs-types =
           given-types plant k.types n.inputs 0
           (ap (λ m. map (type_at plant) (range_with_len 0 m)) (sym (length-map n.inputs (variable_of k.types))) ∙ range-types plant.variables [] (variables_of k.types n.inputs) (variables_of k.types (controls_of n.contract) ++ drop plant.inputs plant.variables) split)

@@ -261,3 +261,12 @@ module _ (n o : FlatNode) (site : Site) (s : IsSound n) (can : CanBePut o) (is :
   embedded-front =
       let r = in_room in
       (r.more ++ last, (moved-last site V o.eqns room).0 ∙ ap (λ es. es ++ last) r.eqns ∙ append_assoc n.eqns r.more last)
+
+  -- and all others are of its new variables
+  pub embedded-behind : AreBehind V (embedded-front).0
+  unfolding embedded-front in_room
+  embedded-behind =
+      let r = in_room in
+      both (λ (e : FlatEqn). AllByRecursion (λ x. V ≤ x) e.targets) r.more last (rising-behind V K r.more r.each)
+      (each_other (λ (e : FlatEqn). AllByRecursion (λ x. K ≤ x) e.targets) (λ (e : FlatEqn). AllByRecursion (λ x. V ≤ x) e.targets) (λ e h. each_other (λ x. K ≤ x) (λ x. V ≤ x) (λ x l. omega (arith, l)) e.targets h) last
+      (moved-behind site V is.clock is.restart o.inputs o.eqns can.no_inputs))

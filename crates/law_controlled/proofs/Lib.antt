@@ -7,10 +7,13 @@ pub mod AskingLaws
 pub mod BareLaws
 pub mod BroughtLaws
 pub mod CircleLaws
+pub mod ClearLaws
 pub mod ControlLaws
 pub mod DepthLaws
 pub mod DutyLaws
+pub mod EarlyFreeLaws
 pub mod EarlyLaws
+pub mod EarlyNodeLaws
 pub mod EmbeddedLaws
 pub mod ExtraLaws
 pub mod FitLaws
@@ -43,9 +46,11 @@ pub mod SaidLaws
 pub mod SeenLaws
 pub mod ShortLaws
 pub mod SightLaws
+pub mod StandingLaws
 pub mod StraightLaws
 pub mod ToldLaws
 pub mod WaitLaws
+pub mod WaitingLaws
 pub mod WatchedLaws
 pub mod WellMadeLaws
 pub mod WorkedLaws

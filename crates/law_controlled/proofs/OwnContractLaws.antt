@@ -46,7 +46,7 @@ other_at f g (x ∷ xs) [] e i v h = absurd cc
 other_at f g (x ∷ xs) (y ∷ ys) e zero v h = (y, refl)
 other_at f g (x ∷ xs) (y ∷ ys) e (suc i) v h = other_at f g xs ys (ap (λ zs. drop 1 zs) e) i v h
 
-get-behind : {A : Type 0} (xs ys : List A) (i : ℕ) → slice_get (xs ++ ys) (length xs + i) ≡ slice_get ys i
+pub get-behind : {A : Type 0} (xs ys : List A) (i : ℕ) → slice_get (xs ++ ys) (length xs + i) ≡ slice_get ys i
 get-behind [] ys i = let same : 0 + i ≡ i = omega arith in ap (slice_get ys) same
 get-behind (x ∷ xs) ys i = let same : suc (length xs) + i ≡ suc (length xs + i) = omega arith in ap (slice_get (x ∷ xs ++ ys)) same ∙ get-behind xs ys i
 

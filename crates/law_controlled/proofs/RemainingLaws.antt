@@ -1,4 +1,4 @@
--- Most causes are in the way of no accepted program whose contracts are kept.
+-- An accepted program whose nodes choose, and whose contracts are kept, has the machines that choose.
 use Rattle.std.proofs.Common.{◌≡◌, inl, inr, ℕ, Bool, true, false, ◌||◌, ◌+◌, ◌≤◌, List, [], ◌∷◌, ◌++◌, length, map, drop, reverse, Option, None, Some, refl, sym, ap, ap₂, subst, ◌∙◌, arith}
 use Rattle.std.specs.Prelude.{All, IsTrue, is_some, option_map, sum}
 use Rattle.std.specs.List.{AllByRecursion}
@@ -15,6 +15,7 @@ use Rattle.hp_tree.specs.Programs.{Contract, Node, TypeDecl}
 use Rattle.hp_tree.specs.declared.program.Item.{Item}
 use Rattle.hp_tree.specs.declared.program.Item.TheVariants.{TypeItem, NodeItem}
 use Rattle.hp_tables.specs.Declarations.Tables.{numbered}
+use Rattle.hp_meaning.specs.Causal.Causality.{IsRanked}
 use Rattle.hp_meaning.specs.Causal.RanksOfPoints.{AllRanksLaw}
 use Rattle.hp_meaning.specs.Causal.Sources.{below}
 use Rattle.hp_meaning.specs.Contract.Forgetting.{ContractsCallNothing}
@@ -85,9 +86,10 @@ use Rattle.hp_controlled.specs.Choosing.IsOwn.{that_stays, that_chooses}
 use Rattle.hp_controlled.specs.Compiled.{AreEquationsOf, AreObserved, contracts_of}
 use Rattle.hp_controlled.specs.Lacking.{ChoosesNot, FitContracts, HasCircularEquations, HasNoChosenMachines, LacksCompiled, LacksMachines, LacksNodes, LacksObservers, OneLacksMachines}
 use Rattle.hp_controlled.specs.Lacking.OneLacksMachines.{none_left, here, behind_a_node, behind_a_type}
-use Rattle.law_controlled.specs.Early.{CanAsk, CircleLaw}
+use Rattle.law_controlled.specs.Built.{ChosenBuiltLaw}
+use Rattle.law_controlled.specs.Early.{CanAsk, CircleLaw, WaitsForChoice}
 use Rattle.law_controlled.specs.Program.{MadeNodesLaw}
-use Rattle.law_controlled.specs.Remaining.{Remaining, RemainingLaw, OneWaitsForChoice}
+use Rattle.law_controlled.specs.Remaining.{RemainingLaw}
 use Rattle.law_controlled.proofs.AskedLaws.{can_ask}
 use Rattle.law_controlled.proofs.BroughtLaws.{survey-in, survey-types}
 use Rattle.law_controlled.proofs.CircleLaws.{no_circle}
@@ -98,6 +100,7 @@ use Rattle.law_controlled.proofs.MadeLaws.{is_contracted, it}
 use Rattle.law_controlled.proofs.ObserverShortLaws.{all_levels}
 use Rattle.law_controlled.proofs.RegularPartLaws.{kinds_regular, part_regular}
 use Rattle.law_controlled.proofs.SightLaws.{NamedIn, SeesAsMany, has_observer, node_controls, suits}
+use Rattle.law_controlled.proofs.WaitingLaws.{never_waits, WaitingLaws}
 use Rattle.law_controlled.proofs.WellMadeLaws.{all as said_with, chosen_well}
 
 -- the laws that are joined here
@@ -124,6 +127,7 @@ pub record RemainingLaws : Type 0 where
   pub lettered : MachineNamesLaw
   pub clocks : nested.TextLaw
   pub circle : CircleLaw
+  pub waits : WaitingLaws
 
 -- ---- names of nodes
 
@@ -284,10 +288,8 @@ module _ (after : List Item) (k : Known) (enums : Enumerations) (places : List �
       (c : Contracted) → IsContracted types seen l.node c → (names : List (List ℕ)) → IsTurned types k names (lowered_node enums l.node) c.plant → IsMadeOf k (lowered_node enums l.node) c.plant → IsReadyMade types (calls_of types k) c.plant
       → ((f : List ℕ) → has_name names f ≡ true → is_new f ≡ false) → is_new c.plant.name ≡ false → (all : Callees) × AllByRecursion (EqnKinds types all c.chosen.node.variables) c.chosen.node.eqns)
       (has_types : (c : Contract) → l.node.contract ≡ Some c → (own : Observed) → seen l.plant.name ≡ Some own → HasTypes l own)
-      (asks : (a : Abstraction) → IsAbstractionOf after l.node a → a.machine.control ≡ sum a.machine.widths → (s : Suits types seen l.node l.plant a) → CanAsk s.watched a s.controls) where
-    abbrev Left : Type 0
-    Left = OneWaitsForChoice after types seen
-
+      (asks : (a : Abstraction) → IsAbstractionOf after l.node a → a.machine.control ≡ sum a.machine.widths → (s : Suits types seen l.node l.plant a) → CanAsk s.watched a s.controls)
+      (waits : (c : Contract) → l.node.contract ≡ Some c → (a : Abstraction) → IsAbstractionOf after l.node a → (s : Suits types seen l.node l.plant a) → WaitsForChoice s.watched s.controls → ⊥) where
     short : length l.node.name ≤ 255
     short = let known = l.known in known.is_short
 
@@ -346,32 +348,29 @@ module _ (after : List Item) (k : Known) (enums : Enumerations) (places : List �
         by None e h = absurd (let no : false ≡ true = h in cc)
         by (Some c) e h = let own = observer some in all_suits a is own.0 own.1 (sees-all a is own.0 (has_types c e own.0 own.1))
 
-    chooses_not : (a : Abstraction) → IsTrue (is_some l.node.contract) → IsAbstractionOf after l.node a → ChoosesNot types seen l.node l.plant a → Left
-    chooses_not a some is (ChoosesNot.long_name long) = absurd (omega (arith, long, short))
-    chooses_not a some is (ChoosesNot.unsuited none) = absurd (none (all-suit a some is))
+    never : (a : Abstraction) → IsTrue (is_some l.node.contract) → IsAbstractionOf after l.node a → (s : Suits types seen l.node l.plant a) → WaitsForChoice s.watched s.controls → ⊥
+    never a some is s w = by l.node.contract refl some
+      where
+        by : (o : Option Contract) → l.node.contract ≡ o → IsTrue (is_some o) → ⊥
+        by None e h = let no : false ≡ true = h in absurd cc
+        by (Some c) e h = waits c e a is s w
+
+    chooses_not : (a : Abstraction) → IsTrue (is_some l.node.contract) → IsAbstractionOf after l.node a → ChoosesNot types seen l.node l.plant a → ⊥
+    chooses_not a some is (ChoosesNot.long_name long) = omega (arith, long, short)
+    chooses_not a some is (ChoosesNot.unsuited none) = none (all-suit a some is)
     chooses_not a some is (ChoosesNot.circular s circle) =
         let mirror = laws.mirrors program after ranks order l.earlier l.node l.stands is.drawn a.machine is.is_drawn is.is_machine in
-        record {
-          node = l.node;
-          plant = l.plant;
-          earlier = l.earlier;
-          stands = l.stands;
-          has_contract = some;
-          abstraction = a;
-          is_abstraction = is;
-          suits = s;
-          waits = laws.circle l.node.name s.watched a s.controls (asks a is mirror.control_are s) circle;
-        }
+        never a some is s (laws.circle l.node.name s.watched a s.controls (asks a is mirror.control_are s) circle)
 
-    no_nodes : IsTrue (is_some l.node.contract) → IsKept after l.node → LacksNodes after types seen l.node l.plant → Left
-    no_nodes some kept (LacksNodes.refused e why k) = absurd (not_refused after l.node kept.machine kept.is_machine e k why)
+    no_nodes : IsTrue (is_some l.node.contract) → IsKept after l.node → LacksNodes after types seen l.node l.plant → ⊥
+    no_nodes some kept (LacksNodes.refused e why k) = not_refused after l.node kept.machine kept.is_machine e k why
     no_nodes some kept (LacksNodes.forced a is lose) =
         let lost = lose.1 in
-        absurd (safe_on_each laws.safe program after ranks order l.earlier l.node l.stands kept.machine a.machine kept.is_machine is.machine kept.safe (length lose.0) lost.init)
+        safe_on_each laws.safe program after ranks order l.earlier l.node l.stands kept.machine a.machine kept.is_machine is.machine kept.safe (length lose.0) lost.init
     no_nodes some kept (LacksNodes.long_machine a is long) =
         let machine = is.machine in
         let same_name = ap (λ (x : List ℕ). length x) machine.named in
-        absurd (omega (arith, long, same_name, short))
+        omega (arith, long, same_name, short)
     no_nodes some kept (LacksNodes.chooses_not a is none) = chooses_not a some is none
 
     -- the node itself is its clocked equations, or a part of the one that chooses
@@ -396,17 +395,17 @@ module _ (after : List Item) (k : Known) (enums : Enumerations) (places : List �
           (own_regular own t chosen.itself regular, (part_regular types t.node (contract_name l.node.name) (told_outputs t) told chosen.tells regular, tt)),
         )
 
-    no_machines : LacksMachines after types seen l.node l.plant → Left
+    no_machines : LacksMachines after types seen l.node l.plant → ⊥
     no_machines (LacksMachines.lacks_nodes some lacks) = no_nodes some (l.kept some) lacks
     no_machines (LacksMachines.irregular these nodes_are none) = by these nodes_are none
       where
-        by : (these : List FlatNode) → AreNodesOf after types seen l.node l.plant these → (AllByRecursion (EqnsRegular types) these → ⊥) → Left
-        by these (without_contract e) none = absurd (none (l.regular, tt))
+        by : (these : List FlatNode) → AreNodesOf after types seen l.node l.plant these → (AllByRecursion (EqnsRegular types) these → ⊥) → ⊥
+        by these (without_contract e) none = none (l.regular, tt)
         by these (with_contract controller own told some are) none =
-            absurd (none (nodes_regular controller own told are))
+            none (nodes_regular controller own told are)
 
-    left_of_one : Left
-    left_of_one = no_machines l.lacks
+    none_lacks : ⊥
+    none_lacks = no_machines l.lacks
 
 -- ---- programs
 
@@ -469,11 +468,14 @@ module _ (laws : RemainingLaws) (program after : List Item) (ranks : List (List 
       names_of_types watched ∙ ap (λ ds. map (λ (d : TypeDecl). d.name) ds) (types_watched after ∙ sym (types_low (enumerations [] after) after)) ∙ sym (names_of_types low) in
       ap (λ ns. numbered 0 ns) names
 
-  left : HasNoChosenMachines after → Remaining after
-  left (HasNoChosenMachines.not_compiled (LacksCompiled.circular_nodes circle)) = absurd (not_circular circle)
-  left (HasNoChosenMachines.not_compiled (LacksCompiled.no_observers (LacksObservers.circular_contracts circle))) = absurd (not_circular_contracts circle)
-  left (HasNoChosenMachines.not_compiled (LacksCompiled.no_observers (LacksObservers.unfitting ns equations none))) = absurd (none (fit ns equations))
-  left (HasNoChosenMachines.not_compiled (LacksCompiled.one_lacks plants seen equations are lacks)) =
+  ranked : IsRanked after
+  ranked = let order = b.order in laws.all_ranks after ranks order.ordered
+
+  are_built : HasNoChosenMachines after → ⊥
+  are_built (HasNoChosenMachines.not_compiled (LacksCompiled.circular_nodes circle)) = not_circular circle
+  are_built (HasNoChosenMachines.not_compiled (LacksCompiled.no_observers (LacksObservers.circular_contracts circle))) = not_circular_contracts circle
+  are_built (HasNoChosenMachines.not_compiled (LacksCompiled.no_observers (LacksObservers.unfitting ns equations none))) = none (fit ns equations)
+  are_built (HasNoChosenMachines.not_compiled (LacksCompiled.one_lacks plants seen equations are lacks)) =
       let q = b.arranged in
       let c = compilable_law program after q.ready q.removable q.form in
       let form : TypesForm (obc_types (types_of after)) = subst (λ ts. TypesForm (obc_types ts)) (sym (sym (types_low (enumerations [] after) after) ∙ c.0.same)) q.form in
@@ -492,8 +494,7 @@ module _ (laws : RemainingLaws) (program after : List Item) (ranks : List (List 
         are_kept = b.kept;
         are_named = λ f h. h;
       }) lacks in
-      let one =
-      left_of_one after (known_of low) (enumerations [] after) (places_of low) (types_of after) seen laws program ranks b.order form
+      none_lacks after (known_of low) (enumerations [] after) (places_of low) (types_of after) seen laws program ranks b.order form
       (λ x. ap (λ names. numbered 0 names x) (names_of_types low ∙ ap (λ ds. map (λ (d : TypeDecl). d.name) ds) (types_low (enumerations [] after) after))) refl are l
       (λ c is names t made ready signed plain.
       let well = chosen_well laws.formed.turn laws.made laws.observer program after q b.unsigned can_be seen are l.node c is names t made ready signed plain in
@@ -505,19 +506,23 @@ module _ (laws : RemainingLaws) (program after : List Item) (ranks : List (List 
       (λ a is control s.
       let made = l.made in
       let known = l.known in
-      can_ask laws.formed.turn laws.made laws.observer program after q b.unsigned can_be seen are l.node l.plant l.names l.turned made l.ready l.signed (ap is_new made.name ∙ known.unsigned) a is control s) in
-      record { plants = plants; observers = seen; equations = equations; observed = are; one = one }
-  left (HasNoChosenMachines.formless ms are none) =
+      can_ask laws.formed.turn laws.made laws.observer program after q b.unsigned can_be seen are l.node l.plant l.names l.turned made l.ready l.signed (ap is_new made.name ∙ known.unsigned) a is control s)
+      (λ c has a is s.
+      let made = l.made in
+      let known = l.known in
+      never_waits laws.waits laws.formed.turn laws.made laws.observer program after ranks b.order q b.unsigned can_be seen are b.calls b.observable ranked same_places l.earlier l.node l.stands c has l.plant l.names l.turned made l.ready l.signed (ap is_new made.name ∙ known.unsigned)
+      (signed after (known_of low) (enumerations [] after) (places_of low) (types_of after) seen l) a is s)
+  are_built (HasNoChosenMachines.formless ms are none) =
       let q = b.arranged in
       let e = are.equations in
       let have = are.have in
       let c = compilable_law program after q.ready q.removable q.form in
       let form : TypesForm (obc_types (types_of after)) = subst (λ ts. TypesForm (obc_types ts)) (sym (sym (types_low (enumerations [] after) after) ∙ c.0.same)) q.form in
       let made = laws.nodes after (obc_types_of after) are.observers (known_of low) (enumerations [] after) after are.plants have.nodes e.made have.are in
-      absurd (none (has_form laws.formed program after q b.unsigned can_be b.spelled form ms are made))
+      none (has_form laws.formed program after q b.unsigned can_be b.spelled form ms are made)
 
-pub remaining_law : RemainingLaws → RemainingLaw
-remaining_law laws text tokens program after ranks a p named typed defined formed initialised clocks fall kept none =
+pub chosen_built_law : RemainingLaws → ChosenBuiltLaw
+chosen_built_law laws text tokens program after ranks a p named typed defined formed initialised clocks fall kept none =
     let q = when_accepted text tokens program after a p named typed defined formed initialised clocks in
     let form = q.form in
     let short = short_written (replaced program) after clocks (short_replaced no_node program (source_short program (laws.names text tokens program a p))) in
@@ -539,4 +544,8 @@ remaining_law laws text tokens program after ranks a p named typed defined forme
         clocks = λ fs made. laws.clocks text tokens program after (known_of (lowered_program after)) fs a p named typed defined formed initialised clocks made;
       };
     } in
-    left laws program after ranks b none
+    are_built laws program after ranks b none
+
+-- so nothing remains
+pub remaining_law : ChosenBuiltLaw → RemainingLaw
+remaining_law law text tokens program after ranks a p named typed defined formed initialised clocks fall kept none = absurd (law text tokens program after ranks a p named typed defined formed initialised clocks fall kept none)

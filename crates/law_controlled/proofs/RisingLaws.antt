@@ -83,11 +83,11 @@ same-variables : (e : FlatEqn) (n : FlatNode) → length (with_eqn e n).variable
 unfolding with_eqn
 same-variables e n = refl
 
-one-behind : (e : FlatEqn) (n : FlatNode) → (with_eqn e n).eqns ≡ n.eqns ++ e ∷ []
+pub one-behind : (e : FlatEqn) (n : FlatNode) → (with_eqn e n).eqns ≡ n.eqns ++ e ∷ []
 unfolding with_eqn
 one-behind e n = refl
 
-same-eqns : (t : FlatTy) (n : FlatNode) → (with_variable t n).eqns ≡ n.eqns
+pub same-eqns : (t : FlatTy) (n : FlatNode) → (with_variable t n).eqns ≡ n.eqns
 unfolding with_variable
 same-eqns t n = refl
 
@@ -140,7 +140,7 @@ module _ (n : FlatNode) (t : FlatTy) (clock : Clock) (step : ℕ × ℕ) (value 
   abbrev begun : FlatNode
   begun = with_variable t n
 
-  gets-cases : (count : ℕ) → Gets n (with_cases target t clock step value count begun) × (length (with_cases target t clock step value count begun).variables ≡ suc target)
+  pub gets-cases : (count : ℕ) → Gets n (with_cases target t clock step value count begun) × (length (with_cases target t clock step value count begun).variables ≡ suc target)
   gets-cases zero = (gets-variable t n, longer-variable t n)
   gets-cases (suc k) =
       let rest = gets-cases k in
@@ -171,7 +171,7 @@ module _ (types : List ObcType) where
 
 -- ---- bits
 
-gets-tests : (t value count : ℕ) (n : FlatNode) → value < length n.variables → Gets n (with_each (with_test t value) count n) × (length (with_each (with_test t value) count n).variables ≡ length n.variables + count)
+pub gets-tests : (t value count : ℕ) (n : FlatNode) → value < length n.variables → Gets n (with_each (with_test t value) count n) × (length (with_each (with_test t value) count n).variables ≡ length n.variables + count)
 gets-tests t value zero n l = (gets-self n, omega arith)
 gets-tests t value (suc k) n l =
     let rest = gets-tests t value k n l in
@@ -184,16 +184,16 @@ gets-tests t value (suc k) n l =
     (gets-both n m (with_test t value k m) g (gets-operator ty.Bool Eq args m (omega (arith, l, more), tt)), omega (arith, long, last))
 
 -- whether one of two is true, or the first of them
-abbrev or_value : ℕ → ℕ → FlatNode → Bool → Valued
+abbrev pub or_value : ℕ → ℕ → FlatNode → Bool → Valued
 or_value bit test n b = if b then record { node = with_operator ty.Bool Or (Read bit ∷ Read test ∷ []) n; value = next_variable n } else record { node = n; value = bit }
 
-has-or : (bit test : ℕ) (n : FlatNode) (b : Bool) → bit < length n.variables → test < length n.variables → Has n (or_value bit test n b).node (or_value bit test n b).value
+pub has-or : (bit test : ℕ) (n : FlatNode) (b : Bool) → bit < length n.variables → test < length n.variables → Has n (or_value bit test n b).node (or_value bit test n b).value
 has-or bit test n true l m =
     let last = operator-longer ty.Bool Or (Read bit ∷ Read test ∷ []) n in
     record { gets = gets-operator ty.Bool Or (Read bit ∷ Read test ∷ []) n (l, (m, tt)); below = omega (arith, last) }
 has-or bit test n false l m = record { gets = gets-self n; below = l }
 
-has-either : (place k : ℕ) (tests : List ℕ) (bit : ℕ) (n : FlatNode) → AreBelow (length n.variables) tests → bit < length n.variables → Has n (either place k tests bit n).node (either place k tests bit n).value
+pub has-either : (place k : ℕ) (tests : List ℕ) (bit : ℕ) (n : FlatNode) → AreBelow (length n.variables) tests → bit < length n.variables → Has n (either place k tests bit n).node (either place k tests bit n).value
 has-either place k [] bit n t l = record { gets = gets-self n; below = l }
 has-either place k (test ∷ tests) bit n t l =
     let first = with_either k place bit test n in
@@ -202,7 +202,7 @@ has-either place k (test ∷ tests) bit n t l =
     let rest = has-either place (k + 1) tests first.value first.node (higher (length n.variables) (length first.node.variables) g.longer tests t.1) one.below in
     record { gets = gets-both n first.node (either place (k + 1) tests first.value first.node).node g rest.gets; below = rest.below }
 
-gets-bits : (tests : List ℕ) (place : ℕ) (n : FlatNode) → AreBelow (length n.variables) tests → Gets n (with_bits tests place n).node
+pub gets-bits : (tests : List ℕ) (place : ℕ) (n : FlatNode) → AreBelow (length n.variables) tests → Gets n (with_bits tests place n).node
 gets-bits tests zero n t = gets-self n
 gets-bits tests (suc place) n t =
     let args = Fixed (B false) ∷ [] in
@@ -215,7 +215,7 @@ gets-bits tests (suc place) n t =
     gets-both n bit.node (with_bits tests place bit.node).node both_steps (gets-bits tests place bit.node (higher (length n.variables) (length bit.node.variables) both_steps.longer tests t))
 
 module _ (types : List ObcType) where
-  gets-spelling : (t : FlatTy) (value : ℕ) (n : FlatNode) → value < length n.variables → Gets n (with_spelling types t value n).node
+  pub gets-spelling : (t : FlatTy) (value : ℕ) (n : FlatNode) → value < length n.variables → Gets n (with_spelling types t value n).node
   gets-spelling ty.Bool value n l = gets-self n
   gets-spelling ty.Int value n l = gets-self n
   gets-spelling (ty.Enum t) value n l =

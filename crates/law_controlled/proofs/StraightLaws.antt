@@ -134,7 +134,7 @@ module _ (k : ℕ) (es more : List FlatEqn) (low : StayBelow k es) (high : AreBe
   high_read v w r = among (λ x. k ≤ x) (r.0).targets v (among (λ (e : FlatEqn). AllByRecursion (λ x. k ≤ x) e.targets) more r.0 high r.1) r.2
 
   -- a chain from below stays among the first equations
-  low_chain : (v : ℕ) (vs : List ℕ) (end : ℕ) → v < k → EquationChain (es ++ more) v vs end → EquationChain es v vs end
+  pub low_chain : (v : ℕ) (vs : List ℕ) (end : ℕ) → v < k → EquationChain (es ++ more) v vs end → EquationChain es v vs end
   low_chain v [] end l c = by (read_cases es more v end c)
     where
       by : IsReadFor es v end ⊎ IsReadFor more v end → IsReadFor es v end

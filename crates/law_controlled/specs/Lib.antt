@@ -1,6 +1,7 @@
 pub mod Alike
 pub mod Allowed
 pub mod AtDepth
+pub mod Built
 pub mod Early
 pub mod Embedded
 pub mod Fitting

@@ -1,4 +1,4 @@
--- What may be in the way of the machines of a program whose nodes choose, where its contracts are kept. Of no program has any of it been seen.
+-- What may be in the way of the machines of a program whose nodes choose, where its contracts are kept. No program has any of it (`Built.antt`).
 -- Source: own.
 use Rattle.std.specs.Prelude.{ℕ, List, IsTrue, is_some}
 use Rattle.hp_lexer.specs.Lexing.{AreTokensOf}

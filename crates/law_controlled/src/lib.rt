@@ -4,6 +4,7 @@
 #![tactic(auto)]
 
 ghost use Rattle.law_controlled.specs.Allowed.{AllowedLaw};
+ghost use Rattle.law_controlled.specs.Built.{ChosenBuiltLaw};
 ghost use Rattle.law_controlled.specs.Early.{CircleLaw, SomeWaitsLaw};
 ghost use Rattle.law_controlled.specs.Embedded.{EmbeddedLaw, OwnContractLaw, OwnEmbeddedLaw};
 ghost use Rattle.law_controlled.specs.Headed.{HeadedLaw};
@@ -30,7 +31,7 @@ use law_choices::adding::{
     watched_nodes_choose,
 };
 use law_choices::answered::extended_nodes_close;
-use law_choices::depending::variables_of_outputs_and_inputs;
+use law_choices::depending::{labels_name_targets, variables_of_outputs_and_inputs};
 use law_choices::in_turn::{
     a_node_stands_for_each, a_node_tells_each_contract,
     nodes_that_choose_answer_as_the_program_allows, nodes_that_choose_stand_in_turn,
@@ -54,11 +55,13 @@ use law_choices::seeing::{
 };
 use law_choices::undisturbed::{
     controls_are_apart, ready_programs_keep_contracts, ready_programs_keep_dependence,
+    ready_programs_keep_places,
 };
 use law_drawing::mirrors::{drawn_games_are_kept, drawn_nodes_are_mirrored};
 use law_equations::fewer::nodes_are_compiled;
 use law_equations::fitting::{calls_are_kept, larger_names_are_free, names_fit, targets_differ};
 use law_equations::followed::names_are_own;
+use law_equations::made::comparisons_and_calls_have_places;
 use law_equations::shaped::{machines_have_form, shape_is_kept};
 use law_games::ready_games::{
     contracts_call_nothing, programs_of_texts_are_in_order, ready_nodes_are_settled,
@@ -233,9 +236,9 @@ pub fn a_worked_wait()
     ensures { SomeWaitsLaw }
 {}
 
-/// Where the contracts of the program of an accepted text are kept, few causes are left for which the compiler would have no machines of it: clocked equations of its nodes, and of the observers of contracts, read each other in no circle; those of nodes, and of all that is made of them, are regular, each contract has as many comparisons as its clocked equations, names are short, no machine is refused or forced to violate its contract, as many places and bits are seen of each node as its machine is told of, each controllable variable has the bits of its type, and machines have form.
-pub fn few_causes_are_left()
-    ensures { RemainingLaw }
+/// Where the contracts of the program of an accepted text are kept, nothing is in the way of its machines: clocked equations of its nodes, and of the observers of contracts, read each other in no circle; those of nodes, and of all that is made of them, are regular, each contract has as many comparisons as its clocked equations, names are short, no machine is refused or forced to violate its contract, as many places and bits are seen of each node as its machine is told of, no early bit of them depends on a controllable variable, each controllable variable has the bits of its type, and machines have form.
+pub fn machines_that_choose_are_built()
+    ensures { ChosenBuiltLaw }
 {
     ranks_of_points();
     ranks_are_kept();
@@ -268,6 +271,18 @@ pub fn few_causes_are_left()
     shape_is_kept();
     machines_are_spelled();
     clocks_of_texts_are_short();
+    ready_programs_keep_places();
+    own_contracts_wait_for_no_choice();
+    variables_of_outputs_and_inputs();
+    labels_name_targets();
+    comparisons_and_calls_have_places();
+}
+
+/// So no cause is left for which the compiler would have no machines of such a program.
+pub fn few_causes_are_left()
+    ensures { RemainingLaw }
+{
+    machines_that_choose_are_built();
 }
 
 /// Of a heater with three modes, one of which is chosen, nothing is free but the inputs.

@@ -47,7 +47,7 @@ each_map P f [] h = tt
 each_map P f (x ∷ xs) h = (h.0, each_map P f xs h.1)
 
 module _ {A B : Type 0} (f : A → B) where
-  map_has : (xs : List A) (x : A) → Contains xs x → Contains (map f xs) (f x)
+  pub map_has : (xs : List A) (x : A) → Contains xs x → Contains (map f xs) (f x)
   map_has [] x h = absurd (omega (arith, h.1))
   map_has (y ∷ xs) x h = by (λ g. map_has xs x g) (Contains-append_cases (y ∷ []) xs x h)
     where

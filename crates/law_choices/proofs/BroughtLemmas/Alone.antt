@@ -2,17 +2,22 @@
 use Rattle.std.proofs.Common.{◌≡◌, ℕ, Bool, true, false, if◌then◌else◌, List, [], ◌∷◌, ◌++◌, map, Option, None, Some, inl, inr, refl, ap, ap₂, ◌∙◌}
 use Rattle.hp_base.specs.declared.ty.Ty.{Ty}
 use Rattle.hp_flat.specs.Equations.{FlatEqn}
-use Rattle.hp_tree.specs.Blocks.{Block, block, Eqns, no_eqn, more_eqns, Eqn, define, switch, reset, automaton, Arms, no_arm, more_arms}
+use Rattle.hp_tree.specs.Blocks.{Block, block, Eqns, no_eqn, more_eqns, Eqn, define, switch, reset, automaton, Arms, no_arm, more_arms, States, no_state, more_states}
+use Rattle.hp_tree.specs.declared.block.Trans.{Trans}
+use Rattle.hp_tree.specs.Instant.{Body, Observer, Assume, Enforce, Equations, Head, Tail, Right, Test, Arms as ArmsOf, States as StatesOf, Until, Unless, First, Second, Third, Args}
 use Rattle.hp_tree.specs.Expressions.{Expr, constant, variable, last_of, one, two, choose, pre, fby, arrow, when_is, merge, call, Parts, no_part, more_parts}
 use Rattle.hp_tree.specs.Programs.{Contract}
 use Rattle.hp_typing.specs.Scopes.{with_variables}
 use Rattle.hp_typing.specs.Types.{type_of}
 use Rattle.law_judged.specs.Typed.Scopes.{Scope}
 use Rattle.law_automata.specs.Lowered.Standing.{Along}
-use Rattle.law_drawing.proofs.SteeredLemmas.Uncalled.{ArmsCallNothing, BlockCallsNothing, CallsNothing, EqnCallsNothing, EqnsCallNothing, PartsCallNothing}
+use Rattle.law_drawing.proofs.SteeredLemmas.Uncalled.{ArmsCallNothing, BlockCallsNothing, CallsNothing, ConditionsCallNothing, ContractCallsNothing, EqnCallsNothing, EqnsCallNothing, PartsCallNothing, StatesCallNothing, ToldCallsNothing}
+use Rattle.law_equations.specs.Flattened.Flatten.{Prefix, below}
 use Rattle.law_equations.specs.Made.Laws.{unplaced}
 use Rattle.law_equations.specs.Made.Making.{Known, Sketch}
 use Rattle.hp_watch.specs.Walk.{is_event, walk_block, walk_condition, walk_contract}
+use Rattle.law_choices.specs.Depending.Contracts.{at_assumed, at_enforced, found_in_contract, found_told}
+use Rattle.law_choices.specs.Places.Found.{behind, behind_state, at_body, at_condition, at_states, both_compared, found, found_in_arms, found_in_block, found_in_body, found_in_conditions, found_in_eqn, found_in_eqns, found_in_parts, found_in_states}
 use Rattle.law_choices.specs.Places.Laws.{events}
 use Rattle.law_choices.proofs.BroughtLemmas.Brought.{Brings, brought, brought_by, brought_in_arms, brought_in_block, brought_in_eqn, brought_in_eqns, brought_in_parts}
 use Rattle.law_choices.proofs.PlacesLemmas.Events.{heads_alike}
@@ -109,3 +114,66 @@ module _ {X Y : Type 0} (P : X → Y → Type 0) where
       let a = condition-goes c.assume x1.1 y1.1 b.1 in
       let e = condition-goes c.enforce x2.1 y2.1 a.1 in
       (along-both P (x1.0 ++ x2.0) (walk_condition c.enforce x2.1).0 (y1.0 ++ y2.0) (walk_condition c.enforce y2.1).0 (along-both P x1.0 x2.0 y1.0 y2.0 b.0 a.0) e.0, e.1)
+
+-- ---- what is found where nothing is called, whatever nodes give
+
+module _ (o u : List ℕ → List (List ℕ)) where
+  mutual
+    found-expr : (e : Expr) (w here : Prefix) → CallsNothing e → found o e w here ≡ found u e w here
+    found-expr (constant a c) w here n = refl
+    found-expr (variable a x) w here n = refl
+    found-expr (last_of a x) w here n = refl
+    found-expr (one a q b) w here n = found-expr b (below First w) (below First here) n
+    found-expr (two a q b c) w here n = ap₂ (λ xs ys. both_compared o q w here ++ (xs ++ ys)) (found-expr b (below First w) (below First here) n.0) (found-expr c (below Second w) (below Second here) n.1)
+    found-expr (choose a b c d) w here n = ap₂ (λ xs ys. xs ++ ys) (found-expr b (below First w) (below First here) n.0) (ap₂ (λ xs ys. xs ++ ys) (found-expr c (below Second w) (below Second here) n.1) (found-expr d (below Third w) (below Third here) n.2))
+    found-expr (pre a b) w here n = found-expr b (below First w) (below First here) n
+    found-expr (fby a b c) w here n = ap₂ (λ xs ys. xs ++ ys) (found-expr b (below First w) (below First here) n.0) (found-expr c (below Second w) (below Second here) n.1)
+    found-expr (arrow a b c) w here n = ap₂ (λ xs ys. xs ++ ys) (found-expr b (below First w) (below First here) n.0) (found-expr c (below Second w) (below Second here) n.1)
+    found-expr (when_is a b c x) w here n = found-expr b (below First w) (below First here) n
+    found-expr (merge a x ps) w here n = found-parts ps (below Args w) (below Args here) n
+    found-expr (call a f i es) w here n = absurd n
+
+    found-parts : (ps : Parts) (w here : Prefix) → PartsCallNothing ps → found_in_parts o ps w here ≡ found_in_parts u ps w here
+    found-parts no_part w here n = refl
+    found-parts (more_parts c e ps) w here n = ap₂ (λ xs ys. xs ++ ys) (found-expr e (below Head w) (below Head here) n.0) (found-parts ps (below Tail w) (below Tail here) n.1)
+
+  found-conditions : (ts : List Trans) (w here : Prefix) → ConditionsCallNothing ts → found_in_conditions o ts w here ≡ found_in_conditions u ts w here
+  found-conditions [] w here n = refl
+  found-conditions (t ∷ ts) w here n = ap₂ (λ xs ys. xs ++ ys) (found-expr t.cond (below Head w) (at_condition here) n.0) (found-conditions ts (below Tail w) (below Tail here) n.1)
+
+  mutual
+    found-block : (b : Block) (w here : Prefix) → BlockCallsNothing b → found_in_block o b w here ≡ found_in_block u b w here
+    found-block (block ds es) w here n = found-eqns es (below Equations w) (below Equations here) n
+
+    found-eqns : (es : Eqns) (w here : Prefix) → EqnsCallNothing es → found_in_eqns o es w here ≡ found_in_eqns u es w here
+    found-eqns no_eqn w here n = refl
+    found-eqns (more_eqns e es) w here n = ap₂ (λ xs ys. xs ++ ys) (found-eqn e (below Head w) (below Head here) n.0) (found-eqns es (below Tail w) (below Tail here) n.1)
+
+    found-eqn : (e : Eqn) (w here : Prefix) → EqnCallsNothing e → found_in_eqn o e w here ≡ found_in_eqn u e w here
+    found-eqn (define a ys e) w here n = found-expr e (below Right w) (below Right here) n
+    found-eqn (switch a e arms) w here n = ap₂ (λ xs ys. xs ++ ys) (found-expr e (below Test w) (below Test here) n.0) (found-arms arms (below ArmsOf w) (below ArmsOf here) n.1)
+    found-eqn (reset a b e) w here n = ap₂ (λ xs ys. xs ++ ys) (found-block b (below Body w) (below Body here) n.0) (found-expr e (below Test w) (below Test here) n.1)
+    found-eqn (automaton a ss) w here n = found-states ss (below StatesOf w) (at_states ss here) n
+
+    found-arms : (arms : Arms) (w here : Prefix) → ArmsCallNothing arms → found_in_arms o arms w here ≡ found_in_arms u arms w here
+    found-arms no_arm w here n = refl
+    found-arms (more_arms c b a arms) w here n = ap₂ (λ xs ys. xs ++ ys) (found-block b (below Head w) (below Head here) n.0) (found-arms arms (below Tail w) (below Tail here) n.1)
+
+    found-states : (ss : States) (w here : Prefix) → StatesCallNothing ss → found_in_states o ss w here ≡ found_in_states u ss w here
+    found-states no_state w here n = refl
+    found-states (more_states f b until unless a ss) w here n =
+        ap₂ (λ xs ys. xs ++ ys) (found-body until b (below Body (below Head w)) (at_body unless here) n.0)
+        (ap₂ (λ xs ys. xs ++ ys) (found-conditions until (below Until (below Head w)) (below Equations (at_body unless here)) n.1)
+        (ap₂ (λ xs ys. xs ++ ys) (found-conditions unless (below Unless (below Head w)) here n.2) (found-states ss (below Tail w) (behind_state unless here) n.3)))
+
+    found-body : (until : List Trans) (b : Block) (w here : Prefix) → BlockCallsNothing b → found_in_body o until b w here ≡ found_in_body u until b w here
+    found-body until (block ds es) w here n = found-eqns es (below Equations w) (below Tail (behind until (below Equations here))) n
+
+  found-told : (e : Option Expr) (w here : Prefix) → ToldCallsNothing e → found_told o e w here ≡ found_told u e w here
+  found-told None w here n = refl
+  found-told (Some e) w here n = found-expr e w here n
+
+  pub found-alone : (c : Contract) → ContractCallsNothing (Some c) → found_in_contract o c ≡ found_in_contract u c
+  found-alone c n =
+      ap₂ (λ xs ys. xs ++ ys) (found-block c.body (λ p. Observer ∷ p) (λ p. Body ∷ p) n.0)
+      (ap₂ (λ xs ys. xs ++ ys) (found-told c.assume (λ p. Assume ∷ p) (at_assumed c.body) n.1) (found-told c.enforce (λ p. Enforce ∷ p) (at_enforced c.body) n.2))

@@ -14,7 +14,7 @@ use Rattle.hp_tree.specs.Instant.{Assume, Enforce, Equations, Instance, Observer
 use Rattle.hp_tree.specs.Meaning.{declares}
 use Rattle.hp_tree.specs.Programs.{Contract, Node, TypeDecl}
 use Rattle.hp_typing.specs.Scopes.{inside, inside_node, with_variables}
-use Rattle.hp_meaning.specs.Contract.Slots.{Slot, slots, slots_of_block, slots_of_contract, slots_of_equations}
+use Rattle.hp_meaning.specs.Contract.Slots.{FreePlace, Slot}
 use Rattle.law_judged.specs.Named.Scoped.{BlockScoped, NodeScoped, also, interface, no_names, ContractScoped}
 use Rattle.law_judged.specs.Replaced.Fitting.{BlockNames, ContractNames}
 use Rattle.law_judged.specs.Typed.Scopes.{Scope}
@@ -33,20 +33,20 @@ use Rattle.law_drawing.proofs.InshapeLemmas.TypesRead.{Agrees, agrees_inside, ag
 use Rattle.law_drawing.proofs.SteeredLemmas.Uncalled.{BlockCallsNothing, ContractCallsNothing, ToldCallsNothing}
 use Rattle.law_equations.specs.Flattened.Flatten.{Prefix, below}
 use Rattle.hp_watch.specs.Observing.{all_handed_on, condition_of, inputs_for, lines_of, observer_of, outputs_at, with_lines}
-use Rattle.hp_watch.specs.Walk.{behind, walk, walk_block, walk_condition, walk_contract, walk_eqns}
+use Rattle.hp_watch.specs.Walk.{behind, walk_block, walk_condition, walk_contract, walk_eqns}
 use Rattle.law_choices.specs.Observed.Contracts.{IsOther}
-use Rattle.law_choices.specs.Places.Groups.{groups, groups_of_equations}
+use Rattle.law_choices.specs.Places.Groups.{groups_of_block, groups_of_contract, groups_of_equations, groups_of_told}
+use Rattle.law_choices.proofs.BroughtLemmas.Apiece.{Apiece, apiece-as, apiece-at, apiece-nothing, apiece-two}
 use Rattle.law_choices.proofs.BroughtLemmas.Brought.{brought, brought_in_block, free_types}
 use Rattle.law_choices.proofs.BroughtLemmas.Rows.{R, rows-append}
-use Rattle.law_choices.proofs.BroughtLemmas.Seen.{Knows, Reading, Sees, expr-sees, sees-apiece, sees-as, sees-at, sees-nothing, sees-two}
-use Rattle.law_choices.proofs.BroughtLemmas.Walks.{Judging, behind-lasts, eqns-see, reading-at}
+use Rattle.law_choices.proofs.BroughtLemmas.Seen.{Knows, Reading, expr-sees}
+use Rattle.law_choices.proofs.BroughtLemmas.Walks.{Judging, eqns-see, reading-at}
 use Rattle.law_choices.proofs.ObservedLemmas.Fitting.{none}
 use Rattle.law_choices.proofs.ObservedLemmas.Known.{IsKnown}
 use Rattle.law_choices.proofs.ObservedLemmas.Removable.{observer_ok}
 use Rattle.law_choices.proofs.ObservedLemmas.Scoped.{observer_scoped}
 use Rattle.law_choices.proofs.ObservedLemmas.Sound.{front_sound, observer_sound, old_grows, old_names, old_scope, scoped_front}
 use Rattle.law_choices.proofs.ObservedLemmas.Swapped.{eqns_to, test_to, to}
-use Rattle.law_choices.proofs.PlacesLemmas.Grouped.{eqns-row, expr-row}
 use Rattle.law_choices.proofs.PlacesLemmas.Slots.{outputs_slots}
 
 -- ---- lines behind a block
@@ -62,11 +62,6 @@ low_behind enums tys (more_eqns e es) more = ap (λ xs. lowered_eqn enums same_n
 handed_none : (given : List ℕ → List Ty) (r : Scope) (enums : Enumerations) (tys : Types) (i : ℕ) (ds : List Decl) → R given r (lowered_eqns enums same_name tys 0 (eqns_of (all_handed_on i ds))) ≡ []
 handed_none given r enums tys i [] = refl
 handed_none given r enums tys i (d ∷ ds) = handed_none given r enums tys (i + 1) ds
-
--- what a condition has
-abbrev slots_told : (List TypeDecl) → (List ℕ → List Decl) → (List ℕ → Prefix → List Slot) → Option Expr → tree.Scope → Prefix → List Slot
-slots_told types outs callee None names w = []
-slots_told types outs callee (Some e) names w = slots types outs callee e names w
 
 module _ (types : List TypeDecl) (enums : Enumerations) (among before : List ℕ → Option Node) (s r : Scope) (empty_s : (x : List ℕ) → lookup s.variables x ≡ None) (empty_r : (x : List ℕ) → lookup r.variables x ≡ None) (none_s : s.variables ≡ []) (conses : r.constructors ≡ s.constructors)
     (constants : (q : Const) → ConstantIs types r q) (known : (f : List ℕ) → lookup r.nodes f ≡ before f) (n : Node) (c : Contract) (is : n.contract ≡ Some c) (k : IsKnown types n) (sound : NodeSound types among s n)
@@ -107,8 +102,8 @@ module _ (types : List TypeDecl) (enums : Enumerations) (among before : List ℕ
         → BlockOk none_known 0 b → BlockOk none_known 0 (with_lines b n.outputs (lines_of n c)) → BlockTypes (HasConstant enums r) (with_lines b n.outputs (lines_of n c))
         → BlockSound types before outer (lasts_in m.outputs no_lasts) (with_lines b n.outputs (lines_of n c)) → BlockCallsNothing b → ToldCallsNothing c.assume → ToldCallsNothing c.enforce
         → BlockSound types among (inside_node s n) (lasts_in n.outputs no_lasts) b → ToldSound types among (inside (inside_node s n) b) (lasts_of b (lasts_in n.outputs no_lasts)) c.assume → ToldSound types among (inside (inside_node s n) b) (lasts_of b (lasts_in n.outputs no_lasts)) c.enforce
-        → Sees (λ es. let x = walk_block b es in let y = walk_condition c.assume x.1 in behind (x.0 ++ y.0) (walk_condition c.enforce y.1)) (brought_in_block given outer (lowered_body_of enums (types_of m) n.span (with_lines b n.outputs (lines_of n c))))
-        (λ w. slots_of_block types outs callee b names (below Observer w) ++ (slots_told types outs callee c.assume (tree.scope_of b names) (below Assume w) ++ slots_told types outs callee c.enforce (tree.scope_of b names) (below Enforce w)))
+        → Apiece (λ es. let x = walk_block b es in let y = walk_condition c.assume x.1 in behind (x.0 ++ y.0) (walk_condition c.enforce y.1)) (brought_in_block given outer (lowered_body_of enums (types_of m) n.span (with_lines b n.outputs (lines_of n c))))
+        (λ w. groups_of_block types outs callee b names (below Observer w) ++ (groups_of_told types outs callee c.assume (tree.scope_of b names) (below Assume w) ++ groups_of_told types outs callee c.enforce (tree.scope_of b names) (below Enforce w)))
 
     -- conditions, which are judged in a scope without nodes
     told-moved : (X judged : Scope) (lasts : Lasts) → to types among none [] X ≡ judged → (q : Option Expr) → ToldCallsNothing q → ToldSound types among X lasts q → ToldSound types before judged lasts q
@@ -116,11 +111,9 @@ module _ (types : List TypeDecl) (enums : Enumerations) (among before : List ℕ
     told-moved X judged lasts e (Some q) a h = subst (λ z. TestSound types before z lasts q) e (test_to types among before [] X lasts q a h)
 
     told-sees : (judged new : Scope) (inside_names : tree.Scope) (lasts : Lasts) → Reading types before given outs callee calls judged new same_name inside_names → (q : Option Expr) (at : Span) → ToldSound types before judged lasts q
-        → Sees (walk_condition q) (brought given new (renamed same_name (condition_of q at))) (λ w. slots_told types outs callee q inside_names w)
-    told-sees judged new inside_names lasts reading None at h = sees-nothing (walk_condition None) (λ w. []) (λ rest. refl) (λ w. refl)
-    told-sees judged new inside_names lasts reading (Some q) at h =
-        sees-apiece (walk q) (brought given new (renamed same_name q)) (λ w. groups types outs callee q inside_names w) (λ w. slots types outs callee q inside_names w) (expr-row types outs callee q inside_names)
-        (expr-sees types before given outs callee calls judged new same_name inside_names lasts reading q ty.Bool h.1 h.0)
+        → Apiece (walk_condition q) (brought given new (renamed same_name (condition_of q at))) (λ w. groups_of_told types outs callee q inside_names w)
+    told-sees judged new inside_names lasts reading None at h = apiece-nothing (walk_condition None) (λ rest. refl)
+    told-sees judged new inside_names lasts reading (Some q) at h = expr-sees types before given outs callee calls judged new same_name inside_names lasts reading q ty.Bool h.1 h.0
 
     of-block : (b : Block) → OfBlock b
     of-block (block ds es) own inner here okb okm has soundm a a1 a2 h h1 h2 =
@@ -142,31 +135,30 @@ module _ (types : List TypeDecl) (enums : Enumerations) (among before : List ℕ
         let bared : EqnsSound types before judged lasts es = subst (λ z. EqnsSound types before z lasts es) (sym same_scope) (eqns_to types among before [] es X lasts a h.1.1) in
         let front = front_sound types among before s r empty_s empty_r conses constants known n c k.scoped scoped o.interface ds es own inner here soundm.1.1 in
         let reading = reading-at types before given outs callee calls enums r within judged inside_names j in
-        let told : (q : Option Expr) (at : Span) → ToldCallsNothing q → ToldSound types among X lasts q → Sees (walk_condition q) (brought given new (renamed same_name (condition_of q at))) (λ w. slots_told types outs callee q inside_names w) =
+        let told : (q : Option Expr) (at : Span) → ToldCallsNothing q → ToldSound types among X lasts q → Apiece (walk_condition q) (brought given new (renamed same_name (condition_of q at))) (λ w. groups_of_told types outs callee q inside_names w) =
         λ q at b t. told-sees judged new inside_names lasts reading q at (told-moved X judged lasts (sym same_scope) q b t) in
         let B = R given new (lowered_eqns enums same_name tys 0 es) in
         let A = brought given new (renamed same_name (condition_of c.assume c.span)) in
         let E = brought given new (renamed same_name (condition_of c.enforce c.span)) in
-        let body = behind-lasts types before given outs callee calls (walk_eqns es) B ds (λ w. slots_of_equations types outs callee es inside_names w) (below Equations)
-        (sees-apiece (walk_eqns es) B (λ w. groups_of_equations types outs callee es inside_names w) (λ w. slots_of_equations types outs callee es inside_names w) (eqns-row types outs callee es inside_names)
-        (eqns-see types before given outs callee calls enums r itself_renames within es okb.1 (scoped_front (also (also (interface m) []) locals) (also (also no_names m.outputs) locals) es lines here.3) (types_front (HasConstant enums r) es lines has.1) front judged inside_names lasts j bared)) in
-        let first = sees-two (walk_eqns es) (walk_condition c.assume) B A (λ w. slots_of_block types outs callee (block ds es) names w) (λ w. slots_told types outs callee c.assume inside_names w) (below Observer) (below Assume) body (told c.assume c.span a1 h1) in
+        let body = apiece-at (walk_eqns es) B (λ w. groups_of_equations types outs callee es inside_names w) (λ w. groups_of_block types outs callee (block ds es) names w) (below Equations) (λ w. refl)
+        (eqns-see types before given outs callee calls enums r itself_renames within es okb.1 (scoped_front (also (also (interface m) []) locals) (also (also no_names m.outputs) locals) es lines here.3) (types_front (HasConstant enums r) es lines has.1) front judged inside_names lasts j bared) in
+        let first = apiece-two (walk_eqns es) (walk_condition c.assume) B A (λ w. groups_of_block types outs callee (block ds es) names w) (λ w. groups_of_told types outs callee c.assume inside_names w) (below Observer) (below Assume) body (told c.assume c.span a1 h1) in
         let v = λ (xs : List (List Ty)). let x = walk_eqns es xs in behind x.0 (walk_condition c.assume x.1) in
-        let ss : Prefix → List Slot = λ w. slots_of_block types outs callee (block ds es) names (below Observer w) ++ slots_told types outs callee c.assume inside_names (below Assume w) in
-        let all = sees-two v (walk_condition c.enforce) (B ++ A) E ss (λ w. slots_told types outs callee c.enforce inside_names w) (λ w. w) (below Enforce) first (told c.enforce c.span a2 h2) in
+        let gs : Prefix → List (List FreePlace) = λ w. groups_of_block types outs callee (block ds es) names (below Observer w) ++ groups_of_told types outs callee c.assume inside_names (below Assume w) in
+        let all = apiece-two v (walk_condition c.enforce) (B ++ A) E gs (λ w. groups_of_told types outs callee c.enforce inside_names w) (λ w. w) (below Enforce) first (told c.enforce c.span a2 h2) in
         let walked = λ (xs : List (List Ty)). let x = walk_eqns es xs in let y = walk_condition c.assume x.1 in behind (x.0 ++ y.0) (walk_condition c.enforce y.1) in
-        let target : Prefix → List Slot = λ w. slots_of_block types outs callee (block ds es) names (below Observer w) ++ (slots_told types outs callee c.assume inside_names (below Assume w) ++ slots_told types outs callee c.enforce inside_names (below Enforce w)) in
-        sees-as walked ((B ++ A) ++ E) (brought_in_block given outer (lowered_body_of enums (types_of m) n.span (with_lines (block ds es) n.outputs lines))) target
+        let target : Prefix → List (List FreePlace) = λ w. groups_of_block types outs callee (block ds es) names (below Observer w) ++ (groups_of_told types outs callee c.assume inside_names (below Assume w) ++ groups_of_told types outs callee c.enforce inside_names (below Enforce w)) in
+        apiece-as walked ((B ++ A) ++ E) (brought_in_block given outer (lowered_body_of enums (types_of m) n.span (with_lines (block ds es) n.outputs lines))) target
         (ap (λ z. R given z (lowered_eqns enums same_name tys 0 (eqns_of (list_of_eqns es ++ lines)) ++ [])) (scope_renamed same_name locals outer)
         ∙ ap (R given new) (append-nil (lowered_eqns enums same_name tys 0 (eqns_of (list_of_eqns es ++ lines))) ∙ low_behind enums tys es lines)
         ∙ rows-append given new (lowered_eqns enums same_name tys 0 es) (lowered_eqns enums same_name tys 0 (eqns_of lines))
         ∙ ap (λ ys. B ++ (A ++ (E ++ ys))) (handed_none given new enums tys 0 n.outputs) ∙ ap (λ ys. B ++ (A ++ ys)) (append-nil E) ∙ sym (append_assoc B A E))
-        (sees-at walked ((B ++ A) ++ E) (λ w. ss w ++ slots_told types outs callee c.enforce inside_names (below Enforce w)) target (λ w. w)
-        (λ w. ap free_types (append_assoc (slots_of_block types outs callee (block ds es) names (below Observer w)) (slots_told types outs callee c.assume inside_names (below Assume w)) (slots_told types outs callee c.enforce inside_names (below Enforce w)))) all)
+        (apiece-at walked ((B ++ A) ++ E) (λ w. gs w ++ groups_of_told types outs callee c.enforce inside_names (below Enforce w)) target (λ w. w)
+        (λ w. append_assoc (groups_of_block types outs callee (block ds es) names (below Observer w)) (groups_of_told types outs callee c.assume inside_names (below Assume w)) (groups_of_told types outs callee c.enforce inside_names (below Enforce w))) all)
 
-    -- the walk over the contract
-    pub contract-sees : Sees (walk_contract c) (brought_in_block given outer (lowered_node enums m).body) (λ w. slots_of_contract types outs callee (Some c) names w)
-    contract-sees =
+    -- the walk over the contract finds groups one by one
+    pub contract-apiece : Apiece (walk_contract c) (brought_in_block given outer (lowered_node enums m).body) (λ w. groups_of_contract types outs callee c names w)
+    contract-apiece =
         let o = k.observable in
         let a : ContractCallsNothing (Some c) = subst ContractCallsNothing is k.alone in
         let h : ContractSound types among (inside_node s n) (lasts_in n.outputs no_lasts) (Some c) = subst (ContractSound types among (inside_node s n) (lasts_in n.outputs no_lasts)) is sound.1.1.1.1.1 in

@@ -1,5 +1,5 @@
 -- Among the slots of a block no inputs stand, so the flags of its free places say which of these are early.
-use Rattle.std.proofs.Common.{◌≡◌, ℕ, Bool, true, false, if◌then◌else◌, List, [], ◌∷◌, ◌++◌, Option, None, Some}
+use Rattle.std.proofs.Common.{◌≡◌, ℕ, Bool, true, false, if◌then◌else◌, List, [], ◌∷◌, ◌++◌, length, suc, Option, None, Some, refl, ap}
 use Rattle.std.specs.Prelude.{⊤, ◌&&◌}
 use Rattle.hp_base.specs.declared.ty.Const.{Const}
 use Rattle.hp_base.specs.declared.ty.Ty.{Ty}
@@ -7,15 +7,17 @@ use Rattle.hp_base.specs.declared.ty.Ty.TheVariants as ty
 use Rattle.hp_tree.specs.declared.block.Trans.{Trans}
 use Rattle.hp_tree.specs.Expressions.{Expr, constant, variable, last_of, one, two, choose, pre, fby, arrow, when_is, merge, call, Exprs, no_expr, more_exprs, Parts, no_part, more_parts}
 use Rattle.hp_tree.specs.Blocks.{Decl, Block, block, Eqns, no_eqn, more_eqns, Eqn, define, switch, reset, automaton, Arms, no_arm, more_arms, States, no_state, more_states}
-use Rattle.hp_tree.specs.Programs.{TypeDecl}
+use Rattle.hp_tree.specs.Programs.{TypeDecl, Contract, Node}
+use Rattle.hp_tree.specs.Reaction.{Each}
 use Rattle.hp_tree.specs.Operators.{is_comparison}
-use Rattle.hp_tree.specs.ExpressionTypes.{Scope, typed_in, scope_of, type_of}
-use Rattle.hp_tree.specs.Instant.{Body, Equations, Head, Tail, Right, Test, Arms as ArmsOf, States as StatesOf, Until, Unless, First, Second, Third, Args, Instance, Place}
-use Rattle.hp_meaning.specs.Contract.Slots.{Slot, register, free, input, control, FreePlace, free_among, is_int, slots, slots_of_all, slots_of_parts, slots_of_conditions, slots_of_block, slots_of_equations, slots_of_equation, slots_of_arms, slots_of_states}
+use Rattle.hp_tree.specs.ExpressionTypes.{Scope, typed_in, scope_of, type_of, untyped}
+use Rattle.hp_tree.specs.Instant.{Body, Observer, Assume, Enforce, Equations, Head, Tail, Right, Test, Arms as ArmsOf, States as StatesOf, Until, Unless, First, Second, Third, Args, Instance, Place}
+use Rattle.hp_meaning.specs.Contract.Slots.{Slot, register, free, input, control, FreePlace, free_among, is_int, slots, slots_of_all, slots_of_parts, slots_of_conditions, slots_of_block, slots_of_equations, slots_of_equation, slots_of_arms, slots_of_states, slots_of_contract, callee_slots}
 use Rattle.law_automata.specs.Lowered.Standing.{Along}
 use Rattle.law_equations.specs.Flattened.Flatten.{Prefix, below}
 use Rattle.hp_watch.specs.declared.watching.Free.{Free}
 use Rattle.law_choices.specs.Playing.Mirrored.{early_flags}
+use Rattle.law_choices.proofs.PlacesLemmas.Grouped.{told_slots}
 use Rattle.law_choices.proofs.PlacesLemmas.Slots.{lasts_slots, outputs_slots}
 
 -- none of the slots is an input
@@ -33,16 +35,24 @@ none-both (free p t ∷ ss) ts h k = none-both ss ts h k
 none-both (control p t ∷ ss) ts h k = none-both ss ts h k
 none-both (input p t ∷ ss) ts h k = absurd h
 
--- What is so of early places and their variables is so of variables whose flag is set.
-pub flags-kept : (early : Place → Bool) (D : ℕ → Type 0) (ss : List Slot) (fs : List Free) → HasNoInput ss → Along (λ (f : Free) (q : FreePlace). early q.0 ≡ true → D f.variable) fs (free_among ss)
-    → Along (λ (f : Free) (b : Bool). b ≡ true → D f.variable) fs (early_flags early ss)
-flags-kept early D [] [] h k = tt
-flags-kept early D [] (f ∷ fs) h k = absurd k
-flags-kept early D (register p t ∷ ss) fs h k = flags-kept early D ss fs h k
-flags-kept early D (control p t ∷ ss) fs h k = flags-kept early D ss fs h k
-flags-kept early D (input p t ∷ ss) fs h k = absurd h
-flags-kept early D (free p t ∷ ss) [] h k = absurd k
-flags-kept early D (free p t ∷ ss) (f ∷ fs) h k = (k.0, flags-kept early D ss fs h k.1)
+-- there are as many flags as free places
+pub flags-many : (early : Place → Bool) (ss : List Slot) → length (early_flags early ss) ≡ length (free_among ss)
+flags-many early [] = refl
+flags-many early (register p k ∷ ss) = flags-many early ss
+flags-many early (free p t ∷ ss) = ap suc (flags-many early ss)
+flags-many early (input p t ∷ ss) = ap suc (flags-many early ss)
+flags-many early (control p t ∷ ss) = flags-many early ss
+
+-- What is so of free places whose place is early is so of those whose flag is set.
+pub flags-kept : (early : Place → Bool) (E : Place → Type 0) (D : Free → Type 0) (ss : List Slot) (fs : List Free) → HasNoInput ss → Each (λ (q : FreePlace). early q.0 ≡ true → E q.0) (free_among ss) → Along (λ (f : Free) (q : FreePlace). E q.0 → D f) fs (free_among ss)
+    → Along (λ (f : Free) (b : Bool). b ≡ true → D f) fs (early_flags early ss)
+flags-kept early E D [] [] h e k = tt
+flags-kept early E D [] (f ∷ fs) h e k = absurd k
+flags-kept early E D (register p t ∷ ss) fs h e k = flags-kept early E D ss fs h e k
+flags-kept early E D (control p t ∷ ss) fs h e k = flags-kept early E D ss fs h e k
+flags-kept early E D (input p t ∷ ss) fs h e k = absurd h
+flags-kept early E D (free p t ∷ ss) [] h e k = absurd k
+flags-kept early E D (free p t ∷ ss) (f ∷ fs) h e k = ((λ b. k.0 (e.0 b)), flags-kept early E D ss fs h e.1 k.1)
 
 lasts-none : (types : List TypeDecl) (ds : List Decl) (w : Prefix) → HasNoInput (lasts_slots types ds w)
 lasts-none types [] w = tt
@@ -127,3 +137,26 @@ module _ (types : List TypeDecl) (outs : List ℕ → List Decl) (callee : List 
         let M = slots_of_states types outs callee ss names (below Tail w) in
         none-both A (C ++ (D ++ M)) (block-none b names (below Body (below Head w)))
         (none-both C (D ++ M) (conditions-none until (scope_of b names) (below Until (below Head w))) (none-both D M (conditions-none unless names (below Unless (below Head w))) (states-none ss names (below Tail w))))
+
+  told-none : (o : Option Expr) (names : Scope) (w : Prefix) → HasNoInput (told_slots types outs callee o names w)
+  told-none None names w = tt
+  told-none (Some e) names w = expr-none e names w
+
+  pub contract-none : (c : Contract) (names : Scope) (w : Prefix) → HasNoInput (slots_of_contract types outs callee (Some c) names w)
+  contract-none c names w =
+      let inside = scope_of c.body names in
+      let B = slots_of_block types outs callee c.body names (below Observer w) in
+      let A = told_slots types outs callee c.assume inside (below Assume w) in
+      let E = told_slots types outs callee c.enforce inside (below Enforce w) in
+      none-both B (A ++ E) (block-none c.body names (below Observer w)) (none-both A E (told-none c.assume inside (below Assume w)) (told-none c.enforce inside (below Enforce w)))
+
+-- nor among those of a callee's contract
+pub callee-none : (types : List TypeDecl) (o : Option Node) (w : Prefix) → HasNoInput (callee_slots types o w)
+callee-none types None w = tt
+callee-none types (Some n) w = by n.contract
+  where
+    by : (o : Option Contract) → HasNoInput (callee_slots types (Some (record n { contract = o })) w)
+    by None = tt
+    by (Some c) =
+        let names = typed_in n.inputs (typed_in n.outputs untyped) in
+        none-both (lasts_slots types n.outputs w) (slots_of_contract types (λ f. []) (λ f w. []) (Some c) names w) (lasts-none types n.outputs w) (contract-none types (λ f. []) (λ f w. []) (λ f w. tt) c names w)

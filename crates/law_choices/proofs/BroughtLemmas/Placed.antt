@@ -306,12 +306,12 @@ module _ (observers : Observing) (inside : (f : List ℕ) (o : Observed) → obs
 -- ---- the free places of an observer
 
 module _ (given : List ℕ → List Ty) (k : Known) (d : Sketch) (n : FlatNode) (variables : n.variables ≡ d.variables) (gives : (f : List ℕ) → map (flat_type k.types) (given f) ≡ shown_types k.types (outputs_of (k.nodes f))) where
-  typed-here : (x : ℕ) (t : FlatTy) → HasType d x t → (type_at n x ≡ t) × (x < length n.variables)
+  pub typed-here : (x : ℕ) (t : FlatTy) → HasType d x t → (type_at n x ≡ t) × (x < length n.variables)
   typed-here x t h =
       let at : slice_get n.variables x ≡ Some h.0 = ap (λ vs. slice_get vs x) variables ∙ h.1 in
       (ap type_of at ∙ h.2, number_below n.variables x h.0 at)
 
-  here-types : (i : ℕ) (e : FlatEqn) (l : List Ty) → Brings given k d e l → types_in n (free_by n i e.right e.targets) ≡ map (flat_type k.types) l
+  pub here-types : (i : ℕ) (e : FlatEqn) (l : List Ty) → Brings given k d e l → types_in n (free_by n i e.right e.targets) ≡ map (flat_type k.types) l
   here-types i e l (inl c) = compared-types given k d n typed-here i e l c
   here-types i e l (inr c) = called-types given k d n typed-here i e l c ∙ sym (gives c.callee) ∙ ap (map (flat_type k.types)) (sym c.brings)
 

@@ -66,10 +66,10 @@ use Rattle.law_choices.specs.Observed.Contracts.{IsObservable}
 use Rattle.hp_meaning.specs.Contract.FreePlaces.{declared_outputs}
 use Rattle.law_choices.proofs.BroughtLemmas.Alone.{block-alone, brought-alike, contract-goes}
 use Rattle.law_choices.proofs.BroughtLemmas.Blocks.{node-brings}
-use Rattle.law_choices.specs.Places.Groups.{groups_of_block}
+use Rattle.law_choices.specs.Places.Groups.{groups_of_block, groups_of_contract}
 use Rattle.law_choices.proofs.BroughtLemmas.Apiece.{row-types, types_apiece, types_of_places}
 use Rattle.law_choices.proofs.BroughtLemmas.Brought.{Brings, brought_in_block, free_types, joined_types}
-use Rattle.law_choices.proofs.BroughtLemmas.Contracts.{contract-sees, low-ok}
+use Rattle.law_choices.proofs.BroughtLemmas.Contracts.{contract-apiece, low-ok}
 use Rattle.law_choices.proofs.BroughtLemmas.Placed.{AreIn, outputs-shown, own-types, types_in}
 use Rattle.law_choices.proofs.BroughtLemmas.Walks.{Judging, block-sees}
 use Rattle.law_choices.proofs.FlatLemmas.Among.{each_at}
@@ -82,7 +82,7 @@ use Rattle.law_choices.proofs.ObservedLemmas.Standing as standing
 use Rattle.law_choices.proofs.OnClocksLemmas.Programs.{some_of}
 use Rattle.law_choices.proofs.PlacesLemmas.Numbers.{AtNumber, numbered}
 use Rattle.law_choices.proofs.PlacesLemmas.Relating.{block-goes}
-use Rattle.law_choices.proofs.PlacesLemmas.Grouped.{block-row}
+use Rattle.law_choices.proofs.PlacesLemmas.Grouped.{block-row, contract-row}
 use Rattle.law_choices.proofs.PlacesLemmas.Slots.{outputs_slots}
 use Rattle.law_choices.proofs.SeeingLemmas.Integers.{low-stands, outs-are}
 
@@ -153,7 +153,7 @@ module _ (program after : List Item) (r : IsReady program after) (removable : Is
   there = ready_seen program after r (some_of (types_of program) form.counts) known_all
 
   module _ (earlier : List Item) (n : Node) (stands : Stands after earlier n) where
-    known : IsKnown types n
+    pub known : IsKnown types n
     known = (each_at (IsKnown types) stands.0 n earlier (subst (EachNode (IsKnown types)) stands.1 (there).known)).0
 
     old : NodeNames IsOld n
@@ -186,7 +186,7 @@ module _ (program after : List Item) (r : IsReady program after) (removable : Is
       abbrev k : Known
       k = known_of (lowered_program seen)
 
-      observer_stands : (later : List Item) × (reverse (lowered_program seen) ≡ later ++ NodeItem m ∷ before)
+      pub observer_stands : (later : List Item) × (reverse (lowered_program seen) ≡ later ++ NodeItem m ∷ before)
       observer_stands =
           let of_split : observers (reverse after) ≡ observers stands.0 ++ (NodeItem (observer_of n c) ∷ observers earlier) =
           ap observers stands.1 ∙ flat_map-append item_of stands.0 (NodeItem n ∷ earlier) ∙ ap (λ o. observers stands.0 ++ (observer_if n o ++ observers earlier)) is in (
@@ -218,16 +218,16 @@ module _ (program after : List Item) (r : IsReady program after) (removable : Is
           low-ok types enums (node_among earlier) (node_among before) s q (standing.no_variables earlier) (standing.no_variables before) (no_variables earlier) same constants_there (nodes_known before apart_before) n c is known sound typed (around_old types enums n c old o.few)
 
       -- what calls would bring
-      abbrev calls_bring : List ℕ → List Ty
+      abbrev pub calls_bring : List ℕ → List Ty
       calls_bring f = free_types (outputs_slots (outputs_of (k.nodes f)) (λ p. p))
 
-      -- The free places of the observer have the types that a walk over the contract finds, whatever is called.
-      pub observer-brings : (g : FlatNode) → IsMadeOf k m g → (given : List ℕ → List Ty) (outs : List ℕ → List Decl) (callee : List ℕ → Prefix → List Slot) → ((f : List ℕ) (w : Prefix) → given f ≡ free_types (outputs_slots (outs f) (below Instance w) ++ callee f (below Instance w)))
-          → (L : List (List Ty)) × ((types_in g (observed c g).free ≡ map (flat_type k.types) (joined_types L)) × AreIn g (observed c g).free) × ((w : Prefix) → joined_types L ≡ free_types (slots_of_contract types outs callee (Some c) (typed_in n.inputs (typed_in n.outputs untyped)) w))
-      observer-brings g made given outs callee calls =
+      -- The comparisons of the observer's equations bring what a walk over the contract finds, one by one in the order of slots, whatever is called.
+      pub observer-apiece : (g : FlatNode) → IsMadeOf k m g → (given : List ℕ → List Ty) (outs : List ℕ → List Decl) (callee : List ℕ → Prefix → List Slot) → ((f : List ℕ) (w : Prefix) → given f ≡ free_types (outputs_slots (outs f) (below Instance w) ++ callee f (below Instance w)))
+          → (L : List (List Ty)) × Along (AtNumber (Brings calls_bring k (sketch_node k m)) g.eqns) (walk_contract c (events_from 0 g.eqns)).0 L × ((w : Prefix) → L ≡ types_apiece (groups_of_contract types outs callee c (typed_in n.inputs (typed_in n.outputs untyped)) w))
+      observer-apiece g made given outs callee calls =
           let o = (known).observable in
           let sk = sketch_node k m in
-          let S = contract-sees types enums (node_among earlier) (node_among before) s q (standing.no_variables earlier) (standing.no_variables before) (no_variables earlier) same constants_there (nodes_known before apart_before) n c is known sound typed (around_old types enums n c old o.few) given outs callee calls in
+          let S = contract-apiece types enums (node_among earlier) (node_among before) s q (standing.no_variables earlier) (standing.no_variables before) (no_variables earlier) same constants_there (nodes_known before apart_before) n c is known sound typed (around_old types enums n c old o.few) given outs callee calls in
           let labels = brought_in_block given (body_scope q m) m.body in
           let others = brought_in_block calls_bring (body_scope q m) m.body in
           let alone : ContractCallsNothing (Some c) = subst ContractCallsNothing is (known).alone in
@@ -236,8 +236,18 @@ module _ (program after : List Item) (r : IsReady program after) (removable : Is
           let numbers = numbered (Brings calls_bring k sk) [] g.eqns others events in
           let walked = (contract-goes (AtNumber (Brings calls_bring k sk) g.eqns) c (events_from 0 g.eqns) others numbers).0 in
           let found : (walk_contract c others).0 ≡ S.0 = found_first (walk_contract c) labels others S.0 same_labels S.1 in
-          let along = subst (Along (AtNumber (Brings calls_bring k sk) g.eqns) (walk_contract c (events_from 0 g.eqns)).0) found walked in
-          (S.0, own-types calls_bring k sk g made.variables (λ f. outputs-shown k.types (outputs_of (k.nodes f)) (λ p. p)) (walk_contract c (events_from 0 g.eqns)).0 S.0 along, S.2)
+          (S.0, subst (Along (AtNumber (Brings calls_bring k sk) g.eqns) (walk_contract c (events_from 0 g.eqns)).0) found walked, S.2)
+
+      -- So the free places of the observer have the types of the slots of the contract.
+      pub observer-brings : (g : FlatNode) → IsMadeOf k m g → (given : List ℕ → List Ty) (outs : List ℕ → List Decl) (callee : List ℕ → Prefix → List Slot) → ((f : List ℕ) (w : Prefix) → given f ≡ free_types (outputs_slots (outs f) (below Instance w) ++ callee f (below Instance w)))
+          → (L : List (List Ty)) × ((types_in g (observed c g).free ≡ map (flat_type k.types) (joined_types L)) × AreIn g (observed c g).free) × ((w : Prefix) → joined_types L ≡ free_types (slots_of_contract types outs callee (Some c) (typed_in n.inputs (typed_in n.outputs untyped)) w))
+      observer-brings g made given outs callee calls =
+          let B = observer-apiece g made given outs callee calls in
+          let names = typed_in n.inputs (typed_in n.outputs untyped) in (
+            B.0,
+            own-types calls_bring k (sketch_node k m) g made.variables (λ f. outputs-shown k.types (outputs_of (k.nodes f)) (λ p. p)) (walk_contract c (events_from 0 g.eqns)).0 B.0 B.1,
+            λ w. ap joined_types (B.2 w) ∙ row-types (groups_of_contract types outs callee c names w) ∙ ap types_of_places (contract-row types outs callee c names w),
+          )
 
     -- ---- its body
 

@@ -207,7 +207,7 @@ early_apart program n p o x right control early g reads =
 
 -- ---- events
 
-abbrev AtEvent : List FlatEqn → (ℕ → Place → Type 0) → ℕ → Spot × Spot → Type 0
+abbrev pub AtEvent : List FlatEqn → (ℕ → Place → Type 0) → ℕ → Spot × Spot → Type 0
 AtEvent es P i c = (e : FlatEqn) × (slice_get es i ≡ Some e) × Along P e.targets (places_of c.0)
 
 module _ (S T : ℕ → Place → Type 0) (g : Place → Place) (one : (v : ℕ) (p : Place) → IsInContract p → S v (g p) → T v p) where
@@ -242,7 +242,7 @@ module _ {A : Type 0} (es : List FlatEqn) (S : A → ℕ → Place → Type 0) w
       same : {d : FlatEqn} → Some d ≡ Some e → d ≡ e
       same q = cc
 
-  each_event : (is : List ℕ) (fs : Both) → Along (AtEvent es (λ v p. Unit {0})) is fs → ((a : A) → Along (AtEvent es (S a)) is fs) → Along (AtEvent es (λ v p. (a : A) → S a v p)) is fs
+  pub each_event : (is : List ℕ) (fs : Both) → Along (AtEvent es (λ v p. Unit {0})) is fs → ((a : A) → Along (AtEvent es (S a)) is fs) → Along (AtEvent es (λ v p. (a : A) → S a v p)) is fs
   each_event [] [] h k = tt
   each_event [] (c ∷ fs) h k = absurd h
   each_event (i ∷ is) [] h k = absurd h

@@ -9,17 +9,18 @@ use Rattle.hp_tree.specs.declared.block.Trans.{Trans}
 use Rattle.hp_tree.specs.declared.expr.Op2.{Op2}
 use Rattle.hp_tree.specs.Expressions.{Expr, constant, variable, last_of, one, two, choose, pre, fby, arrow, when_is, merge, call, Exprs, no_expr, more_exprs, Parts, no_part, more_parts}
 use Rattle.hp_tree.specs.Blocks.{Decl, Block, block, Eqns, no_eqn, more_eqns, Eqn, define, switch, reset, automaton, Arms, no_arm, more_arms, States, no_state, more_states}
-use Rattle.hp_tree.specs.Programs.{TypeDecl}
+use Rattle.hp_tree.specs.Programs.{TypeDecl, Contract}
 use Rattle.hp_tree.specs.Operators.{is_comparison}
 use Rattle.hp_tree.specs.ExpressionTypes.{Scope, typed_in, scope_of, type_of}
-use Rattle.hp_tree.specs.Instant.{Body, Named, Equations, Head, Tail, Right, Test, Arms as ArmsOf, States as StatesOf, Until, Unless, First, Second, Third, Args, Instance, Step}
-use Rattle.hp_meaning.specs.Contract.Slots.{Slot, register, free, input, control, FreePlace, free_among, is_int, slots, slots_of_all, slots_of_parts, slots_of_conditions, slots_of_block, slots_of_equations, slots_of_equation, slots_of_arms, slots_of_states}
+use Rattle.hp_tree.specs.Instant.{Body, Observer, Assume, Enforce, Named, Equations, Head, Tail, Right, Test, Arms as ArmsOf, States as StatesOf, Until, Unless, First, Second, Third, Args, Instance, Step}
+use Rattle.hp_meaning.specs.Contract.Slots.{Slot, register, free, input, control, FreePlace, free_among, is_int, slots, slots_of_all, slots_of_parts, slots_of_conditions, slots_of_block, slots_of_equations, slots_of_equation, slots_of_arms, slots_of_states, slots_of_contract}
 use Rattle.law_automata.specs.Lowered.Standing.{Along}
 use Rattle.law_equations.specs.Flattened.Flatten.{Prefix, below}
 use Rattle.hp_watch.specs.Walk.{compares}
+use Rattle.law_choices.specs.Depending.Contracts.{at_assumed, at_enforced, found_in_contract, found_told}
 use Rattle.law_choices.specs.Places.Spots.{Spot, compared}
 use Rattle.law_choices.specs.Places.Found.{Both, behind, behind_state, at_body, at_states, at_condition, both_compared, found, found_in_all, found_in_parts, found_in_conditions, found_in_block, found_in_eqns, found_in_eqn, found_in_arms, found_in_states, found_in_body}
-use Rattle.law_choices.specs.Places.Groups.{AreAlike, GroupsLaw, IsGroupOf, IsInFront, compared_groups, free_outputs, groups, groups_of_all, groups_of_arms, groups_of_block, groups_of_conditions, groups_of_equation, groups_of_equations, groups_of_parts, groups_of_states, in_a_row, unless_integer}
+use Rattle.law_choices.specs.Places.Groups.{AreAlike, GroupsLaw, IsGroupOf, IsInFront, compared_groups, free_outputs, groups, groups_of_all, groups_of_arms, groups_of_block, groups_of_conditions, groups_of_contract, groups_of_equation, groups_of_equations, groups_of_parts, groups_of_states, groups_of_told, in_a_row, unless_integer}
 use Rattle.law_choices.proofs.PlacesLemmas.Relating.{along-both}
 use Rattle.law_choices.proofs.PlacesLemmas.Slots.{lasts_slots, outputs_slots, same-comparison}
 
@@ -36,7 +37,7 @@ pub row-append : (xs ys : List (List FreePlace)) → in_a_row (xs ++ ys) ≡ in_
 row-append [] ys = refl
 row-append (x ∷ xs) ys = ap (λ zs. x ++ zs) (row-append xs ys) ∙ sym (append_assoc x (in_a_row xs) (in_a_row ys))
 
-lasts-none : (types : List TypeDecl) (ds : List Decl) (w : Prefix) → free_among (lasts_slots types ds w) ≡ []
+pub lasts-none : (types : List TypeDecl) (ds : List Decl) (w : Prefix) → free_among (lasts_slots types ds w) ≡ []
 lasts-none types [] w = refl
 lasts-none types (d ∷ ds) w = by d.last (lasts-none types ds w)
   where
@@ -52,6 +53,11 @@ outputs-free (d ∷ ds) w = by d.ty (outputs-free ds w)
     by ty.Bool h = ap (λ zs. (w (Named d.name ∷ []), ty.Bool) ∷ zs) h
     by ty.Int h = h
     by (ty.Enum x) h = ap (λ zs. (w (Named d.name ∷ []), ty.Enum x) ∷ zs) h
+
+-- what a condition has
+abbrev pub told_slots : List TypeDecl → (List ℕ → List Decl) → (List ℕ → Prefix → List Slot) → Option Expr → Scope → Prefix → List Slot
+told_slots types outs callee None names w = []
+told_slots types outs callee (Some e) names w = slots types outs callee e names w
 
 module _ (types : List TypeDecl) (outs : List ℕ → List Decl) (callee : List ℕ → Prefix → List Slot) (P : Prefix → Type 0) (closed : (s : Step) (w : Prefix) → P w → P (below s w)) where
   abbrev names_of : List ℕ → List (List ℕ)
@@ -81,7 +87,7 @@ module _ (types : List TypeDecl) (outs : List ℕ → List Decl) (callee : List 
   behind-lasts ds v ss fs gs h = (h.0, h.1 ∙ sym (among-append (lasts_slots types ds v) ss ∙ ap (λ xs. xs ++ free_among ss) (lasts-none types ds v)))
 
   mutual
-    expr-grouped : (e : Expr) (names : Scope) (w here : Prefix) → P w → Grouped (slots types outs callee e names w) (found names_of e w here) (groups types outs callee e names w)
+    pub expr-grouped : (e : Expr) (names : Scope) (w here : Prefix) → P w → Grouped (slots types outs callee e names w) (found names_of e w here) (groups types outs callee e names w)
     expr-grouped (constant s c) names w here h = (tt, refl)
     expr-grouped (variable s x) names w here h = (tt, refl)
     expr-grouped (last_of s x) names w here h = (tt, refl)
@@ -134,7 +140,7 @@ module _ (types : List TypeDecl) (outs : List ℕ → List Decl) (callee : List 
       (expr-grouped t.cond names (below Head w) (at_condition here) (closed Head w h)) (conditions-grouped ts names (below Tail w) (below Tail here) (closed Tail w h))
 
   mutual
-    block-grouped : (b : Block) (names : Scope) (w here : Prefix) → P w → Grouped (slots_of_block types outs callee b names w) (found_in_block names_of b w here) (groups_of_block types outs callee b names w)
+    pub block-grouped : (b : Block) (names : Scope) (w here : Prefix) → P w → Grouped (slots_of_block types outs callee b names w) (found_in_block names_of b w here) (groups_of_block types outs callee b names w)
     block-grouped (block ds es) names w here h =
         behind-lasts ds w (slots_of_equations types outs callee es (typed_in ds names) (below Equations w)) (found_in_eqns names_of es (below Equations w) (below Equations here)) (groups_of_equations types outs callee es (typed_in ds names) (below Equations w))
         (eqns-grouped es (typed_in ds names) (below Equations w) (below Equations here) (closed Equations w h))
@@ -186,6 +192,24 @@ module _ (types : List TypeDecl) (outs : List ℕ → List Decl) (callee : List 
         (grouped-both C (D ++ M) Q (U ++ V) GC (GD ++ GM) (conditions-grouped until (scope_of b names) (below Until (below Head w)) (below Equations (at_body unless here)) (closed Until (below Head w) (closed Head w h)))
         (grouped-both D M U V GD GM (conditions-grouped unless names (below Unless (below Head w)) here (closed Unless (below Head w) (closed Head w h))) (states-grouped ss names (below Tail w) (behind_state unless here) (closed Tail w h))))
 
+  -- a contract, whose parts stand under the first steps from a node
+  told-grouped : (o : Option Expr) (names : Scope) (w here : Prefix) → P w → Grouped (told_slots types outs callee o names w) (found_told names_of o w here) (groups_of_told types outs callee o names w)
+  told-grouped None names w here h = (tt, refl)
+  told-grouped (Some e) names w here h = expr-grouped e names w here h
+
+  pub contract-grouped : (c : Contract) (names : Scope) → P (λ p. Observer ∷ p) → P (λ p. Assume ∷ p) → P (λ p. Enforce ∷ p) → Grouped (slots_of_contract types outs callee (Some c) names (λ p. p)) (found_in_contract names_of c) (groups_of_contract types outs callee c names (λ p. p))
+  contract-grouped c names o a e =
+      let inside = scope_of c.body names in
+      let B = slots_of_block types outs callee c.body names (λ p. Observer ∷ p) in
+      let A = told_slots types outs callee c.assume inside (λ p. Assume ∷ p) in
+      let E = told_slots types outs callee c.enforce inside (λ p. Enforce ∷ p) in
+      let fa = found_told names_of c.assume (λ p. Assume ∷ p) (at_assumed c.body) in
+      let fe = found_told names_of c.enforce (λ p. Enforce ∷ p) (at_enforced c.body) in
+      let ga = groups_of_told types outs callee c.assume inside (λ p. Assume ∷ p) in
+      let ge = groups_of_told types outs callee c.enforce inside (λ p. Enforce ∷ p) in
+      grouped-both B (A ++ E) (found_in_block names_of c.body (λ p. Observer ∷ p) (λ p. Body ∷ p)) (fa ++ fe) (groups_of_block types outs callee c.body names (λ p. Observer ∷ p)) (ga ++ ge) (block-grouped c.body names (λ p. Observer ∷ p) (λ p. Body ∷ p) o)
+      (grouped-both A E fa fe ga ge (told-grouped c.assume inside (λ p. Assume ∷ p) (at_assumed c.body) a) (told-grouped c.enforce inside (λ p. Enforce ∷ p) (at_enforced c.body) e))
+
 -- in a row they are the free places of a part
 pub expr-row : (types : List TypeDecl) (outs : List ℕ → List Decl) (callee : List ℕ → Prefix → List Slot) (e : Expr) (names : Scope) (w : Prefix) → in_a_row (groups types outs callee e names w) ≡ free_among (slots types outs callee e names w)
 expr-row types outs callee e names w = (expr-grouped types outs callee (λ w. ⊤) (λ s w h. tt) e names w w tt).1
@@ -195,6 +219,23 @@ eqns-row types outs callee es names w = (eqns-grouped types outs callee (λ w. �
 
 pub block-row : (types : List TypeDecl) (outs : List ℕ → List Decl) (callee : List ℕ → Prefix → List Slot) (b : Block) (names : Scope) (w : Prefix) → in_a_row (groups_of_block types outs callee b names w) ≡ free_among (slots_of_block types outs callee b names w)
 block-row types outs callee b names w = (block-grouped types outs callee (λ w. ⊤) (λ s w h. tt) b names w w tt).1
+
+told-row : (types : List TypeDecl) (outs : List ℕ → List Decl) (callee : List ℕ → Prefix → List Slot) (o : Option Expr) (names : Scope) (w : Prefix) → in_a_row (groups_of_told types outs callee o names w) ≡ free_among (told_slots types outs callee o names w)
+told-row types outs callee None names w = refl
+told-row types outs callee (Some e) names w = expr-row types outs callee e names w
+
+pub contract-row : (types : List TypeDecl) (outs : List ℕ → List Decl) (callee : List ℕ → Prefix → List Slot) (c : Contract) (names : Scope) (w : Prefix) → in_a_row (groups_of_contract types outs callee c names w) ≡ free_among (slots_of_contract types outs callee (Some c) names w)
+contract-row types outs callee c names w =
+    let inside = scope_of c.body names in
+    let B = slots_of_block types outs callee c.body names (below Observer w) in
+    let A = told_slots types outs callee c.assume inside (below Assume w) in
+    let E = told_slots types outs callee c.enforce inside (below Enforce w) in
+    let gb = groups_of_block types outs callee c.body names (below Observer w) in
+    let ga = groups_of_told types outs callee c.assume inside (below Assume w) in
+    let ge = groups_of_told types outs callee c.enforce inside (below Enforce w) in
+    row-append gb (ga ++ ge)
+    ∙ ap₂ (λ xs ys. xs ++ ys) (block-row types outs callee c.body names (below Observer w)) (row-append ga ge ∙ ap₂ (λ xs ys. xs ++ ys) (told-row types outs callee c.assume inside (below Assume w)) (told-row types outs callee c.enforce inside (below Enforce w)) ∙ sym (among-append A E))
+    ∙ sym (among-append B (A ++ E))
 
 pub front-below : (s : Step) (w : Prefix) → IsInFront w → IsInFront (below s w)
 front-below s w h = (h.0 ++ s ∷ [], λ p. h.1 (s ∷ p) ∙ sym (append_assoc h.0 (s ∷ []) p))

@@ -35,14 +35,14 @@ all_true xs = map (λ x. true) xs
 -- ---- what is said of slots
 
 module _ (early : Place → Bool) where
-  flags-append : (ss rest : List Slot) → early_flags early (ss ++ rest) ≡ early_flags early ss ++ early_flags early rest
+  pub flags-append : (ss rest : List Slot) → early_flags early (ss ++ rest) ≡ early_flags early ss ++ early_flags early rest
   flags-append [] rest = refl
   flags-append (register p k ∷ ss) rest = flags-append ss rest
   flags-append (free p t ∷ ss) rest = ap (λ bs. early p ∷ bs) (flags-append ss rest)
   flags-append (input p t ∷ ss) rest = ap (λ bs. true ∷ bs) (flags-append ss rest)
   flags-append (control p t ∷ ss) rest = flags-append ss rest
 
-  flags-none : (ss : List Slot) → free_among ss ≡ [] → early_flags early ss ≡ []
+  pub flags-none : (ss : List Slot) → free_among ss ≡ [] → early_flags early ss ≡ []
   flags-none [] h = refl
   flags-none (register p k ∷ ss) h = flags-none ss h
   flags-none (free p t ∷ ss) h = absurd cc

@@ -1,5 +1,5 @@
 -- The equations of a node whose comparisons and calls have names hold values of its free places: of their types, and the instant's own wherever it looks.
-use Rattle.std.proofs.Common.{◌≡◌, ◌⊎◌, inl, inr, ℕ, suc, ◌+◌, ◌<◌, ◌≤◌, List, [], ◌∷◌, ◌++◌, length, map, Option, Some, refl, sym, ap, ap₂, subst, ◌∙◌, arith}
+use Rattle.std.proofs.Common.{◌≡◌, ◌⊎◌, inl, inr, ℕ, ◌+◌, ◌<◌, ◌≤◌, List, [], ◌∷◌, ◌++◌, length, map, Option, Some, refl, sym, ap, ap₂, subst, ◌∙◌, arith}
 use Rattle.std.specs.Prelude.{Bool, true, false, IsTrue}
 use Rattle.std.specs.List.{AllByRecursion, flat_map, range_with_len}
 use Rattle.std.proofs.lemmas.List.{length-map, map-append}
@@ -20,7 +20,7 @@ use Rattle.hp_tree.specs.Values.{AreOf}
 use Rattle.hp_meaning.specs.Causal.Sources.{below}
 use Rattle.hp_meaning.specs.Contract.Forgetting.{erased}
 use Rattle.hp_meaning.specs.Contract.FreePlaces.{IsFree}
-use Rattle.hp_meaning.specs.Contract.Slots.{FreePlace, Slot, control, free, free_among, free_places, input, register, slots_of_node}
+use Rattle.hp_meaning.specs.Contract.Slots.{FreePlace, Slot, free, free_among, free_places, slots_of_node}
 use Rattle.hp_automata.specs.Lowering.{Enumerations, lowered_node}
 use Rattle.law_automata.specs.Lowered.Standing.{Along}
 use Rattle.law_equations.specs.Made.Making.{Known, outputs_of, sketch_node}
@@ -52,17 +52,9 @@ use Rattle.law_choices.proofs.PlacesLemmas.Named.{Label}
 use Rattle.law_choices.proofs.SeeingLemmas.Defined.{HasItsValue, each-output}
 use Rattle.law_choices.proofs.SeeingLemmas.Integers.{IsScoped}
 use Rattle.law_choices.proofs.SeeingLemmas.Labels.{Cell, IsFine, IsFineNaming, Names, all_cells, both-true, cell_typed, free_of_cell, free_of_cells, label_cells, named-is, names-fine, naming_cells, output_cells, rest-named, somes}
+use Rattle.law_choices.proofs.BroughtLemmas.Inputless.{flags-many}
 use Rattle.law_choices.proofs.SeeingLemmas.Listed.{IsHeld, IsOfType, MayRow, Row, SameKind, aligned, all-rows, along-parts, as-long, both-fit, fit-slots, free-either, held-slots, in-row-free, inputs-held, inputs-of-types, joined, own-held, own-typed, own-values, place_of_row, row_value, rows-cells, same-type}
 use Rattle.law_choices.proofs.SeeingLemmas.Ordered.{AreAsMany, AreAt, at_rights, labels, labels-are, order-rows, rights-hold}
-
--- ---- as many flags as free places
-
-flags-many : (early : Place → Bool) (ss : List Slot) → length (early_flags early ss) ≡ length (free_among ss)
-flags-many early [] = refl
-flags-many early (register p k ∷ ss) = flags-many early ss
-flags-many early (control p t ∷ ss) = flags-many early ss
-flags-many early (input p t ∷ ss) = ap suc (flags-many early ss)
-flags-many early (free p t ∷ ss) = ap suc (flags-many early ss)
 
 -- other values in the equations of the body
 abbrev in_body : Instant → Instant → Instant

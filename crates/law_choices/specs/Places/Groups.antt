@@ -1,6 +1,6 @@
 -- The free places that each comparison and each call of a part brings, in the order of slots.
 -- Source: own. A comparison brings its own place where it compares integers. A call brings its outputs that are no integers, and behind them the free places of the contract that is called.
-use Rattle.std.specs.Prelude.{ℕ, ◌≡◌, ◌⊎◌, if◌then◌else◌, List, [], ◌∷◌, ◌++◌, map}
+use Rattle.std.specs.Prelude.{ℕ, ◌≡◌, ◌⊎◌, if◌then◌else◌, List, [], ◌∷◌, ◌++◌, map, Option, None, Some}
 use Rattle.hp_base.specs.declared.ty.Ty.{Ty}
 use Rattle.hp_base.specs.declared.ty.Ty.TheVariants as ty
 use Rattle.hp_tree.specs.declared.block.Trans.{Trans}
@@ -8,8 +8,8 @@ use Rattle.hp_tree.specs.declared.expr.Op2.{Op2}
 use Rattle.hp_tree.specs.Expressions.{Expr, constant, variable, last_of, one, two, choose, pre, fby, arrow, when_is, merge, call, Exprs, no_expr, more_exprs, Parts, no_part, more_parts}
 use Rattle.hp_tree.specs.ExpressionTypes.{Scope, typed_in, scope_of, type_of}
 use Rattle.hp_tree.specs.Blocks.{Decl, Block, block, Eqns, no_eqn, more_eqns, Eqn, define, switch, reset, automaton, Arms, no_arm, more_arms, States, no_state, more_states}
-use Rattle.hp_tree.specs.Programs.{TypeDecl}
-use Rattle.hp_tree.specs.Instant.{Body, Named, Equations, Head, Tail, Right, Test, Arms as ArmsOf, States as StatesOf, Until, Unless, First, Second, Third, Args, Instance, Place}
+use Rattle.hp_tree.specs.Programs.{TypeDecl, Contract}
+use Rattle.hp_tree.specs.Instant.{Body, Observer, Assume, Enforce, Named, Equations, Head, Tail, Right, Test, Arms as ArmsOf, States as StatesOf, Until, Unless, First, Second, Third, Args, Instance, Place}
 use Rattle.hp_meaning.specs.Contract.Slots.{Slot, FreePlace, free_among, is_int, slots_of_block}
 use Rattle.law_automata.specs.Lowered.Standing.{Along}
 use Rattle.law_equations.specs.Flattened.Flatten.{Prefix, below}
@@ -86,6 +86,15 @@ module _ (types : List TypeDecl) (outs : List ℕ → List Decl) (callee : List 
         groups_of_block b names (below Body (below Head w))
         ++ (groups_of_conditions until (scope_of b names) (below Until (below Head w))
         ++ (groups_of_conditions unless names (below Unless (below Head w)) ++ groups_of_states ss names (below Tail w)))
+
+  -- of what a contract assumes or enforces, and of a contract
+  abbrev pub groups_of_told : Option Expr → Scope → Prefix → List (List FreePlace)
+  groups_of_told None names w = []
+  groups_of_told (Some e) names w = groups e names w
+
+  abbrev pub groups_of_contract : Contract → Scope → Prefix → List (List FreePlace)
+  groups_of_contract c names w =
+      groups_of_block c.body names (below Observer w) ++ (groups_of_told c.assume (scope_of c.body names) (below Assume w) ++ groups_of_told c.enforce (scope_of c.body names) (below Enforce w))
 
   -- What a comparison or a call brings. The prefix of what is called is as is said.
   abbrev pub IsGroupOf : (Prefix → Type 0) → Spot → List FreePlace → Type 0
