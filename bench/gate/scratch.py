@@ -201,6 +201,8 @@ class Scratch:
         is_proof = '.proofs.' in module.name
         if item.name in self.opaque:
             return opened(item)
+        if item.kind == 'block' and is_proof and item.lines[0].startswith('abbrev'):
+            return item.text()
         if item.kind == 'block' and is_proof:
             return '\n'.join(thinned(item.lines, self.asked[module.name]))
         if item.kind == 'definition' and is_proof:
@@ -363,7 +365,7 @@ def link(top, folder, crates):
         shutil.rmtree(f'{folder}/crates/{crate}', ignore_errors=True)
         shutil.copytree(f'{top}/crates/{crate}', f'{folder}/crates/{crate}', copy_function=os.link)
     with open(f'{folder}/crates.txt', 'w', encoding='utf-8') as file:
-        file.write(''.join(listed[crate] for crate in crates) + f'scratch: {" ".join(crates)}\n')
+        file.write(''.join(listed[crate] for crate in crates) + f'scratch: {" ".join(crates)} indexmap\n')
     shutil.copy(f'{top}/HANDLES', folder)
 
 
