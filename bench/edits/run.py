@@ -79,8 +79,17 @@ def changed_functions(edit, folder):
             heads = list(re.finditer(r'^( *)(?:pub(?:\(crate\))? )?fn (\w+)', before, re.M))
             if not heads or f'\n{heads[-1][1]}}}\n' in before[heads[-1].end():]:
                 return []
-            found.append(heads[-1][2])
+            found.append(f'{owner_of(before, heads[-1], path)}{heads[-1][2]}')
     return sorted(set(found))
+
+
+def owner_of(before, head, path):
+    """What stands in front of a function's name, so that no other has it: the type of its methods, with the trait that they are of, or its file."""
+    impls = re.findall(r'^impl(?:<[^>]*>)? (?:(\w+)(?:<.*>)? for )?(\w+)', before, re.M)
+    if head[1] and impls:
+        return f'{impls[-1][1]}{impls[-1][0]}::'
+    stem = os.path.basename(path).removesuffix('.rt')
+    return '' if stem == 'lib' else f'{stem}::'
 
 
 def tell_functions(rt):

@@ -184,9 +184,33 @@ def read_by(command):
     return command[2:3] + command[3] if command[0] == 'set' else ()
 
 
+def chosen(command, alike):
+    """A choice as a copy, where its condition is known or both its values are the same."""
+    if command[2] != '@mux':
+        return command
+    test, first, second = (alike.get(it, it) for it in command[3])
+    if first == second or test in ('true', 'false'):
+        return (*command[:2], command[3][2 if test == 'false' else 1], ())
+    return command
+
+
+def simple_of(machine):
+    """The commands, with needless choices as copies. What is set once, to another name or a constant, is alike."""
+    found = list(flat(machine['step']))
+    times = collections.Counter(name for command, _ in found for name in given_by(command))
+    names = {one[0] for one in listed(machine['mem'])}
+    grows, alike = True, {}
+    while grows:
+        found = [(chosen(command, alike) if command[0] == 'set' else command, around) for command, around in found]
+        copies = {it[1]: alike.get(it[2], it[2]) for it, _ in found if it[0] == 'set' and not it[2].startswith('@') and times[it[1]] == 1 and it[1] not in names}
+        grows = copies != alike
+        alike = copies
+    return found
+
+
 def needed_of(machine):
     """The commands from which outputs are computed, now or at a later step, and the names that these read."""
-    left, names, found, grows = list(flat(machine['step'])), {one[0] for one in listed(machine['out'])}, [], True
+    left, names, found, grows = simple_of(machine), {one[0] for one in listed(machine['out'])}, [], True
     while grows:
         grows, rest = False, []
         for command, around in left:
@@ -233,7 +257,8 @@ def fewer(before, after):
         for machine in (old, new):
             commands, names = needed_of(machine)
             kept = [sorted(plain(it) for it in listed(machine[part]) if it[0] in names) for part in ('mem', 'inst')]
-            found.append((*kept, *operations_of(commands, {it[0]: it[-1] for it in listed(machine['inst'])})))
+            instances = {it[0]: it[-1] for it in listed(machine['inst'])}
+            found.append((*kept, operations_of(commands, instances)[0], operations_of([it for it, _ in flat(machine['step'])], instances)[1]))
         for part, one, other in zip(('mem', 'inst', 'operations'), *found):
             if one != other:
                 yield f'{name}: {part}'
