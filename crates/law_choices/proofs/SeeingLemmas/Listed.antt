@@ -52,6 +52,7 @@ use Rattle.law_choices.specs.Closed.Clocking.{DefinesOwn, IsCopy}
 use Rattle.law_choices.specs.Coded.Codes.{bits_at, bits_of_kind, bits_of_value}
 use Rattle.law_choices.specs.Coded.Laws.{IsTypedAt}
 use Rattle.law_choices.specs.Flat.Names.{is_body_name, variable_of}
+use Rattle.law_choices.specs.Flat.Places.{IsOn}
 use Rattle.law_choices.specs.InTurn.Nodes.{Contracted}
 use Rattle.law_choices.specs.Places.Named.{HasCopy}
 use Rattle.law_choices.specs.Playing.Inputs.{placed as place_of, places_in_row}
@@ -70,7 +71,7 @@ use Rattle.law_choices.proofs.PlayingLemmas.Flags.{declared-cons}
 use Rattle.law_choices.proofs.SeeingLemmas.Defined.{HasItsValue, IsSome}
 use Rattle.law_choices.proofs.SeeingLemmas.Labels.{Cell, cell_typed, free_of_cell, label_cells, naming_cells, output_cells, somes}
 use Rattle.law_choices.proofs.SeeingLemmas.Ordered.{IsCallRow, IsRow, IsRowOf, MayBeRow, OutputsAre}
-use Rattle.law_choices.proofs.SeeingLemmas.Sole.{IsOn, each-in, off-unset}
+use Rattle.law_choices.proofs.SeeingLemmas.Sole.{each-in, off-unset}
 
 -- ---- lists
 
