@@ -13,6 +13,8 @@ pub mod Sole
 pub mod Integers
 pub mod Ordered
 pub mod Listed
+pub mod Looked
+pub mod Rowed
 pub mod PlantRuns
 pub mod Callees
 pub mod HeldByName

@@ -49,7 +49,8 @@ use Rattle.law_choices.specs.Observed.Contracts.{IsObservable}
 use Rattle.hp_meaning.specs.Contract.FreePlaces.{declared_outputs}
 use Rattle.law_choices.proofs.BroughtLemmas.Brought.{free_types, joined_types}
 use Rattle.law_choices.proofs.BroughtLemmas.Placed.{AreIn, in-both, in-grown, in-moved, last_placed, observed_types, outputs-shown, placed-grows, placed-in, placed-types, shown, shown_types, types-grown, types-moved, types_in}
-use Rattle.law_choices.proofs.BroughtLemmas.Programs.{apart, body-brings, observer-brings}
+use Rattle.law_choices.proofs.BroughtLemmas.Bodies.{body-brings}
+use Rattle.law_choices.proofs.BroughtLemmas.Programs.{apart, observer-brings}
 use Rattle.law_choices.proofs.BroughtLemmas.Seen.{free-append}
 use Rattle.law_choices.proofs.BroughtLemmas.Walks.{lasts-none}
 use Rattle.law_choices.proofs.AddingLemmas.Embeds.{embedded-grows}
@@ -450,12 +451,12 @@ module _ (program after : List Item) (r : IsReady program after) (removable : Is
 
       called-types : types_in node called_free ≡ map (flat_type k.types) body_seen
       called-types =
-          let B = body-brings program after r removable form short nothing observable earlier n stands plant made given callee calls in
+          let B = body-brings program after r removable form earlier n stands plant made given callee calls in
           placed-types seen inside plant begun grown_own given k (sketch_node k (lowered_node enums n)) made.variables gives (walked n plant) B.0 B.1 ∙ ap (map (flat_type k.types)) (B.2 (below Body here))
 
       called-in : AreIn node called_free
       called-in =
-          let B = body-brings program after r removable form short nothing observable earlier n stands plant made given callee calls in
+          let B = body-brings program after r removable form earlier n stands plant made given callee calls in
           placed-in seen inside plant begun grown_own given k (sketch_node k (lowered_node enums n)) made.variables gives (walked n plant) B.0 B.1
 
       -- the types of the free places of the node that is surveyed are those of its slots

@@ -81,7 +81,7 @@ along-append P [] vs (y ∷ ys) ws h k = absurd h
 along-append P (x ∷ xs) vs [] ws h k = absurd h
 along-append P (x ∷ xs) vs (y ∷ ys) ws h k = (h.0, along-append P xs vs ys ws h.1 k)
 
-no-elements : {A : Type 0} (xs : List A) → length xs ≡ 0 → xs ≡ []
+pub no-elements : {A : Type 0} (xs : List A) → length xs ≡ 0 → xs ≡ []
 no-elements [] h = refl
 no-elements (x ∷ xs) h = absurd (omega (arith, h))
 
@@ -243,7 +243,7 @@ compared-kinds op.Mul k m c e = absurd cc
 compared-kinds op.Div k m c e = absurd cc
 compared-kinds op.Rem k m c e = absurd cc
 
-no-copy : (o : Op2) (args : List Atom) → IsCopy (operator (obc_two o) args) → ⊥
+pub no-copy : (o : Op2) (args : List Atom) → IsCopy (operator (obc_two o) args) → ⊥
 no-copy op.Lt args c = c
 no-copy op.Le args c = c
 no-copy op.Gt args c = c
@@ -300,10 +300,10 @@ module _ (laws : NodeLaws) (types : List ObcType) (all : Callees) (observers : O
   abbrev clocks : ℕ → Clock
   clocks = ((seen laws types all observers n c g).keeps).clocks
 
-  abbrev own_places : Placed
+  abbrev pub own_places : Placed
   own_places = let fits = ((g.is).is_watched).fits in placed observers (length plant.eqns) (embedded (fits.own).node (own_site (length n.inputs) plant) plant)
 
-  abbrev free_by_number : ℕ → List Free
+  abbrev pub free_by_number : ℕ → List Free
   free_by_number m = free_placed observers own_places m
 
   -- the number of an event, and what may be said of it
@@ -324,7 +324,7 @@ module _ (laws : NodeLaws) (types : List ObcType) (all : Callees) (observers : O
       omega (arith, below, long, e)
 
   -- a variable has its type in the node that is watched
-  typed-there : (x : ℕ) (t : FlatTy) → HasType (sketch_node k low) x t → type_at s.node x ≡ t
+  pub typed-there : (x : ℕ) (t : FlatTy) → HasType (sketch_node k low) x t → type_at s.node x ≡ t
   typed-there x t h =
       let at = ap (λ vs. slice_get vs x) made ∙ h.1 in
       same-type x (number_below plant.variables x h.0 at) ∙ ap type_in at ∙ h.2
@@ -357,14 +357,14 @@ module _ (laws : NodeLaws) (types : List ObcType) (all : Callees) (observers : O
     pub free : free_by_number m ≡ map place_of_row rows ++ more
 
   module _ (m : ℕ) (e : FlatEqn) (at_number_is : slice_get plant.eqns m ≡ Some e) where
-    there : slice_get s.node.eqns m ≡ Some e
+    pub there : slice_get s.node.eqns m ≡ Some e
     there = let q = more_eqns in ap (λ es. slice_get es m) q.1 ∙ get_front plant.eqns q.0 m (number_below plant.eqns m e at_number_is) ∙ at_number_is
 
-    numbers : EqnWithin (length plant.variables) e
+    pub numbers : EqnWithin (length plant.variables) e
     numbers = let w = ((g.of_node).based).well in let i = w.within in at_number (EqnWithin (length plant.variables)) plant.eqns m e at_number_is i.eqns
 
     -- the targets are on the clock of the event, if that is no copy
-    targets-clock : (IsCopy e.right → ⊥) → AllByRecursion (λ y. clocks y ≡ e.clock) e.targets
+    pub targets-clock : (IsCopy e.right → ⊥) → AllByRecursion (λ y. clocks y ≡ e.clock) e.targets
     targets-clock new =
         let keeps = (seen laws types all observers n c g).keeps in
         each_both (λ y. y < length plant.variables) (λ y. (g.clock y ≡ e.clock) ⊎ IsCopy e.right) (λ y. clocks y ≡ e.clock) (λ y l h. keeps.same y l ∙ by y h) e.targets numbers.targets (at_number (DefinesOwn g.clock) plant.eqns m e at_number_is (g.of_node).own)
