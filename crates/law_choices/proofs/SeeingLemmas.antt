@@ -18,4 +18,5 @@ pub mod Rowed
 pub mod PlantRuns
 pub mod Callees
 pub mod HeldByName
+pub mod HeldInBody
 pub mod SeenPrograms

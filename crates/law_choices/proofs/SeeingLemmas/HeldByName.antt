@@ -57,7 +57,7 @@ use Rattle.law_choices.proofs.SeeingLemmas.Ordered.{AreAsMany, AreAt, at_rights,
 
 -- ---- as many flags as free places
 
-flags-many : (early : Place → Bool) (ss : List Slot) → length (early_flags early ss) ≡ length (free_among ss)
+pub flags-many : (early : Place → Bool) (ss : List Slot) → length (early_flags early ss) ≡ length (free_among ss)
 flags-many early [] = refl
 flags-many early (register p k ∷ ss) = flags-many early ss
 flags-many early (control p t ∷ ss) = flags-many early ss

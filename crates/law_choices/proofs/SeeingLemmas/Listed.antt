@@ -316,7 +316,7 @@ module _ (laws : NodeLaws) (types : List ObcType) (all : Callees) (observers : O
   pub same-type : (x : ℕ) → x < length plant.variables → type_at s.node x ≡ type_at plant x
   same-type x l = let q = ((seen laws types all observers n c g).keeps).grows in let v = q.variables in type-same v.0 plant s.node x v.1 l
 
-  still-below : (x : ℕ) → x < length plant.variables → x < length s.node.variables
+  pub still-below : (x : ℕ) → x < length plant.variables → x < length s.node.variables
   still-below x below =
       let v = (((seen laws types all observers n c g).keeps).grows).variables in
       let long = length-append plant.variables v.0 in
