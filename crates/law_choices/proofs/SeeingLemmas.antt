@@ -20,3 +20,4 @@ pub mod Callees
 pub mod HeldByName
 pub mod HeldInBody
 pub mod SeenPrograms
+pub mod SeenInBody

@@ -9,3 +9,4 @@ pub mod Telling
 pub mod ByName
 pub mod InBody
 pub mod SeenByName
+pub mod SeenInBody

@@ -47,6 +47,7 @@ use Rattle.hp_watch.specs.Observing.{observer_if, observer_of, observers}
 use Rattle.hp_watch.specs.Watching.{Observed, Observing, free_input, free_inputs, free_placed, is_integer, moved_free, observed, own_site, surveyed, walked}
 use Rattle.law_choices.specs.Observed.Contracts.{IsObservable}
 use Rattle.hp_meaning.specs.Contract.FreePlaces.{declared_outputs}
+use Rattle.law_choices.proofs.BroughtLemmas.Apiece.{outputs-anywhere}
 use Rattle.law_choices.proofs.BroughtLemmas.Brought.{free_types, joined_types}
 use Rattle.law_choices.proofs.BroughtLemmas.Placed.{AreIn, in-both, in-grown, in-moved, last_placed, observed_types, outputs-shown, placed-grows, placed-in, placed-types, shown, shown_types, types-grown, types-moved, types_in}
 use Rattle.law_choices.proofs.BroughtLemmas.Bodies.{body-brings}
@@ -105,16 +106,6 @@ one-observed : (c d : Observed) → Some c ≡ Some d → c ≡ d
 one-observed c d e = cc
 
 -- ---- slots
-
--- the slots of outputs have the same types wherever they stand
-outputs-free : (ds : List Decl) (v w : Place → Place) → free_types (outputs_slots ds v) ≡ free_types (outputs_slots ds w)
-outputs-free [] v w = refl
-outputs-free (d ∷ ds) v w = by d.ty (outputs-free ds v w)
-  where
-    by : (t : Ty) → free_types (outputs_slots ds v) ≡ free_types (outputs_slots ds w) → free_types (outputs_slots (record d { ty = t } ∷ ds) v) ≡ free_types (outputs_slots (record d { ty = t } ∷ ds) w)
-    by ty.Bool h = ap (λ ts. ty.Bool ∷ ts) h
-    by ty.Int h = h
-    by (ty.Enum x) h = ap (λ ts. ty.Enum x ∷ ts) h
 
 -- controllable variables are not given
 controls-free : (ds : List Decl) (w : Place → Place) → free_types (row_of_slots control ds w) ≡ []
@@ -359,7 +350,7 @@ module _ (program after : List Item) (r : IsReady program after) (removable : Is
     unfolding given
     calls f w =
         let B = called f in
-        free-append (outputs_slots (outs f) here) (callee f here) ∙ ap₂ (λ xs ys. xs ++ ys) (outputs-free (outs f) here (below Instance w)) (B.1 here ∙ sym (B.1 (below Instance w))) ∙ sym (free-append (outputs_slots (outs f) (below Instance w)) (callee f (below Instance w)))
+        free-append (outputs_slots (outs f) here) (callee f here) ∙ ap₂ (λ xs ys. xs ++ ys) (outputs-anywhere (outs f) here (below Instance w)) (B.1 here ∙ sym (B.1 (below Instance w))) ∙ sym (free-append (outputs_slots (outs f) (below Instance w)) (callee f (below Instance w)))
 
     outs-known : (f : List ℕ) → outputs_of (k.nodes f) ≡ outs f
     outs-known f =

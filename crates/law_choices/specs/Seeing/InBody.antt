@@ -1,13 +1,11 @@
 -- Nodes of which nothing is free but the inputs, and comparisons of integers and outputs of calls in the body, wherever these stand outside of transitions.
 -- Source: own; a comparison of integers and an output of a call are free in the Boolean abstraction, and clocked equations hold their values without a name (Biernacki, Colaço, Hamon, Pouzet, LCTES 2008).
-use Rattle.std.specs.Prelude.{◌≡◌, ℕ, List, [], ◌++◌, IsFalse}
+use Rattle.std.specs.Prelude.{◌≡◌, ℕ, IsFalse, List, [], ◌++◌}
 use Rattle.std.specs.List.{AllByRecursion}
-use Rattle.hp_base.specs.Kinds.{AreOfKinds}
-use Rattle.hp_base.specs.declared.value.Value.{Value}
 use Rattle.hp_tree.specs.declared.program.Item.{Item}
 use Rattle.hp_tree.specs.Programs.{Node}
-use Rattle.hp_tree.specs.Instant.{Body, Inputs, Past, Place}
-use Rattle.hp_tree.specs.Meaning.{node_among, types_of}
+use Rattle.hp_tree.specs.Instant.{Body, Inputs, Place}
+use Rattle.hp_tree.specs.Meaning.{types_of}
 use Rattle.hp_meaning.specs.Causal.Sources.{below}
 use Rattle.hp_meaning.specs.Contract.Slots.{FreePlace, Slot, free_among, free_places, slots_of_block}
 use Rattle.law_choices.specs.Places.Values.{in_transition}
