@@ -21,3 +21,4 @@ pub mod HeldByName
 pub mod HeldInBody
 pub mod SeenPrograms
 pub mod SeenInBody
+pub mod NamedInBody

@@ -36,7 +36,7 @@ pub row-append : (xs ys : List (List FreePlace)) → in_a_row (xs ++ ys) ≡ in_
 row-append [] ys = refl
 row-append (x ∷ xs) ys = ap (λ zs. x ++ zs) (row-append xs ys) ∙ sym (append_assoc x (in_a_row xs) (in_a_row ys))
 
-lasts-none : (types : List TypeDecl) (ds : List Decl) (w : Prefix) → free_among (lasts_slots types ds w) ≡ []
+pub lasts-none : (types : List TypeDecl) (ds : List Decl) (w : Prefix) → free_among (lasts_slots types ds w) ≡ []
 lasts-none types [] w = refl
 lasts-none types (d ∷ ds) w = by d.last (lasts-none types ds w)
   where
