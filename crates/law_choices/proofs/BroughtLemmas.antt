@@ -10,6 +10,7 @@ pub mod Placed
 pub mod Widths
 pub mod Alone
 pub mod Contracts
+pub mod Bodies
 pub mod Programs
 pub mod Apiece
 pub mod Flagged

@@ -4,5 +4,6 @@ pub mod Values
 pub mod Among
 pub mod Along
 pub mod Rows
+pub mod Alone
 pub mod Flat
 pub mod Nodes

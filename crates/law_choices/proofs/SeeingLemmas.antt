@@ -13,7 +13,12 @@ pub mod Sole
 pub mod Integers
 pub mod Ordered
 pub mod Listed
+pub mod Looked
+pub mod Rowed
 pub mod PlantRuns
 pub mod Callees
 pub mod HeldByName
+pub mod HeldInBody
 pub mod SeenPrograms
+pub mod SeenInBody
+pub mod NamedInBody

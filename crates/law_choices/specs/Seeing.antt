@@ -7,4 +7,6 @@ pub mod Plants
 pub mod Named
 pub mod Telling
 pub mod ByName
+pub mod InBody
 pub mod SeenByName
+pub mod SeenInBody

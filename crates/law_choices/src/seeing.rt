@@ -4,6 +4,7 @@
 #![tactic(auto)]
 
 ghost use Rattle.law_choices.specs.Seeing.SeenByName.{SeenByNameLaw};
+ghost use Rattle.law_choices.specs.Seeing.SeenInBody.{SeenInBodyLaw};
 ghost use Rattle.law_choices.specs.Seeing.Found.{FilledFoundLaw};
 ghost use Rattle.law_choices.specs.Seeing.Greatest.{SeenGreatestLaw};
 ghost use Rattle.law_choices.specs.Seeing.Held.{HeldCodesLaw};
@@ -22,7 +23,7 @@ use crate::choosing::{
 };
 use crate::in_turn::a_node_tells_each_contract;
 use crate::playing::machines_that_are_asked_owe;
-use crate::streams::meanings_give_the_chosen_reactions;
+use crate::streams::{meanings_give_the_chosen_reactions, meanings_keep_places};
 use hp_controller::{
     added_equations_give_inputs, controlled_nodes_follow_their_controller,
     controllers_answer_with_the_choice, gates_have_their_values,
@@ -123,6 +124,32 @@ pub fn named_places_are_seen()
     ensures { SeenByNameLaw }
 {
     meanings_give_the_chosen_reactions();
+    programs_have_one_meaning_under_each_choice();
+    chosen_nodes_have_one_reaction();
+    callees_may_differ_elsewhere();
+    equations_may_be_added();
+    made_nodes_may_be_added_to();
+    watched_nodes_choose();
+    extended_nodes_close();
+    targets_differ();
+    calls_are_kept();
+    nodes_have_one_reaction();
+    added_equations_give_inputs();
+    controlled_nodes_follow_their_controller();
+    controllers_answer_with_the_choice();
+    codes_of_values();
+    choices_are_values();
+    reactions_are_instants_of_the_game();
+    permitted_is_fitting();
+    machines_go_along();
+    machine_choices_are_kept();
+}
+
+/// So they do if nothing is free in a node but its inputs, and comparisons of integers and outputs of calls in its body, wherever these stand outside of transitions: the equations hold values of the free places: of their types, and the reaction's own wherever an instant looks at them.
+pub fn places_of_bodies_are_seen()
+    ensures { SeenInBodyLaw }
+{
+    meanings_keep_places();
     programs_have_one_meaning_under_each_choice();
     chosen_nodes_have_one_reaction();
     callees_may_differ_elsewhere();

@@ -48,9 +48,11 @@ use Rattle.hp_watch.specs.Walk.{events_from, walk_contract}
 use Rattle.hp_watch.specs.Watching.{Observed, Observing, free_at, free_input, free_inputs, free_placed, is_integer, moved_free, observed, own_site, surveyed, walked}
 use Rattle.law_choices.specs.Observed.Contracts.{IsObservable}
 use Rattle.hp_meaning.specs.Contract.FreePlaces.{declared_outputs}
+use Rattle.law_choices.proofs.BroughtLemmas.Apiece.{outputs-anywhere}
 use Rattle.law_choices.proofs.BroughtLemmas.Brought.{free_types, joined_types}
 use Rattle.law_choices.proofs.BroughtLemmas.Placed.{AreIn, in-both, in-grown, in-moved, last_placed, observed_types, outputs-shown, placed-grows, placed-in, placed-types, shown, shown_types, types-grown, types-moved, types_in}
-use Rattle.law_choices.proofs.BroughtLemmas.Programs.{apart, body-brings, observer-brings}
+use Rattle.law_choices.proofs.BroughtLemmas.Bodies.{body-brings}
+use Rattle.law_choices.proofs.BroughtLemmas.Programs.{apart, observer-brings}
 use Rattle.law_choices.proofs.BroughtLemmas.Seen.{free-append}
 use Rattle.law_choices.proofs.BroughtLemmas.Walks.{lasts-none}
 use Rattle.law_choices.proofs.AddingLemmas.Embeds.{embedded-grows}
@@ -105,16 +107,6 @@ one-observed : (c d : Observed) → Some c ≡ Some d → c ≡ d
 one-observed c d e = cc
 
 -- ---- slots
-
--- the slots of outputs have the same types wherever they stand
-outputs-free : (ds : List Decl) (v w : Place → Place) → free_types (outputs_slots ds v) ≡ free_types (outputs_slots ds w)
-outputs-free [] v w = refl
-outputs-free (d ∷ ds) v w = by d.ty (outputs-free ds v w)
-  where
-    by : (t : Ty) → free_types (outputs_slots ds v) ≡ free_types (outputs_slots ds w) → free_types (outputs_slots (record d { ty = t } ∷ ds) v) ≡ free_types (outputs_slots (record d { ty = t } ∷ ds) w)
-    by ty.Bool h = ap (λ ts. ty.Bool ∷ ts) h
-    by ty.Int h = h
-    by (ty.Enum x) h = ap (λ ts. ty.Enum x ∷ ts) h
 
 -- controllable variables are not given
 controls-free : (ds : List Decl) (w : Place → Place) → free_types (row_of_slots control ds w) ≡ []
@@ -375,7 +367,7 @@ module _ (program after : List Item) (r : IsReady program after) (removable : Is
     unfolding given
     calls f w =
         let B = called f in
-        free-append (outputs_slots (outs f) here) (callee f here) ∙ ap₂ (λ xs ys. xs ++ ys) (outputs-free (outs f) here (below Instance w)) (B.1 here ∙ sym (B.1 (below Instance w))) ∙ sym (free-append (outputs_slots (outs f) (below Instance w)) (callee f (below Instance w)))
+        free-append (outputs_slots (outs f) here) (callee f here) ∙ ap₂ (λ xs ys. xs ++ ys) (outputs-anywhere (outs f) here (below Instance w)) (B.1 here ∙ sym (B.1 (below Instance w))) ∙ sym (free-append (outputs_slots (outs f) (below Instance w)) (callee f (below Instance w)))
 
     pub outs-known : (f : List ℕ) → outputs_of (k.nodes f) ≡ outs f
     outs-known f =
@@ -467,12 +459,12 @@ module _ (program after : List Item) (r : IsReady program after) (removable : Is
 
       called-types : types_in node called_free ≡ map (flat_type k.types) body_seen
       called-types =
-          let B = body-brings program after r removable form short nothing observable earlier n stands plant made given callee calls in
+          let B = body-brings program after r removable form earlier n stands plant made given callee calls in
           placed-types seen inside plant begun grown_own given k (sketch_node k (lowered_node enums n)) made.variables gives (walked n plant) B.0 B.1 ∙ ap (map (flat_type k.types)) (B.2 (below Body here))
 
       called-in : AreIn node called_free
       called-in =
-          let B = body-brings program after r removable form short nothing observable earlier n stands plant made given callee calls in
+          let B = body-brings program after r removable form earlier n stands plant made given callee calls in
           placed-in seen inside plant begun grown_own given k (sketch_node k (lowered_node enums n)) made.variables gives (walked n plant) B.0 B.1
 
       -- the types of the free places of the node that is surveyed are those of its slots

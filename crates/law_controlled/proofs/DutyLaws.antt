@@ -27,6 +27,7 @@ use Rattle.law_choices.specs.Playing.Greatest.{ChoosesGreatest, GreatestLaw}
 use Rattle.law_choices.specs.Playing.Telling.{ContractToldLaw}
 use Rattle.law_choices.specs.Runs.Chosen.{ChosenReaction}
 use Rattle.law_choices.specs.Seeing.SeenByName.{SeenByNameLaw}
+use Rattle.law_choices.specs.Seeing.SeenInBody.{SeenInBodyLaw}
 use Rattle.law_choices.specs.Seeing.Greatest.{SeenGreatestLaw}
 use Rattle.law_choices.specs.Seeing.Telling.{SeenToldLaw}
 use Rattle.law_choices.specs.Runs.Laws.{ChoosesValues, OfProgramLaw}
@@ -53,6 +54,7 @@ pub record SteeringLaws : Type 0 where
   pub tells : TellsForLaw
   pub told : ContractToldLaw
   pub by_name : SeenByNameLaw
+  pub in_body : SeenInBodyLaw
   pub seen : SeenGreatestLaw
   pub seen_told : SeenToldLaw
 

@@ -58,7 +58,8 @@ use Rattle.law_choices.proofs.BroughtLemmas.Flagged.{Kept, Targets, all-kept}
 use Rattle.law_choices.proofs.BroughtLemmas.Inputless.{block-none, callee-none, contract-none, flags-kept, flags-many}
 use Rattle.law_choices.proofs.BroughtLemmas.Late.{IsInside, callee-not-own, each-as, inside-below}
 use Rattle.law_choices.proofs.BroughtLemmas.Placed.{AreIn, here-types, last_placed, observed_types, one-types, outputs-shown, placed-is, shown_types, typed-here, typed-there, types_in}
-use Rattle.law_choices.proofs.BroughtLemmas.Programs.{body-apiece, known, observer-apiece}
+use Rattle.law_choices.proofs.BroughtLemmas.Bodies.{body-apiece}
+use Rattle.law_choices.proofs.BroughtLemmas.Programs.{known, observer-apiece}
 use Rattle.law_choices.proofs.DependingLemmas.ContractPlaces.{contract-walked, found-moved, moved_pair}
 use Rattle.law_choices.proofs.PlacesLemmas.Grouped.{among-append, block-grouped, contract-grouped, lasts-none}
 use Rattle.law_choices.proofs.PlacesLemmas.Slots.{lasts_slots, outputs_slots}
@@ -167,7 +168,7 @@ module _ (program after : List Item) (r : IsReady program after) (removable : Is
     brought targets =
         let sk = sketch_node k (lowered_node enums n) in
         let last = last_placed seen within plant begun grown in
-        let B = body-apiece program after r removable form short nothing observable earlier n stands plant made its_given callee its_calls in
+        let B = body-apiece program after r removable form earlier n stands plant made its_given callee its_calls in
         let G = block-grouped types outs callee IsInside inside-below n.body (typed_in (controls_of n.contract) (typed_in n.inputs (typed_in n.outputs untyped))) (λ p. Body ∷ p) (λ p. Body ∷ p) (Body, [], λ p. refl) in
         let numbers = (found names_of k enums n plant.eqns (λ f. ap (map (λ (d : Decl). d.name)) (sym (known-outs f))) made.eqns).0 in
         subst (Kept V (flat_map (free_placed seen last) (walked n plant))) G.1
@@ -286,5 +287,5 @@ module _ (program after : List Item) (r : IsReady program after) (removable : Is
       pub told-flags : Along (Targets (V X) own.node.eqns) seen_order (found_in_contract names_of c) → Along (λ (f : Free) (b : Bool). b ≡ true → X f) own.free (early_flags early contract_slots)
       told-flags targets =
           flags-kept early (IsEarly after n) X contract_slots own.free
-          (contract-none types outs callee (λ f w. callee-none types (node_among (reverse after) f) w) c (typed_in n.inputs (typed_in n.outputs untyped)) here)
+          (contract-none types outs callee (λ f w. callee-none types (node_among (reverse after) f) w) (Some c) (typed_in n.inputs (typed_in n.outputs untyped)) here)
           (each-front P (free_among contract_slots) (free_among body_slots) later_right) (told X targets)

@@ -1,4 +1,4 @@
--- The machines of a program that chooses say runs of the greatest permitted values, where nothing is free in a node but its inputs and named comparisons.
+-- The machines of a program that chooses say runs of the greatest permitted values, where nothing is free in a node but its inputs, and comparisons and outputs of calls in its body.
 use Rattle.std.proofs.Common.{◌≡◌, ℕ, inl, inr, List, [], reverse, Some}
 use Rattle.std.specs.List.{AllByRecursion}
 use Rattle.hp_base.specs.Kinds.{AreOfKinds}
@@ -42,9 +42,12 @@ module _ (laws : SteeringLaws) (program after : List Item) (ranks : List (List �
   told_of : (f : List ℕ) (n : Node) (inputs : List (List Value)) (past : Past) → node_among (reverse after) f ≡ Some n → Kinds n inputs → Reacts f inputs past → HasContract n → IsSeen after n → calls_of n ≡ []
       → AreToldOf past (all_answers (((r.allowed).one).answers f) inputs) (all_answers (((r.allowed).one).answers (contract_name f)) inputs)
   told_of f n inputs past e kinds reacts has (inl alone) none = laws.told program after ranks r.observers r.all order r.chooses r.mirrored r.allowed f n inputs past e has alone none kinds reacts
-  told_of f n inputs past e kinds reacts has (inr named) none =
+  told_of f n inputs past e kinds reacts has (inr (inl named)) none =
       laws.seen_told program after ranks r.observers r.all order r.chooses r.mirrored r.allowed f n inputs past e has none kinds reacts
       (laws.by_name program after ranks r.observers r.all order r.chooses r.allowed f n inputs past e named kinds reacts)
+  told_of f n inputs past e kinds reacts has (inr (inr body)) none =
+      laws.seen_told program after ranks r.observers r.all order r.chooses r.mirrored r.allowed f n inputs past e has none kinds reacts
+      (laws.in_body program after ranks r.observers r.all order r.chooses r.allowed f n inputs past e body kinds reacts)
 
   pub steered : (f : List ℕ) (n : Node) (inputs : List (List Value)) → node_among (reverse after) f ≡ Some n → AllByRecursion (AreOfKinds (kinds_of_decls (types_of after) n.inputs)) inputs → IsSteeredRun after f n inputs (all_answers (((r.allowed).one).answers f) inputs) (all_answers (((r.allowed).one).answers (contract_name f)) inputs)
   steered f n inputs e kinds =

@@ -1,17 +1,17 @@
--- Nodes with a controllable variable of which nothing is free but the inputs, named comparisons of integers, and named outputs of calls. A heater has three modes, one of which is chosen: it is off where it is hot, and never goes from full to off at once, if a warning comes before it gets hot. A house calls it. A cooler is told a temperature, and is off where that is low. A store calls it, and tells it less than is measured. A pump calls a latch with a contract, which tells whether the level was ever high, and does not run then.
+-- Nodes with a controllable variable of which nothing is free but the inputs, comparisons of integers, and outputs of calls. A heater has three modes, one of which is chosen: it is off where it is hot, and never goes from full to off at once, if a warning comes before it gets hot. A house calls it. A cooler is told a temperature, and is off where that is low. A store calls it, and tells it less than is measured. A pump calls a latch with a contract, which tells whether the level was ever high, and does not run then. A valve compares a sum inside an `if`, and names it nowhere.
 -- Source: own.
-use Rattle.std.specs.Prelude.{◌≡◌, codes, false, ℕ, pos, IsTrue, List, [], ◌∷◌, ◌++◌, None, Some, map, reverse}
+use Rattle.std.specs.Prelude.{◌≡◌, codes, true, false, ℕ, pos, IsTrue, List, [], ◌∷◌, ◌++◌, None, Some, map, reverse}
 use Rattle.hp_base.specs.declared.span.Span.{Span}
 use Rattle.hp_base.specs.declared.ty.Const.TheVariants as const
 use Rattle.hp_base.specs.declared.ty.Ty.{Ty}
 use Rattle.hp_base.specs.declared.ty.Ty.TheVariants as ty
 use Rattle.hp_tree.specs.declared.decl.Cons.TheVariants.{True}
 use Rattle.hp_tree.specs.declared.expr.Op1.TheVariants.{Not}
-use Rattle.hp_tree.specs.declared.expr.Op2.TheVariants.{And, Eq, Gt, Imp, Lt, Or, Sub}
+use Rattle.hp_tree.specs.declared.expr.Op2.TheVariants.{Add, And, Eq, Gt, Imp, Lt, Or, Sub}
 use Rattle.hp_tree.specs.declared.program.Item.{Item}
 use Rattle.hp_tree.specs.declared.program.Item.TheVariants.{NodeItem, TypeItem}
 use Rattle.hp_tree.specs.Blocks.{Block, Decl, Eqn, block, define, eqns_of}
-use Rattle.hp_tree.specs.Expressions.{Expr, call, constant, fby, more_exprs, no_expr, one, two, variable, when_is}
+use Rattle.hp_tree.specs.Expressions.{Expr, call, choose, constant, fby, more_exprs, no_expr, one, two, variable, when_is}
 use Rattle.hp_tree.specs.Instant.{Body, Equations, Fresh, Head, Instance, Instant, Past, Right}
 use Rattle.hp_tree.specs.Operators.{is_there}
 use Rattle.hp_tree.specs.Programs.{Contract, Node, TypeDecl}
@@ -22,6 +22,7 @@ use Rattle.hp_meaning.specs.Contract.FreePlaces.{calls_of, instance_at}
 use Rattle.hp_meaning.specs.Contract.Guarantee.{HasContract}
 use Rattle.law_choices.specs.Playing.Inputs.{HasInputsAlone}
 use Rattle.law_choices.specs.Seeing.ByName.{SeesByName}
+use Rattle.law_choices.specs.Seeing.InBody.{SeesInBody}
 use Rattle.law_controlled.specs.AtDepth.{InEach, IsGreatestAt, IsGreatestIfSeen, SeesAll}
 
 abbrev somewhere : Span
@@ -231,3 +232,37 @@ abbrev pub PumpLaw : Type 0
 PumpLaw =
     HasContract pump × SeesByName pumping pump
     × ((past : Past) (now : Instant) → InEach (IsGreatestIfSeen pumping) (reverse pumping) pump.name past now → IsGreatestAt pumping pump past now)
+
+-- ---- a valve that compares inside an `if`
+
+abbrev pub shut_promise : Contract
+shut_promise = record {
+  span = somewhere;
+  body = block [] (eqns_of []);
+  assume = None;
+  enforce = Some (one somewhere Not (two somewhere And (read (codes "closed")) (read (codes "open"))));
+  controls = declared (codes "on") ty.Bool ∷ [];
+}
+
+-- where much flows it is closed, and else as it is told
+abbrev much : Expr
+much = two somewhere Gt (two somewhere Add (read (codes "in")) (read (codes "out"))) (constant somewhere (const.I (pos 3)))
+
+abbrev pub valve : Node
+valve = record {
+  name = codes "valve";
+  inputs = declared (codes "in") ty.Int ∷ declared (codes "out") ty.Int ∷ declared (codes "told") ty.Bool ∷ [];
+  outputs = declared (codes "closed") ty.Bool ∷ declared (codes "open") ty.Bool ∷ [];
+  contract = Some shut_promise;
+  body = block [] (eqns_of (equals (codes "closed") (choose somewhere much (constant somewhere (const.B true)) (read (codes "told"))) ∷ equals (codes "open") (read (codes "on")) ∷ []));
+  span = somewhere;
+}
+
+abbrev pub valving : List Item
+valving = NodeItem valve ∷ []
+
+-- It has a contract, and its comparison has no name. It sees in its body, so where each instance that sees all has the greatest permitted values, the valve has them in each of its runs.
+abbrev pub ValveLaw : Type 0
+ValveLaw =
+    HasContract valve × (SeesByName valving valve → ⊥) × SeesInBody valving valve
+    × ((past : Past) (now : Instant) → InEach (IsGreatestIfSeen valving) (reverse valving) valve.name past now → IsGreatestAt valving valve past now)

@@ -17,7 +17,7 @@ ghost use Rattle.law_controlled.specs.Parts.{MadePartLaw};
 ghost use Rattle.law_controlled.specs.Remaining.{RemainingLaw};
 ghost use Rattle.law_controlled.specs.Said.{GreatestSaidLaw, SaidLaw};
 ghost use Rattle.law_controlled.specs.Program.{ChoosingNamesLaw, MadeNamesLaw, MadeNodesLaw};
-ghost use Rattle.law_controlled.specs.Worked.{CoolerLaw, HeaterLaw, HouseLaw, PumpLaw, StoreLaw};
+ghost use Rattle.law_controlled.specs.Worked.{CoolerLaw, HeaterLaw, HouseLaw, PumpLaw, StoreLaw, ValveLaw};
 
 use hp_abstract::nodes_have_one_abstraction;
 use hp_form::regular::regular_equations_have_form;
@@ -51,7 +51,7 @@ use law_choices::playing::{
 use law_choices::runs::chosen_values_make_one_reaction;
 use law_choices::seeing::{
     contracts_that_are_seen_are_told, named_places_are_seen,
-    nodes_that_see_values_choose_the_greatest,
+    nodes_that_see_values_choose_the_greatest, places_of_bodies_are_seen,
 };
 use law_choices::undisturbed::{
     controls_are_apart, ready_programs_keep_contracts, ready_programs_keep_dependence,
@@ -156,7 +156,7 @@ pub fn machines_of_texts_say_what_is_allowed()
     contracts_of_texts_can_be_observed();
 }
 
-/// And if nothing is free in such a node but its inputs, and comparisons of integers and outputs of calls that have names, the controllable variables have the greatest permitted values in that reaction; so it keeps its contract. So it is of each instance in the reaction, at every depth, if nothing is free in its node but inputs and such comparisons and outputs. The machine of a contract says what the machine of its node says, with two truth values behind; if the node is such a node, and it calls nothing, these are the values of the assumption and of the guarantee in that reaction.
+/// And if nothing is free in such a node but its inputs, and comparisons of integers and outputs of calls in its body, outside of transitions, the controllable variables have the greatest permitted values in that reaction; so it keeps its contract. So it is of each instance in the reaction, at every depth, if nothing is free in its node but inputs and such comparisons and outputs. The machine of a contract says what the machine of its node says, with two truth values behind; if the node is such a node, and it calls nothing, these are the values of the assumption and of the guarantee in that reaction.
 pub fn machines_of_texts_choose_the_greatest()
     ensures { GreatestSaidLaw }
 {
@@ -166,6 +166,7 @@ pub fn machines_of_texts_choose_the_greatest()
     a_node_tells_each_contract();
     contracts_are_told();
     named_places_are_seen();
+    places_of_bodies_are_seen();
     nodes_that_see_values_choose_the_greatest();
     contracts_that_are_seen_are_told();
     chosen_values_make_one_reaction();
@@ -308,4 +309,9 @@ pub fn a_worked_store()
 /// In a pump that is told a level, and calls a latch, nothing is free but the input, a comparison and the output of the latch, which have names. So it has the greatest permitted values.
 pub fn a_worked_pump()
     ensures { PumpLaw }
+{}
+
+/// In a valve that is told two flows, and compares their sum inside an `if`, nothing is free but the inputs and that comparison, which has no name. So it has the greatest permitted values.
+pub fn a_worked_valve()
+    ensures { ValveLaw }
 {}

@@ -71,6 +71,16 @@ compared-apiece o i t w e = by (compares o) i t e
 pub call-apiece : (types : List TypeDecl) (outs : List ℕ → List Decl) (callee : List ℕ → Prefix → List Slot) (f : List ℕ) (w : Prefix) → free_types (outputs_slots (outs f) w ++ callee f w) ≡ types_of_places (call_group types outs callee f w)
 call-apiece types outs callee f w = ap types_of_places (among-append (outputs_slots (outs f) w) (callee f w) ∙ ap (λ xs. xs ++ free_among (callee f w)) (sym (outputs-free (outs f) w)))
 
+-- the slots of outputs have the same types wherever they stand
+pub outputs-anywhere : (ds : List Decl) (v w : Prefix) → free_types (outputs_slots ds v) ≡ free_types (outputs_slots ds w)
+outputs-anywhere [] v w = refl
+outputs-anywhere (d ∷ ds) v w = by d.ty (outputs-anywhere ds v w)
+  where
+    by : (t : Ty) → free_types (outputs_slots ds v) ≡ free_types (outputs_slots ds w) → free_types (outputs_slots (record d { ty = t } ∷ ds) v) ≡ free_types (outputs_slots (record d { ty = t } ∷ ds) w)
+    by ty.Bool h = ap (λ ts. ty.Bool ∷ ts) h
+    by ty.Int h = h
+    by (ty.Enum x) h = ap (λ ts. ty.Enum x ∷ ts) h
+
 -- ---- in a row
 
 pub row-types : (gs : List (List FreePlace)) → joined_types (types_apiece gs) ≡ types_of_places (in_a_row gs)

@@ -1,24 +1,32 @@
--- Among the slots of a block no inputs stand, so the flags of its free places say which of these are early.
-use Rattle.std.proofs.Common.{◌≡◌, ℕ, Bool, true, false, if◌then◌else◌, List, [], ◌∷◌, ◌++◌, length, suc, Option, None, Some, refl, ap}
+-- Among the slots of a block no inputs stand, so the flags of its free places say which of these are early; nor do they behind the inputs of a node.
+use Rattle.std.proofs.Common.{◌≡◌, ℕ, Bool, true, false, if◌then◌else◌, List, [], ◌∷◌, ◌++◌, length, suc, reverse, Option, None, Some, refl, sym, ap, ◌∙◌}
 use Rattle.std.specs.Prelude.{⊤, ◌&&◌}
+use Rattle.std.proofs.lemmas.List.{append_cancel_left}
 use Rattle.hp_base.specs.declared.ty.Const.{Const}
 use Rattle.hp_base.specs.declared.ty.Ty.{Ty}
 use Rattle.hp_base.specs.declared.ty.Ty.TheVariants as ty
 use Rattle.hp_tree.specs.declared.block.Trans.{Trans}
 use Rattle.hp_tree.specs.Expressions.{Expr, constant, variable, last_of, one, two, choose, pre, fby, arrow, when_is, merge, call, Exprs, no_expr, more_exprs, Parts, no_part, more_parts}
 use Rattle.hp_tree.specs.Blocks.{Decl, Block, block, Eqns, no_eqn, more_eqns, Eqn, define, switch, reset, automaton, Arms, no_arm, more_arms, States, no_state, more_states}
-use Rattle.hp_tree.specs.Programs.{TypeDecl, Contract, Node}
+use Rattle.hp_tree.specs.Programs.{Contract, Node, TypeDecl}
+use Rattle.hp_tree.specs.declared.program.Item.{Item}
+use Rattle.hp_tree.specs.Meaning.{controls_of, node_among, types_of}
 use Rattle.hp_tree.specs.Reaction.{Each}
 use Rattle.hp_tree.specs.Operators.{is_comparison}
 use Rattle.hp_tree.specs.ExpressionTypes.{Scope, typed_in, scope_of, type_of, untyped}
-use Rattle.hp_tree.specs.Instant.{Body, Observer, Assume, Enforce, Equations, Head, Tail, Right, Test, Arms as ArmsOf, States as StatesOf, Until, Unless, First, Second, Third, Args, Instance, Place}
-use Rattle.hp_meaning.specs.Contract.Slots.{Slot, register, free, input, control, FreePlace, free_among, is_int, slots, slots_of_all, slots_of_parts, slots_of_conditions, slots_of_block, slots_of_equations, slots_of_equation, slots_of_arms, slots_of_states, slots_of_contract, callee_slots}
+use Rattle.hp_tree.specs.Instant.{Assume, Body, Controls, Enforce, Inputs, Observer, Equations, Head, Tail, Right, Test, Arms as ArmsOf, States as StatesOf, Until, Unless, First, Second, Third, Args, Instance, Place}
+use Rattle.hp_meaning.specs.Contract.FreePlaces.{declared_outputs}
+use Rattle.hp_meaning.specs.Contract.Slots.{Slot, register, free, input, control, FreePlace, callee_slots, free_among, free_places, slots_of_contract, slots_of_node, is_int, slots, slots_of_all, slots_of_parts, slots_of_conditions, slots_of_block, slots_of_equations, slots_of_equation, slots_of_arms, slots_of_states}
 use Rattle.law_automata.specs.Lowered.Standing.{Along}
 use Rattle.law_equations.specs.Flattened.Flatten.{Prefix, below}
 use Rattle.hp_watch.specs.declared.watching.Free.{Free}
 use Rattle.law_choices.specs.Playing.Mirrored.{early_flags}
-use Rattle.law_choices.proofs.PlacesLemmas.Grouped.{told_slots}
+use Rattle.law_games.specs.Mirror.Mirrored.{late_among}
+use Rattle.law_games.proofs.MirrorLemmas.Realised.{slots_told}
+use Rattle.law_games.proofs.MirrorLemmas.SlotLists.{late_joined}
+use Rattle.law_choices.specs.Playing.Inputs.{places_in_row}
 use Rattle.law_choices.proofs.PlacesLemmas.Slots.{lasts_slots, outputs_slots}
+use Rattle.law_choices.proofs.PlayingLemmas.Inputs.{free-append, row, row-free, row_of_slots, slot_of}
 
 -- none of the slots is an input
 abbrev pub HasNoInput : List Slot → Type 0
@@ -138,19 +146,19 @@ module _ (types : List TypeDecl) (outs : List ℕ → List Decl) (callee : List 
         none-both A (C ++ (D ++ M)) (block-none b names (below Body (below Head w)))
         (none-both C (D ++ M) (conditions-none until (scope_of b names) (below Until (below Head w))) (none-both D M (conditions-none unless names (below Unless (below Head w))) (states-none ss names (below Tail w))))
 
-  told-none : (o : Option Expr) (names : Scope) (w : Prefix) → HasNoInput (told_slots types outs callee o names w)
+  told-none : (o : Option Expr) (names : Scope) (w : Prefix) → HasNoInput (slots_told types outs callee o names w)
   told-none None names w = tt
   told-none (Some e) names w = expr-none e names w
 
-  pub contract-none : (c : Contract) (names : Scope) (w : Prefix) → HasNoInput (slots_of_contract types outs callee (Some c) names w)
-  contract-none c names w =
-      let inside = scope_of c.body names in
-      let B = slots_of_block types outs callee c.body names (below Observer w) in
-      let A = told_slots types outs callee c.assume inside (below Assume w) in
-      let E = told_slots types outs callee c.enforce inside (below Enforce w) in
-      none-both B (A ++ E) (block-none c.body names (below Observer w)) (none-both A E (told-none c.assume inside (below Assume w)) (told-none c.enforce inside (below Enforce w)))
+  pub contract-none : (o : Option Contract) (names : Scope) (w : Prefix) → HasNoInput (slots_of_contract types outs callee o names w)
+  contract-none None names w = tt
+  contract-none (Some c) names w =
+      let A = slots_told types outs callee c.assume (scope_of c.body names) (below Assume w) in
+      let E = slots_told types outs callee c.enforce (scope_of c.body names) (below Enforce w) in
+      none-both (slots_of_block types outs callee c.body names (below Observer w)) (A ++ E) (block-none c.body names (below Observer w)) (none-both A E (told-none c.assume (scope_of c.body names) (below Assume w)) (told-none c.enforce (scope_of c.body names) (below Enforce w)))
 
--- nor among those of a callee's contract
+-- ---- a node
+
 pub callee-none : (types : List TypeDecl) (o : Option Node) (w : Prefix) → HasNoInput (callee_slots types o w)
 callee-none types None w = tt
 callee-none types (Some n) w = by n.contract
@@ -158,5 +166,52 @@ callee-none types (Some n) w = by n.contract
     by : (o : Option Contract) → HasNoInput (callee_slots types (Some (record n { contract = o })) w)
     by None = tt
     by (Some c) =
-        let names = typed_in n.inputs (typed_in n.outputs untyped) in
-        none-both (lasts_slots types n.outputs w) (slots_of_contract types (λ f. []) (λ f w. []) (Some c) names w) (lasts-none types n.outputs w) (contract-none types (λ f. []) (λ f w. []) (λ f w. tt) c names w)
+        let K = slots_of_contract types (λ f. []) (λ f w. []) (Some c) (typed_in n.inputs (typed_in n.outputs untyped)) w in
+        none-both (lasts_slots types n.outputs w) K (lasts-none types n.outputs w) (contract-none types (λ f. []) (λ f w. []) (λ f w. tt) (Some c) (typed_in n.inputs (typed_in n.outputs untyped)) w)
+
+controls-none : (ds : List Decl) (w : Prefix) → HasNoInput (row_of_slots control ds w)
+controls-none [] w = tt
+controls-none (d ∷ ds) w = by d.ty (controls-none ds (below Tail w))
+  where
+    by : (t : Ty) → HasNoInput (row_of_slots control ds (below Tail w)) → HasNoInput (slot_of control (w (Head ∷ [])) t ++ row_of_slots control ds (below Tail w))
+    by ty.Bool h = h
+    by ty.Int h = h
+    by (ty.Enum x) h = h
+
+-- where nothing is early, what is late are the free places that are no inputs
+late-free : (ss : List Slot) → HasNoInput ss → late_among (λ p. false) ss ≡ free_among ss
+late-free [] h = refl
+late-free (register p k ∷ ss) h = late-free ss h
+late-free (free p t ∷ ss) h = ap (λ qs. (p, t) ∷ qs) (late-free ss h)
+late-free (control p t ∷ ss) h = late-free ss h
+late-free (input p t ∷ ss) h = absurd h
+
+row-late : (ds : List Decl) (w : Prefix) → late_among (λ p. false) (row ds w) ≡ []
+row-late [] w = refl
+row-late (d ∷ ds) w = by d.ty (row-late ds (below Tail w))
+  where
+    by : (t : Ty) → late_among (λ p. false) (row ds (below Tail w)) ≡ [] → late_among (λ p. false) (slot_of input (w (Head ∷ [])) t ++ row ds (below Tail w)) ≡ []
+    by ty.Bool h = h
+    by ty.Int h = h
+    by (ty.Enum x) h = h
+
+pub late-places : (program : List Item) (n : Node) (qs : List FreePlace) → free_places program n ≡ places_in_row n.inputs (below Inputs (λ p. p)) ++ qs → late_among (λ p. false) (slots_of_node program n) ≡ qs
+late-places program n qs are =
+    let types = types_of program in
+    let outs = λ (f : List ℕ). declared_outputs (node_among (reverse program) f) in
+    let callee = λ (f : List ℕ) (w : Prefix). callee_slots types (node_among (reverse program) f) w in
+    let here : Prefix = λ p. p in
+    let around = typed_in n.inputs (typed_in n.outputs untyped) in
+    let I = row n.inputs (below Inputs here) in
+    let L = lasts_slots types n.outputs here in
+    let C = row_of_slots control (controls_of n.contract) (below Controls here) in
+    let K = slots_of_contract types outs callee n.contract around here in
+    let B = slots_of_block types outs callee n.body (typed_in (controls_of n.contract) around) (below Body here) in
+    let rest = L ++ (C ++ (K ++ B)) in
+    let none = λ (f : List ℕ) (w : Prefix). callee-none types (node_among (reverse program) f) w in
+    let no_input : HasNoInput rest =
+    none-both L (C ++ (K ++ B)) (lasts-none types n.outputs here) (none-both C (K ++ B) (controls-none (controls_of n.contract) (below Controls here))
+    (none-both K B (contract-none types outs callee none n.contract around here) (block-none types outs callee none n.body (typed_in (controls_of n.contract) around) (below Body here)))) in
+    let places = places_in_row n.inputs (below Inputs here) in
+    let free : places ++ free_among rest ≡ places ++ qs = sym (free-append I rest ∙ ap (λ xs. xs ++ free_among rest) (row-free n.inputs (below Inputs here))) ∙ are in
+    late_joined (λ p. false) I rest ∙ ap (λ xs. xs ++ late_among (λ p. false) rest) (row-late n.inputs (below Inputs here)) ∙ late-free rest no_input ∙ append_cancel_left places (free_among rest) qs free

@@ -19,7 +19,8 @@ use Rattle.hp_meaning.specs.Contract.FreePlaces.{FreeClocks, by_step, free_in, f
 use Rattle.hp_meaning.specs.Contract.Slots.{Slot, register, free, input, control, FreePlace, callee_slots, free_among, is_int, slots, slots_of_all, slots_of_parts, slots_of_conditions, slots_of_block, slots_of_equations, slots_of_equation, slots_of_arms, slots_of_states, slots_of_contract}
 use Rattle.hp_meaning.proofs.CausalLemmas.Ranking.{step_same}
 use Rattle.law_equations.specs.Flattened.Flatten.{Prefix, below}
-use Rattle.law_choices.proofs.PlacesLemmas.Grouped.{among-append, told_slots}
+use Rattle.law_games.proofs.MirrorLemmas.Realised.{slots_told}
+use Rattle.law_choices.proofs.PlacesLemmas.Grouped.{among-append}
 use Rattle.law_choices.proofs.PlacesLemmas.Slots.{lasts_slots}
 
 -- ---- places through a contract
@@ -272,7 +273,7 @@ each-as P Q f [] h = tt
 each-as P Q f (x ∷ xs) h = (f x h.0, each-as P Q f xs h.1)
 
 module _ (types : List TypeDecl) where
-  told-late : (o : Option Expr) (names : Scope) (t : Step) (w : Prefix) → is_told t ≡ true → Each (BehindTold w) (free_among (told_slots types outs callee o names (below t w)))
+  told-late : (o : Option Expr) (names : Scope) (t : Step) (w : Prefix) → is_told t ≡ true → Each (BehindTold w) (free_among (slots_told types outs callee o names (below t w)))
   told-late None names t w h = tt
   told-late (Some e) names t w h =
       let ss = slots types outs callee e names (below t w) in
@@ -281,8 +282,8 @@ module _ (types : List TypeDecl) where
   contract-late : (c : Contract) (names : Scope) (w : Prefix) → Each (BehindTold w) (free_among (slots_of_contract types outs callee (Some c) names w))
   contract-late c names w =
       let B = slots_of_block types outs callee c.body names (below Observer w) in
-      let A = told_slots types outs callee c.assume (scope_of c.body names) (below Assume w) in
-      let E = told_slots types outs callee c.enforce (scope_of c.body names) (below Enforce w) in
+      let A = slots_told types outs callee c.assume (scope_of c.body names) (below Assume w) in
+      let E = slots_told types outs callee c.enforce (scope_of c.body names) (below Enforce w) in
       let first : Each (BehindTold w) (free_among B) = each-as (λ (q : FreePlace). (r : Place) × (q.0 ≡ below Observer w r)) (BehindTold w) (λ q k. (Observer, refl, k.0, k.1)) (free_among B) (stand-free (below Observer w) B (block-stands types c.body names (below Observer w))) in
       subst (Each (BehindTold w)) (sym (among-append B (A ++ E) ∙ ap (λ xs. free_among B ++ xs) (among-append A E)))
       (each-both (BehindTold w) (free_among B) (free_among A ++ free_among E) first

@@ -32,6 +32,8 @@ use Rattle.law_choices.specs.Runs.Chosen.{chosen_nodes}
 use Rattle.law_choices.proofs.RunsLemmas.Chosen.{outputs_alike}
 use Rattle.law_equations.proofs.MadeLemmas.MadeLaw.{NamesStand, stands-placed}
 use Rattle.law_choices.specs.Flat.Answering.{chosen_filled}
+use Rattle.law_choices.specs.Flat.Places.{AreAlone}
+use Rattle.law_choices.proofs.FlatLemmas.Alone.{events-alone}
 use Rattle.law_choices.proofs.FlatLemmas.Behave.{outputs_behind}
 
 -- A node of a program without automata, and clocked equations that stand for its flat names, with its controllable variables behind its inputs.
@@ -65,11 +67,11 @@ mutual
   lowered_arms no_arm h = tt
   lowered_arms (more_arms c b s arms) h = (lowered_block b h.0, lowered_arms arms h.1)
 
--- Where the remembered names of a node are of K, so are those that variables stand for. The variables of the names of the body stand for these, and those of what compares or calls for the places of that.
+-- Where the remembered names of a node are of K, so are those that variables stand for. The variables of the names of the body stand for these, and those of what compares or calls for the places of that; this alone defines them.
 pub stands_flat : (K : FlatName → Type 0) (choices : Choices) (program : List Item) (fills : List ℕ → Place → Value) (k : Known) → AreApart (reverse program) → Knows (types_of program) (filled_nodes program).outputs k
     → (later earlier : List Item) (n : Node) (flat : FlatNode) → IsMade program fills later earlier k n flat → NodeKeeps K (types_of program) (fills n.name) n
     → (means : ℕ → FlatName) × StandsFlat choices program fills later earlier n means flat × ((x : ℕ) → IsKept K (means x)) × NamesStand k n n.body means
-    × AreMadeAt means (events flat.eqns) (block_labels (filled_nodes program).outputs n.body in_body [])
+    × AreMadeAt means (events flat.eqns) (block_labels (filled_nodes program).outputs n.body in_body []) × AreAlone flat
 stands_flat K choices program fills k apart knows later earlier n flat is keeps =
     let types = types_of program in
     let whole = filled_nodes program in
@@ -102,4 +104,5 @@ stands_flat K choices program fills k apart knows later earlier n flat is keeps 
       kept.1,
       kept.2,
       kept.3,
+      events-alone types whole.outputs (fills n.name) n s.means (names_of n.inputs ++ names_of (controls_of n.contract)) (λ g. length (outputs_of (k.nodes g))) flat s.equations kept.3,
     )

@@ -393,6 +393,7 @@ places_read choices program class fills k ok ranked apart fit distinct are_teste
     record {
       means = m.0;
       labelled = m.4;
+      alone = m.5;
       read = λ inputs past of_types reaction.
           reads_places choices program class fills answers ok ranked apart fit distinct are_tested values answer_is later earlier n m.0 flat m.1 m.2 (begins k fill n is.ready) differ name_is inputs past of_types reaction;
     }

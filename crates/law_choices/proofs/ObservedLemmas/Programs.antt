@@ -125,8 +125,15 @@ pub record IsSeen (types : List TypeDecl) (enums : Enumerations) (items : List I
   pub constants : ConstantsAre types items
   pub has : ConstantsBehind enums items
 
-pub ready_seen : (program after : List Item) → IsReady program after → TypesHaveConstructors (types_of program) → EachNode (IsKnown (types_of after)) after → IsSeen (types_of after) (enumerations [] after) (reverse after)
-ready_seen program after r full known =
+-- the same, but for what is known of contracts
+pub record IsStanding (types : List TypeDecl) (enums : Enumerations) (items : List Item) : Type 0 where
+  pub old : EachNode (NodeNames IsOld) items
+  pub sound : SoundBehind types items
+  pub constants : ConstantsAre types items
+  pub has : ConstantsBehind enums items
+
+pub ready_standing : (program after : List Item) → IsReady program after → TypesHaveConstructors (types_of program) → IsStanding (types_of after) (enumerations [] after) (reverse after)
+ready_standing program after r full =
     let types = types_of after in
     let has_types = typed program r.named r.typed r.merges in
     let names = scoped program r.named r.defined in
@@ -135,12 +142,16 @@ ready_seen program after r full known =
     let sound = judged_sound program names r.armed r.named r.typed has_types r.defined in
     let a = accepted program after r in
     record {
-      known = each_reverse (IsKnown types) after known;
       old = each_reverse (NodeNames IsOld) after (old_clocked (replaced program) after clocked (program_old program can));
       sound = accepted_sound types a.0 (reverse after) a.1;
       constants = subst (λ ts. ConstantsAre ts (reverse after)) (sym (types_same program after r)) (constants_are (types_of program) no_node program after clocked sound);
       has = ready_constants_law program after r (some_constructors program full);
     }
+
+pub ready_seen : (program after : List Item) → IsReady program after → TypesHaveConstructors (types_of program) → EachNode (IsKnown (types_of after)) after → IsSeen (types_of after) (enumerations [] after) (reverse after)
+ready_seen program after r full known =
+    let s = ready_standing program after r full in
+    record { known = each_reverse (IsKnown (types_of after)) after known; old = s.old; sound = s.sound; constants = s.constants; has = s.has }
 
 -- what is shown of observers from the last one on, is so of those of the program
 of_observers : (P : List Item → Type 0) (after : List Item) → (AreApart (map (lowered_item (enumerations [] after)) (observers (reverse after))) → P (map (lowered_item (enumerations [] after)) (observers (reverse after)))) → AreApart (reverse (lowered_program (observers after))) → P (reverse (lowered_program (observers after)))

@@ -16,6 +16,7 @@ use Rattle.hp_tree.specs.Instant.{Body, Observer, Assume, Enforce, Named, Equati
 use Rattle.hp_meaning.specs.Contract.Slots.{Slot, register, free, input, control, FreePlace, free_among, is_int, slots, slots_of_all, slots_of_parts, slots_of_conditions, slots_of_block, slots_of_equations, slots_of_equation, slots_of_arms, slots_of_states, slots_of_contract}
 use Rattle.law_automata.specs.Lowered.Standing.{Along}
 use Rattle.law_equations.specs.Flattened.Flatten.{Prefix, below}
+use Rattle.law_games.proofs.MirrorLemmas.Realised.{slots_told}
 use Rattle.hp_watch.specs.Walk.{compares}
 use Rattle.law_choices.specs.Depending.Contracts.{at_assumed, at_enforced, found_in_contract, found_told}
 use Rattle.law_choices.specs.Places.Spots.{Spot, compared}
@@ -53,11 +54,6 @@ outputs-free (d ∷ ds) w = by d.ty (outputs-free ds w)
     by ty.Bool h = ap (λ zs. (w (Named d.name ∷ []), ty.Bool) ∷ zs) h
     by ty.Int h = h
     by (ty.Enum x) h = ap (λ zs. (w (Named d.name ∷ []), ty.Enum x) ∷ zs) h
-
--- what a condition has
-abbrev pub told_slots : List TypeDecl → (List ℕ → List Decl) → (List ℕ → Prefix → List Slot) → Option Expr → Scope → Prefix → List Slot
-told_slots types outs callee None names w = []
-told_slots types outs callee (Some e) names w = slots types outs callee e names w
 
 module _ (types : List TypeDecl) (outs : List ℕ → List Decl) (callee : List ℕ → Prefix → List Slot) (P : Prefix → Type 0) (closed : (s : Step) (w : Prefix) → P w → P (below s w)) where
   abbrev names_of : List ℕ → List (List ℕ)
@@ -193,7 +189,7 @@ module _ (types : List TypeDecl) (outs : List ℕ → List Decl) (callee : List 
         (grouped-both D M U V GD GM (conditions-grouped unless names (below Unless (below Head w)) here (closed Unless (below Head w) (closed Head w h))) (states-grouped ss names (below Tail w) (behind_state unless here) (closed Tail w h))))
 
   -- a contract, whose parts stand under the first steps from a node
-  told-grouped : (o : Option Expr) (names : Scope) (w here : Prefix) → P w → Grouped (told_slots types outs callee o names w) (found_told names_of o w here) (groups_of_told types outs callee o names w)
+  told-grouped : (o : Option Expr) (names : Scope) (w here : Prefix) → P w → Grouped (slots_told types outs callee o names w) (found_told names_of o w here) (groups_of_told types outs callee o names w)
   told-grouped None names w here h = (tt, refl)
   told-grouped (Some e) names w here h = expr-grouped e names w here h
 
@@ -201,8 +197,8 @@ module _ (types : List TypeDecl) (outs : List ℕ → List Decl) (callee : List 
   contract-grouped c names o a e =
       let inside = scope_of c.body names in
       let B = slots_of_block types outs callee c.body names (λ p. Observer ∷ p) in
-      let A = told_slots types outs callee c.assume inside (λ p. Assume ∷ p) in
-      let E = told_slots types outs callee c.enforce inside (λ p. Enforce ∷ p) in
+      let A = slots_told types outs callee c.assume inside (λ p. Assume ∷ p) in
+      let E = slots_told types outs callee c.enforce inside (λ p. Enforce ∷ p) in
       let fa = found_told names_of c.assume (λ p. Assume ∷ p) (at_assumed c.body) in
       let fe = found_told names_of c.enforce (λ p. Enforce ∷ p) (at_enforced c.body) in
       let ga = groups_of_told types outs callee c.assume inside (λ p. Assume ∷ p) in
@@ -220,7 +216,7 @@ eqns-row types outs callee es names w = (eqns-grouped types outs callee (λ w. �
 pub block-row : (types : List TypeDecl) (outs : List ℕ → List Decl) (callee : List ℕ → Prefix → List Slot) (b : Block) (names : Scope) (w : Prefix) → in_a_row (groups_of_block types outs callee b names w) ≡ free_among (slots_of_block types outs callee b names w)
 block-row types outs callee b names w = (block-grouped types outs callee (λ w. ⊤) (λ s w h. tt) b names w w tt).1
 
-told-row : (types : List TypeDecl) (outs : List ℕ → List Decl) (callee : List ℕ → Prefix → List Slot) (o : Option Expr) (names : Scope) (w : Prefix) → in_a_row (groups_of_told types outs callee o names w) ≡ free_among (told_slots types outs callee o names w)
+told-row : (types : List TypeDecl) (outs : List ℕ → List Decl) (callee : List ℕ → Prefix → List Slot) (o : Option Expr) (names : Scope) (w : Prefix) → in_a_row (groups_of_told types outs callee o names w) ≡ free_among (slots_told types outs callee o names w)
 told-row types outs callee None names w = refl
 told-row types outs callee (Some e) names w = expr-row types outs callee e names w
 
@@ -228,8 +224,8 @@ pub contract-row : (types : List TypeDecl) (outs : List ℕ → List Decl) (call
 contract-row types outs callee c names w =
     let inside = scope_of c.body names in
     let B = slots_of_block types outs callee c.body names (below Observer w) in
-    let A = told_slots types outs callee c.assume inside (below Assume w) in
-    let E = told_slots types outs callee c.enforce inside (below Enforce w) in
+    let A = slots_told types outs callee c.assume inside (below Assume w) in
+    let E = slots_told types outs callee c.enforce inside (below Enforce w) in
     let gb = groups_of_block types outs callee c.body names (below Observer w) in
     let ga = groups_of_told types outs callee c.assume inside (below Assume w) in
     let ge = groups_of_told types outs callee c.enforce inside (below Enforce w) in

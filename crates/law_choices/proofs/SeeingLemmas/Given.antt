@@ -97,7 +97,7 @@ number-code types ty.Bool (B b) w i e = absurd (cc)
 number-code types (ty.Enum t) (E u k) w i e = absurd (cc)
 number-code types t v w i e = absurd i
 
-typed-at : (types : List TypeDecl) (ss : List Slot) (root : Instant) (q : Place) → SlotsFit types ss root → IsFree (free_among ss) q → (t : Ty) × IsOf types t (root q)
+pub typed-at : (types : List TypeDecl) (ss : List Slot) (root : Instant) (q : Place) → SlotsFit types ss root → IsFree (free_among ss) q → (t : Ty) × IsOf types t (root q)
 typed-at types [] root q h f = absurd f
 typed-at types (register p k ∷ ss) root q h f = typed-at types ss root q h f
 typed-at types (control p t ∷ ss) root q h f = typed-at types ss root q h f

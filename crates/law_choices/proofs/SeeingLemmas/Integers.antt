@@ -184,6 +184,9 @@ module _ (program after : List Item) (r : IsReady program after) (removable : Is
       ap declared_outputs (nodes-known low_program f) ∙ ap (λ xs. declared_outputs (node_among xs f)) (map_reverse (lowered_item enums) after) ∙ ap declared_outputs (lowered_among enums (reverse after) f)
       ∙ outs-same (node_among (reverse after) f)
 
+  pub outputs-known : (f : List ℕ) → outputs_of (k.nodes f) ≡ outs f
+  outputs-known f = known-outputs (k.nodes f) ∙ outs-known f
+
   pub outs-are : (s : Scope) → Grounded k s → (f : List ℕ) (n : Node) → lookup s.nodes f ≡ Some n → outs f ≡ n.outputs
   outs-are s ground f n h = sym (outs-known f) ∙ ap declared_outputs (ground.nodes f n h)
 
@@ -231,7 +234,7 @@ module _ (program after : List Item) (r : IsReady program after) (removable : Is
         ints = all-ints types among s (lasts_in ds lasts) (typed_in ds (types_around n)) agrees outs (outs-are s ground) enums own is_known w es cs h block_ok.1.1;
         sole = each_other (OfNames (λ y. IsSole y body_eqns)) (OfNames (λ y. (x : ℕ) → variable_of k low y ≡ Some x → HasOneClock x (sketch_node k low).eqns))
             (names-weaker (λ y. IsSole y body_eqns) (λ y. (x : ℕ) → variable_of k low y ≡ Some x → HasOneClock x (sketch_node k low).eqns) sole_name) cs (names-sole (is_integer after (typed_in ds (types_around n))) is_known outs enums own w es cs h);
-        outputs = λ f. known-outputs (k.nodes f) ∙ outs-known f;
+        outputs = outputs-known;
       }
     where
       low-body : (n : Node) (ds : List Decl) (es : Eqns) → n.body ≡ block ds es → (lowered_node enums n).body ≡ block ds (eqns_of (lowered_eqns enums same_name (declaring (lowering.types_of n) ds) 0 es))

@@ -52,6 +52,7 @@ use Rattle.law_choices.specs.Closed.Clocking.{DefinesOwn, IsCopy}
 use Rattle.law_choices.specs.Coded.Codes.{bits_at, bits_of_kind, bits_of_value}
 use Rattle.law_choices.specs.Coded.Laws.{IsTypedAt}
 use Rattle.law_choices.specs.Flat.Names.{is_body_name, variable_of}
+use Rattle.law_choices.specs.Flat.Places.{IsOn}
 use Rattle.law_choices.specs.InTurn.Nodes.{Contracted}
 use Rattle.law_choices.specs.Places.Named.{HasCopy}
 use Rattle.law_choices.specs.Playing.Inputs.{placed as place_of, places_in_row}
@@ -70,7 +71,7 @@ use Rattle.law_choices.proofs.PlayingLemmas.Flags.{declared-cons}
 use Rattle.law_choices.proofs.SeeingLemmas.Defined.{HasItsValue, IsSome}
 use Rattle.law_choices.proofs.SeeingLemmas.Labels.{Cell, cell_typed, free_of_cell, label_cells, naming_cells, output_cells, somes}
 use Rattle.law_choices.proofs.SeeingLemmas.Ordered.{IsCallRow, IsRow, IsRowOf, MayBeRow, OutputsAre}
-use Rattle.law_choices.proofs.SeeingLemmas.Sole.{IsOn, each-in, off-unset}
+use Rattle.law_choices.proofs.SeeingLemmas.Sole.{each-in, off-unset}
 
 -- ---- lists
 
@@ -80,7 +81,7 @@ along-append P [] vs (y ∷ ys) ws h k = absurd h
 along-append P (x ∷ xs) vs [] ws h k = absurd h
 along-append P (x ∷ xs) vs (y ∷ ys) ws h k = (h.0, along-append P xs vs ys ws h.1 k)
 
-no-elements : {A : Type 0} (xs : List A) → length xs ≡ 0 → xs ≡ []
+pub no-elements : {A : Type 0} (xs : List A) → length xs ≡ 0 → xs ≡ []
 no-elements [] h = refl
 no-elements (x ∷ xs) h = absurd (omega (arith, h))
 
@@ -242,7 +243,7 @@ compared-kinds op.Mul k m c e = absurd cc
 compared-kinds op.Div k m c e = absurd cc
 compared-kinds op.Rem k m c e = absurd cc
 
-no-copy : (o : Op2) (args : List Atom) → IsCopy (operator (obc_two o) args) → ⊥
+pub no-copy : (o : Op2) (args : List Atom) → IsCopy (operator (obc_two o) args) → ⊥
 no-copy op.Lt args c = c
 no-copy op.Le args c = c
 no-copy op.Gt args c = c
@@ -299,10 +300,10 @@ module _ (laws : NodeLaws) (types : List ObcType) (all : Callees) (observers : O
   abbrev clocks : ℕ → Clock
   clocks = ((seen laws types all observers n c g).keeps).clocks
 
-  abbrev own_places : Placed
+  abbrev pub own_places : Placed
   own_places = let fits = ((g.is).is_watched).fits in placed observers (length plant.eqns) (embedded (fits.own).node (own_site (length n.inputs) plant) plant)
 
-  abbrev free_by_number : ℕ → List Free
+  abbrev pub free_by_number : ℕ → List Free
   free_by_number m = free_placed observers own_places m
 
   -- the number of an event, and what may be said of it
@@ -315,7 +316,7 @@ module _ (laws : NodeLaws) (types : List ObcType) (all : Callees) (observers : O
   pub same-type : (x : ℕ) → x < length plant.variables → type_at s.node x ≡ type_at plant x
   same-type x l = let q = ((seen laws types all observers n c g).keeps).grows in let v = q.variables in type-same v.0 plant s.node x v.1 l
 
-  still-below : (x : ℕ) → x < length plant.variables → x < length s.node.variables
+  pub still-below : (x : ℕ) → x < length plant.variables → x < length s.node.variables
   still-below x below =
       let v = (((seen laws types all observers n c g).keeps).grows).variables in
       let long = length-append plant.variables v.0 in
@@ -323,7 +324,7 @@ module _ (laws : NodeLaws) (types : List ObcType) (all : Callees) (observers : O
       omega (arith, below, long, e)
 
   -- a variable has its type in the node that is watched
-  typed-there : (x : ℕ) (t : FlatTy) → HasType (sketch_node k low) x t → type_at s.node x ≡ t
+  pub typed-there : (x : ℕ) (t : FlatTy) → HasType (sketch_node k low) x t → type_at s.node x ≡ t
   typed-there x t h =
       let at = ap (λ vs. slice_get vs x) made ∙ h.1 in
       same-type x (number_below plant.variables x h.0 at) ∙ ap type_in at ∙ h.2
@@ -356,14 +357,14 @@ module _ (laws : NodeLaws) (types : List ObcType) (all : Callees) (observers : O
     pub free : free_by_number m ≡ map place_of_row rows ++ more
 
   module _ (m : ℕ) (e : FlatEqn) (at_number_is : slice_get plant.eqns m ≡ Some e) where
-    there : slice_get s.node.eqns m ≡ Some e
+    pub there : slice_get s.node.eqns m ≡ Some e
     there = let q = more_eqns in ap (λ es. slice_get es m) q.1 ∙ get_front plant.eqns q.0 m (number_below plant.eqns m e at_number_is) ∙ at_number_is
 
-    numbers : EqnWithin (length plant.variables) e
+    pub numbers : EqnWithin (length plant.variables) e
     numbers = let w = ((g.of_node).based).well in let i = w.within in at_number (EqnWithin (length plant.variables)) plant.eqns m e at_number_is i.eqns
 
     -- the targets are on the clock of the event, if that is no copy
-    targets-clock : (IsCopy e.right → ⊥) → AllByRecursion (λ y. clocks y ≡ e.clock) e.targets
+    pub targets-clock : (IsCopy e.right → ⊥) → AllByRecursion (λ y. clocks y ≡ e.clock) e.targets
     targets-clock new =
         let keeps = (seen laws types all observers n c g).keeps in
         each_both (λ y. y < length plant.variables) (λ y. (g.clock y ≡ e.clock) ⊎ IsCopy e.right) (λ y. clocks y ≡ e.clock) (λ y l h. keeps.same y l ∙ by y h) e.targets numbers.targets (at_number (DefinesOwn g.clock) plant.eqns m e at_number_is (g.of_node).own)

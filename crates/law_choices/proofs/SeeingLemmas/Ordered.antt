@@ -33,6 +33,7 @@ use Rattle.law_wellmade.proofs.PartedLemmas.Expressions.{has-first}
 use Rattle.law_wellmade.proofs.RegularLemmas.Expressions.{Outputs}
 use Rattle.hp_watch.specs.Walk.{events_from, walk_block, walk_eqns}
 use Rattle.law_choices.specs.Flat.Names.{body_sight, variable_of}
+use Rattle.law_choices.specs.Flat.Places.{IsOn}
 use Rattle.law_choices.specs.Places.Laws.{AreMadeOf, KnowsOutputs}
 use Rattle.law_choices.specs.Places.Named.{HasCopy}
 use Rattle.law_choices.specs.Seeing.ByName.{Naming, are_named, of_call, of_comparison}
@@ -41,7 +42,7 @@ use Rattle.law_choices.proofs.PlacesLemmas.Numbers.{AtNumber, numbered}
 use Rattle.law_choices.proofs.PlacesLemmas.Relating.{block-goes}
 use Rattle.law_choices.proofs.SeeingLemmas.Integers.{ComparesInts, ComparesIntsBy, IsScoped}
 use Rattle.law_choices.proofs.SeeingLemmas.Labels.{Cell, EachName, IsFine, IsFineNaming, Names as NamesOf, OfNames, are-labelled, both-true, calling, cell_typed, comparison, label_cells, made_labels, names-fine, no_more, other, output_cells, rest-named, somes, somes-are, walk-labels, walked_labels}
-use Rattle.law_choices.proofs.SeeingLemmas.Sole.{HasOneClock, IsOn, each-in, one-clock-alike, or-right}
+use Rattle.law_choices.proofs.SeeingLemmas.Sole.{HasOneClock, each-in, one-clock-alike, or-right}
 
 -- ---- values at the right sides
 

@@ -99,7 +99,7 @@ values-same y [] (j ∷ other) h = absurd h
 values-same y (i ∷ past) [] h = absurd h
 values-same y (i ∷ past) (j ∷ other) h = ap₂ (λ (v : Value) vs. v ∷ vs) (h.0 (Body ∷ Named y ∷ [])) (values-same y past other h.1)
 
-rows-of : (types : List TypeDecl) (ds : List Decl) (rows : List (List Value)) → ConstructorsDiffer types → AllByRecursion (AreOfKinds (timely.kinds_of_decls types ds)) rows → AllByRecursion (AreOf types ds) rows
+pub rows-of : (types : List TypeDecl) (ds : List Decl) (rows : List (List Value)) → ConstructorsDiffer types → AllByRecursion (AreOfKinds (timely.kinds_of_decls types ds)) rows → AllByRecursion (AreOf types ds) rows
 rows-of types ds [] differ h = tt
 rows-of types ds (row ∷ rows) differ h = (are_of types ds row differ h.0, rows-of types ds rows differ h.1)
 

@@ -24,14 +24,11 @@ use Rattle.law_wellmade.proofs.PartedLemmas.Blocks.{Named, eqns-add}
 use Rattle.law_wellmade.proofs.PartedLemmas.Expressions.{called-adds, expr-adds, exprs-add, path-adds}
 use Rattle.law_wellmade.proofs.PartedLemmas.Owning.{Owned, declared-value, nothing-owned, owned-declared, owned-later, owned-signed, owning-names, remembering}
 use Rattle.law_choices.specs.Flat.Names.{variable_of}
+use Rattle.law_choices.specs.Flat.Places.{IsOn}
 use Rattle.law_choices.specs.Places.Named.{IsIn}
 use Rattle.law_choices.proofs.AddingLemmas.Adding.{both as each-both}
 
 -- ---- where a variable is defined
-
--- the equations that define it are on this clock
-abbrev pub IsOn : ℕ → Clock → List FlatEqn → Type 0
-IsOn x c es = AllByRecursion (λ (q : FlatEqn). has q.targets x ≡ true → q.clock ≡ c) es
 
 abbrev pub HasOneClock : ℕ → List FlatEqn → Type 0
 HasOneClock x es = (c : Clock) × IsOn x c es

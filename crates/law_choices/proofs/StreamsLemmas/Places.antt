@@ -96,6 +96,7 @@ module _ (laws : ReadyLaws) (found : FilledFoundLaw) (program after : List Item)
         is_only = only inputs taken read.instants read.reaction;
         means = its.means;
         labelled = its.labelled;
+        alone = its.alone;
         low = it.filled.past;
         found = found (outputs_low after) choices after g.name n inputs _ e it;
         values = read.values;

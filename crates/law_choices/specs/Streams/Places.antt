@@ -33,7 +33,7 @@ use Rattle.law_choices.specs.Choosing.Meaning.{HasOneMeaningUnder}
 use Rattle.law_choices.specs.Choosing.Programs.{AreChoices}
 use Rattle.law_choices.specs.Runs.Laws.{ChoosesValues}
 use Rattle.law_choices.specs.Flat.Names.{values_at}
-use Rattle.law_choices.specs.Flat.Places.{values_in}
+use Rattle.law_choices.specs.Flat.Places.{AreAlone, values_in}
 use Rattle.law_choices.specs.Seeing.Found.{FoundAlike}
 use Rattle.law_choices.specs.Streams.Names.{IsOnlyReaction}
 use Rattle.law_choices.specs.Streams.Streams.{AnswersReaction}
@@ -42,7 +42,7 @@ use Rattle.law_choices.specs.Streams.Streams.{AnswersReaction}
 abbrev pub outputs_low : List Item → List ℕ → List (List ℕ)
 outputs_low program = (filled_nodes (lowered_program program)).outputs
 
--- There is exactly one reaction of a node with the chosen values over inputs, and exactly one of its clocked equations over what is answered. The variables of the equations that compare or call stand for places of the program without automata, and what stands for a place has the values of an instant there.
+-- There is exactly one reaction of a node with the chosen values over inputs, and exactly one of its clocked equations over what is answered. The variables of the equations that compare or call stand for places of the program without automata, and these equations alone define them; what stands for a place has the values of an instant there.
 -- What a walk over the node finds outside of transitions has these values, wherever it is there and not Nil.
 pub record KeepsPlaces (choices : Choices) (program : List Item) (answers : Answers) (n : Node) (flat : FlatNode) (inputs : List (List Value)) : Type 0 where
   pub answered : AnswersReaction choices program answers flat.name inputs
@@ -50,6 +50,7 @@ pub record KeepsPlaces (choices : Choices) (program : List Item) (answers : Answ
   pub is_only : IsOnlyReaction choices answers flat inputs instants
   pub means : ℕ → FlatName
   pub labelled : AreMadeAt means (events flat.eqns) (block_labels (outputs_low program) (lowered_node (enumerations [] program) n).body in_body [])
+  pub alone : AreAlone flat
   pub low : Past
   pub found : Along (FoundAlike (outputs_low program) n) answered.one.before.past low
   pub values : (v : ℕ) (q : Place) → means v ≡ At q → values_at v instants ≡ values_in q low
