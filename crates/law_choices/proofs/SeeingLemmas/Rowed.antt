@@ -37,7 +37,6 @@ use Rattle.law_choices.specs.Seeing.InBody.{no_slots}
 use Rattle.law_choices.proofs.AddingLemmas.Surveyed.{at_number}
 use Rattle.law_choices.proofs.BroughtLemmas.Apiece.{types_apiece, types_of_places}
 use Rattle.law_choices.proofs.BroughtLemmas.Brought.{Brings, Calls, Compares, of_compared}
-use Rattle.law_choices.proofs.BroughtLemmas.Flagged.{Targets}
 use Rattle.law_choices.proofs.ClosedLemmas.ClosedLaws.{each_both}
 use Rattle.law_choices.proofs.InTurnLemmas.Contracted.{Ground, NodeLaws}
 use Rattle.law_choices.proofs.PlacesLemmas.Numbers.{AtNumber, numbered}
@@ -50,6 +49,10 @@ use Rattle.law_choices.proofs.SeeingLemmas.Listed.{SameKind, free_by_number, no-
 -- the equation of a number
 abbrev pub NumberHas : (FlatEqn → Type 0) → List FlatEqn → ℕ → Type 0
 NumberHas P es m = (e : FlatEqn) × (slice_get es m ≡ Some e) × P e
+
+-- The equation of this number has such targets, with the own places of what a walk finds.
+abbrev pub TargetsAre : (ℕ → Place → Type 0) → List FlatEqn → ℕ → Spot × Spot → Type 0
+TargetsAre V es m x = (e : FlatEqn) × (slice_get es m ≡ Some e) × Along V e.targets (places_of x.0)
 
 pub walked-have : (P : FlatEqn → Type 0) (b : Block) (es : List FlatEqn) → AllByRecursion P (events es) → AllByRecursion (NumberHas P es) (walk_block b (events_from 0 es)).0
 walked-have P b es h =
@@ -224,7 +227,7 @@ module _ (laws : NodeLaws) (types : List ObcType) (all : Callees) (observers : O
   no_copy e (called f ps) event copy = subst IsCopy event.1 copy
 
   pub all-brought : (order : List ℕ) (L : List (List Ty)) (fs : Both) (gs : List (List FreePlace)) → Along (AtNumber (Brings given k (sketch_node k low)) plant.eqns) order L → L ≡ types_apiece gs → Along (IsNumberOf plant.eqns) order (map (λ (x : Spot × Spot). x.1) fs)
-      → Along (λ (x : Spot × Spot) (places : List FreePlace). IsGroupOf decls outs no_slots IsInFront x.0 places × AreAlike x.0 x.1) fs gs → AllByRecursion (NumberHas IsAlone plant.eqns) order → Along (Targets V plant.eqns) order fs → Along IsBrought order gs
+      → Along (λ (x : Spot × Spot) (places : List FreePlace). IsGroupOf decls outs no_slots IsInFront x.0 places × AreAlike x.0 x.1) fs gs → AllByRecursion (NumberHas IsAlone plant.eqns) order → Along (TargetsAre V plant.eqns) order fs → Along IsBrought order gs
   all-brought [] L [] [] a e b h alone t = tt
   all-brought [] L [] (g' ∷ gs) a e b h alone t = absurd h
   all-brought [] L (x ∷ fs) gs a e b h alone t = absurd t

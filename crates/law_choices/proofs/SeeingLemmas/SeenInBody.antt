@@ -79,7 +79,6 @@ use Rattle.law_choices.specs.Streams.Places.{KeepsPlacesOf, PlacesLaw, outputs_l
 use Rattle.law_choices.proofs.BroughtLemmas.Apiece.{outputs-anywhere, types_apiece}
 use Rattle.law_choices.proofs.BroughtLemmas.Bodies.{body-apiece}
 use Rattle.law_choices.proofs.BroughtLemmas.Brought.{Brings, free_types}
-use Rattle.law_choices.proofs.BroughtLemmas.Flagged.{Targets}
 use Rattle.law_choices.proofs.OnClocksLemmas.WellMade.{ready_knows}
 use Rattle.law_choices.proofs.PlacesLemmas.Grouped.{groups_law}
 use Rattle.law_choices.proofs.PlacesLemmas.Numbers.{AtNumber, found-law}
@@ -87,7 +86,7 @@ use Rattle.law_choices.proofs.PlacesLemmas.Slots.{outputs_slots}
 use Rattle.law_choices.proofs.PlacesLemmas.Standing.{events-alike, standing-law}
 use Rattle.law_choices.proofs.SeeingLemmas.HeldInBody.{IsTold, holds}
 use Rattle.law_choices.proofs.SeeingLemmas.Integers.{outputs-known}
-use Rattle.law_choices.proofs.SeeingLemmas.Rowed.{all-brought, walked-have}
+use Rattle.law_choices.proofs.SeeingLemmas.Rowed.{all-brought, TargetsAre, walked-have}
 use Rattle.law_choices.proofs.SeeingLemmas.SeenPrograms.{rows-of}
 use Rattle.law_equations.specs.Meaning.Instants as flows
 use Rattle.law_wellmade.specs.Timely.Kinds as timely
@@ -117,7 +116,7 @@ module _ (means : ℕ → FlatName) (now low : Instant) (j : flows.Instant) (val
       let others : map means xs ≡ ats qs = cc in
       (λ outside there some. values x q first ∙ h.0 outside there some, places-told xs ps qs others h.1)
 
-  targets-told : (es : List FlatEqn) (order : List ℕ) (fs : Both) → Along (StandsAtNumber means es) order (map (λ (s : Spot × Spot). s.1) fs) → Each (λ (s : Spot × Spot). Along (KnownAlike now low) (places_of s.0) (places_of s.1)) fs → Along (Targets (IsTold j now) es) order fs
+  targets-told : (es : List FlatEqn) (order : List ℕ) (fs : Both) → Along (StandsAtNumber means es) order (map (λ (s : Spot × Spot). s.1) fs) → Each (λ (s : Spot × Spot). Along (KnownAlike now low) (places_of s.0) (places_of s.1)) fs → Along (TargetsAre (IsTold j now) es) order fs
   targets-told es [] [] a h = tt
   targets-told es [] (s ∷ fs) a h = absurd a
   targets-told es (m ∷ order) [] a h = absurd a
