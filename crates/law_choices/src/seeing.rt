@@ -23,7 +23,7 @@ use crate::choosing::{
 };
 use crate::in_turn::a_node_tells_each_contract;
 use crate::playing::machines_that_are_asked_owe;
-use crate::streams::{meanings_give_the_chosen_reactions, meanings_keep_places};
+use crate::streams::meanings_keep_places;
 use hp_controller::{
     added_equations_give_inputs, controlled_nodes_follow_their_controller,
     controllers_answer_with_the_choice, gates_have_their_values,
