@@ -1,6 +1,5 @@
 -- Nothing is free in the heater but its inputs, and a house that calls it has its greatest permitted values. The comparisons of the cooler have names, and it has its greatest permitted values in a store that calls it. The output of the latch has a name in the pump, which has its greatest permitted values. So has the valve, whose comparison has none.
 use Rattle.std.proofs.Common.{inl, inr, length, refl, ap, arith}
-use Rattle.law_choices.proofs.SeeingLemmas.NamedInBody.{sees-in-body}
 use Rattle.law_controlled.specs.AtDepth.{SeesAll}
 use Rattle.law_controlled.specs.Worked.{CoolerLaw, HeaterLaw, HouseLaw, PumpLaw, StoreLaw, ValveLaw, cool_promise, cooler, cooler_call, dry_promise, heater, housing, its_call, promise, pump, pumping, shut_promise, storing, valve, valving}
 
@@ -17,13 +16,13 @@ pub cooler_law : CoolerLaw
 cooler_law = ((cool_promise, refl), refl, refl)
 
 cooler_sees : SeesAll storing cooler
-cooler_sees = inr (inr (sees-in-body storing cooler refl))
+cooler_sees = inr (inr (record { places = refl; no_transition = (refl, refl, refl, tt) }))
 
 pub store_law : StoreLaw
 store_law = (cooler_sees, λ past now h t. (h.1 0 cooler_call (omega arith) t).0 cooler_sees)
 
 pump_sees : SeesAll pumping pump
-pump_sees = inr (inr (sees-in-body pumping pump refl))
+pump_sees = inr (inr (record { places = refl; no_transition = (refl, refl, tt) }))
 
 pub pump_law : PumpLaw
 pump_law = ((dry_promise, refl), refl, λ past now h. h.0 pump_sees)
