@@ -123,7 +123,7 @@ pub fn contracts_that_are_seen_are_told()
 pub fn named_places_are_seen()
     ensures { SeenByNameLaw }
 {
-    meanings_give_the_chosen_reactions();
+    meanings_keep_places();
     programs_have_one_meaning_under_each_choice();
     chosen_nodes_have_one_reaction();
     callees_may_differ_elsewhere();
