@@ -16,13 +16,13 @@ pub cooler_law : CoolerLaw
 cooler_law = ((cool_promise, refl), refl, refl)
 
 cooler_sees : SeesAll storing cooler
-cooler_sees = inr (inr (record { places = refl; no_transition = (refl, refl, refl, tt) }))
+cooler_sees = inr (inr (record { places = refl; no_transition = (refl, (refl, (refl, tt))) }))
 
 pub store_law : StoreLaw
 store_law = (cooler_sees, λ past now h t. (h.1 0 cooler_call (omega arith) t).0 cooler_sees)
 
 pump_sees : SeesAll pumping pump
-pump_sees = inr (inr (record { places = refl; no_transition = (refl, refl, tt) }))
+pump_sees = inr (inr (record { places = refl; no_transition = (refl, (refl, tt)) }))
 
 pub pump_law : PumpLaw
 pump_law = ((dry_promise, refl), refl, λ past now h. h.0 pump_sees)
