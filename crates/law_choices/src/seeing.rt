@@ -23,7 +23,7 @@ use crate::choosing::{
 };
 use crate::in_turn::a_node_tells_each_contract;
 use crate::playing::machines_that_are_asked_owe;
-use crate::streams::{meanings_give_the_chosen_reactions, meanings_keep_places};
+use crate::streams::meanings_keep_places;
 use hp_controller::{
     added_equations_give_inputs, controlled_nodes_follow_their_controller,
     controllers_answer_with_the_choice, gates_have_their_values,
@@ -123,7 +123,7 @@ pub fn contracts_that_are_seen_are_told()
 pub fn named_places_are_seen()
     ensures { SeenByNameLaw }
 {
-    meanings_give_the_chosen_reactions();
+    meanings_keep_places();
     programs_have_one_meaning_under_each_choice();
     chosen_nodes_have_one_reaction();
     callees_may_differ_elsewhere();

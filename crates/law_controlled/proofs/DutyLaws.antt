@@ -26,7 +26,6 @@ use Rattle.law_wellmade.proofs.TimelyLemmas.KindLaws.{are_of}
 use Rattle.law_choices.specs.Playing.Greatest.{ChoosesGreatest, GreatestLaw}
 use Rattle.law_choices.specs.Playing.Telling.{ContractToldLaw}
 use Rattle.law_choices.specs.Runs.Chosen.{ChosenReaction}
-use Rattle.law_choices.specs.Seeing.SeenByName.{SeenByNameLaw}
 use Rattle.law_choices.specs.Seeing.SeenInBody.{SeenInBodyLaw}
 use Rattle.law_choices.specs.Seeing.Greatest.{SeenGreatestLaw}
 use Rattle.law_choices.specs.Seeing.Telling.{SeenToldLaw}
@@ -53,7 +52,6 @@ pub record SteeringLaws : Type 0 where
   pub instances : InKindLaw
   pub tells : TellsForLaw
   pub told : ContractToldLaw
-  pub by_name : SeenByNameLaw
   pub in_body : SeenInBodyLaw
   pub seen : SeenGreatestLaw
   pub seen_told : SeenToldLaw

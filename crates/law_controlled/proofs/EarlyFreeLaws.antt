@@ -55,7 +55,8 @@ use Rattle.law_choices.proofs.AddingLemmas.Surveyed.{at_number}
 use Rattle.law_choices.proofs.BroughtLemmas.Alone.{found-alone}
 use Rattle.law_choices.proofs.BroughtLemmas.Brought.{free_types}
 use Rattle.law_choices.proofs.BroughtLemmas.Flagged.{Kept, Targets, all-kept}
-use Rattle.law_choices.proofs.BroughtLemmas.Inputless.{block-none, callee-none, contract-none, flags-kept, flags-many}
+use Rattle.law_choices.proofs.BroughtLemmas.Inputless.{block-none, callee-none, contract-none, flags-kept}
+use Rattle.law_choices.proofs.PlayingLemmas.Flags.{flags-many}
 use Rattle.law_choices.proofs.BroughtLemmas.Late.{IsInside, callee-not-own, each-as, inside-below}
 use Rattle.law_choices.proofs.BroughtLemmas.Placed.{AreIn, here-types, last_placed, observed_types, one-types, outputs-shown, placed-is, shown_types, typed-here, typed-there, types_in}
 use Rattle.law_choices.proofs.BroughtLemmas.Bodies.{body-apiece}

@@ -42,10 +42,7 @@ module _ (laws : SteeringLaws) (program after : List Item) (ranks : List (List �
   told_of : (f : List ℕ) (n : Node) (inputs : List (List Value)) (past : Past) → node_among (reverse after) f ≡ Some n → Kinds n inputs → Reacts f inputs past → HasContract n → IsSeen after n → calls_of n ≡ []
       → AreToldOf past (all_answers (((r.allowed).one).answers f) inputs) (all_answers (((r.allowed).one).answers (contract_name f)) inputs)
   told_of f n inputs past e kinds reacts has (inl alone) none = laws.told program after ranks r.observers r.all order r.chooses r.mirrored r.allowed f n inputs past e has alone none kinds reacts
-  told_of f n inputs past e kinds reacts has (inr (inl named)) none =
-      laws.seen_told program after ranks r.observers r.all order r.chooses r.mirrored r.allowed f n inputs past e has none kinds reacts
-      (laws.by_name program after ranks r.observers r.all order r.chooses r.allowed f n inputs past e named kinds reacts)
-  told_of f n inputs past e kinds reacts has (inr (inr body)) none =
+  told_of f n inputs past e kinds reacts has (inr body) none =
       laws.seen_told program after ranks r.observers r.all order r.chooses r.mirrored r.allowed f n inputs past e has none kinds reacts
       (laws.in_body program after ranks r.observers r.all order r.chooses r.allowed f n inputs past e body kinds reacts)
 

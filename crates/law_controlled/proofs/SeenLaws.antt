@@ -27,9 +27,6 @@ module _ (laws : SteeringLaws) (program after : List Item) (ranks : List (List �
   pub greatest_of : (f : List ℕ) (n : Node) (inputs : List (List Value)) (past : Past) → node_among (reverse after) f ≡ Some n → Kinds n inputs → Reacts f inputs past → SeesAll after n → Through (ChoosesGreatest after n) past
   greatest_of f n inputs past e kinds reacts (inl none) = laws.greatest program after ranks r.observers r.all order r.chooses r.mirrored r.allowed f n inputs past e (inl none) kinds reacts
   greatest_of f n inputs past e kinds reacts (inr (inl alone)) = laws.greatest program after ranks r.observers r.all order r.chooses r.mirrored r.allowed f n inputs past e (inr alone) kinds reacts
-  greatest_of f n inputs past e kinds reacts (inr (inr (inl named))) =
-      laws.seen program after ranks r.observers r.all order r.chooses r.mirrored r.allowed f n inputs past e kinds reacts
-      (laws.by_name program after ranks r.observers r.all order r.chooses r.allowed f n inputs past e named kinds reacts)
-  greatest_of f n inputs past e kinds reacts (inr (inr (inr body))) =
+  greatest_of f n inputs past e kinds reacts (inr (inr body)) =
       laws.seen program after ranks r.observers r.all order r.chooses r.mirrored r.allowed f n inputs past e kinds reacts
       (laws.in_body program after ranks r.observers r.all order r.chooses r.allowed f n inputs past e body kinds reacts)

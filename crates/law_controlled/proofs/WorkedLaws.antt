@@ -16,19 +16,19 @@ pub cooler_law : CoolerLaw
 cooler_law = ((cool_promise, refl), refl, refl)
 
 cooler_sees : SeesAll storing cooler
-cooler_sees = inr (inr (inl refl))
+cooler_sees = inr (inr (record { places = refl; no_transition = (refl, (refl, (refl, tt))) }))
 
 pub store_law : StoreLaw
 store_law = (cooler_sees, λ past now h t. (h.1 0 cooler_call (omega arith) t).0 cooler_sees)
 
 pump_sees : SeesAll pumping pump
-pump_sees = inr (inr (inl refl))
+pump_sees = inr (inr (record { places = refl; no_transition = (refl, (refl, tt)) }))
 
 pub pump_law : PumpLaw
 pump_law = ((dry_promise, refl), refl, λ past now h. h.0 pump_sees)
 
 valve_sees : SeesAll valving valve
-valve_sees = inr (inr (inr (record { places = refl; no_transition = (refl, tt) })))
+valve_sees = inr (inr (record { places = refl; no_transition = (refl, tt) }))
 
 pub valve_law : ValveLaw
 valve_law = ((shut_promise, refl), (λ e. absurd (let l = ap length e in omega (arith, l))), record { places = refl; no_transition = (refl, tt) }, λ past now h. h.0 valve_sees)

@@ -17,7 +17,6 @@ use Rattle.hp_meaning.specs.Contract.FreePlaces.{calls_of, instance_at}
 use Rattle.hp_meaning.specs.Contract.Guarantee.{AllAssumed, AllSupposed, HasContract, Through}
 use Rattle.law_choices.specs.Playing.Greatest.{ChoosesGreatest}
 use Rattle.law_choices.specs.Playing.Inputs.{HasInputsAlone}
-use Rattle.law_choices.specs.Seeing.ByName.{SeesByName}
 use Rattle.law_choices.specs.Seeing.InBody.{SeesInBody}
 
 -- A property of a node at an instant, after its own past, is one of the node of this name and of each instance below it that is there, at every depth; the nodes are given the last one first.
@@ -29,9 +28,9 @@ InEach P (NodeItem n ∷ earlier) f past now =
     (P n past now × All (λ (k : Placed). IsTrue (is_there (instance_at k now (Fresh ∷ []))) → InEach P earlier k.point.name (own_past (k.place ++ (Instance ∷ [])) past now) (instance_at k now)) (calls_of n))
     (InEach P earlier f past now)
 
--- Nothing is free in a node but its inputs, or but these and comparisons of integers and outputs of calls: such ones as have names, or such as stand in the body, outside of transitions.
+-- Nothing is free in a node but its inputs, or but these and comparisons of integers and outputs of calls that stand in the body, outside of transitions.
 abbrev pub IsSeen : List Item → Node → Type 0
-IsSeen program n = HasInputsAlone program n ⊎ SeesByName program n ⊎ SeesInBody program n
+IsSeen program n = HasInputsAlone program n ⊎ SeesInBody program n
 
 -- A node has no controllable variable, or it is such a node.
 abbrev pub SeesAll : List Item → Node → Type 0

@@ -50,8 +50,8 @@ use law_choices::playing::{
 };
 use law_choices::runs::chosen_values_make_one_reaction;
 use law_choices::seeing::{
-    contracts_that_are_seen_are_told, named_places_are_seen,
-    nodes_that_see_values_choose_the_greatest, places_of_bodies_are_seen,
+    contracts_that_are_seen_are_told, nodes_that_see_values_choose_the_greatest,
+    places_of_bodies_are_seen,
 };
 use law_choices::undisturbed::{
     controls_are_apart, ready_programs_keep_contracts, ready_programs_keep_dependence,
@@ -165,7 +165,6 @@ pub fn machines_of_texts_choose_the_greatest()
     instances_react_in_kind();
     a_node_tells_each_contract();
     contracts_are_told();
-    named_places_are_seen();
     places_of_bodies_are_seen();
     nodes_that_see_values_choose_the_greatest();
     contracts_that_are_seen_are_told();

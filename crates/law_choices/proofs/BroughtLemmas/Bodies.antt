@@ -73,7 +73,7 @@ use Rattle.law_choices.proofs.PlacesLemmas.Numbers.{AtNumber, numbered}
 use Rattle.law_choices.proofs.PlacesLemmas.Relating.{block-goes}
 use Rattle.law_choices.proofs.PlacesLemmas.Grouped.{block-row}
 use Rattle.law_choices.proofs.PlacesLemmas.Slots.{outputs_slots}
-use Rattle.law_choices.proofs.SeeingLemmas.Integers.{low-stands, outs-are}
+use Rattle.law_choices.proofs.SeeingLemmas.Outputs.{low-stands, outs-are}
 
 -- ---- what is known of the node at a place
 

@@ -1,5 +1,5 @@
 -- Among the slots of a block no inputs stand, so the flags of its free places say which of these are early; nor do they behind the inputs of a node.
-use Rattle.std.proofs.Common.{◌≡◌, ℕ, Bool, true, false, if◌then◌else◌, List, [], ◌∷◌, ◌++◌, length, suc, reverse, Option, None, Some, refl, sym, ap, ◌∙◌}
+use Rattle.std.proofs.Common.{◌≡◌, ℕ, Bool, true, false, if◌then◌else◌, List, [], ◌∷◌, ◌++◌, reverse, Option, None, Some, refl, sym, ap, ◌∙◌}
 use Rattle.std.specs.Prelude.{⊤, ◌&&◌}
 use Rattle.std.proofs.lemmas.List.{append_cancel_left}
 use Rattle.hp_base.specs.declared.ty.Const.{Const}
@@ -42,14 +42,6 @@ none-both (register p q ∷ ss) ts h k = none-both ss ts h k
 none-both (free p t ∷ ss) ts h k = none-both ss ts h k
 none-both (control p t ∷ ss) ts h k = none-both ss ts h k
 none-both (input p t ∷ ss) ts h k = absurd h
-
--- there are as many flags as free places
-pub flags-many : (early : Place → Bool) (ss : List Slot) → length (early_flags early ss) ≡ length (free_among ss)
-flags-many early [] = refl
-flags-many early (register p k ∷ ss) = flags-many early ss
-flags-many early (free p t ∷ ss) = ap suc (flags-many early ss)
-flags-many early (input p t ∷ ss) = ap suc (flags-many early ss)
-flags-many early (control p t ∷ ss) = flags-many early ss
 
 -- What is so of free places whose place is early is so of those whose flag is set.
 pub flags-kept : (early : Place → Bool) (E : Place → Type 0) (D : Free → Type 0) (ss : List Slot) (fs : List Free) → HasNoInput ss → Each (λ (q : FreePlace). early q.0 ≡ true → E q.0) (free_among ss) → Along (λ (f : Free) (q : FreePlace). E q.0 → D f) fs (free_among ss)

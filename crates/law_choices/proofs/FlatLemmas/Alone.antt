@@ -1,5 +1,5 @@
 -- A variable that stands for the place of a comparison, or of an output of a call, is defined by one equation.
-use Rattle.std.proofs.Common.{◌≡◌, ◌⊎◌, inl, inr, ℕ, suc, ◌+◌, ◌<◌, ◌≤◌, Bool, true, false, nat_eq, ◌||◌, if◌then◌else◌, List, [], ◌∷◌, ◌++◌, length, map, Option, None, Some, refl, sym, ap, subst, ◌∙◌, arith}
+use Rattle.std.proofs.Common.{◌≡◌, ◌⊎◌, inl, inr, ℕ, suc, ◌+◌, ◌<◌, ◌≤◌, Bool, true, false, nat_eq, ◌&&◌, ◌||◌, if◌then◌else◌, List, [], ◌∷◌, ◌++◌, length, map, Option, None, Some, refl, sym, ap, subst, ◌∙◌, arith}
 use Rattle.std.specs.Prelude.{is_some}
 use Rattle.std.specs.List.{AllByRecursion}
 use Rattle.std.specs.Str.{bytes_eq}
@@ -21,7 +21,8 @@ use Rattle.law_equations.specs.Flattened.Flatten.{FlatName, At, Nowhere, When, a
 use Rattle.law_equations.specs.Flattened.Lifted.{in_body}
 use Rattle.law_equations.specs.Flattened.Numbered.{AreEquationsFor, AreRows, StandFor, definitions, targets_from}
 use Rattle.law_equations.specs.Made.Labels.{AreMadeAt, Label, arms_labels, block_labels, compares_or_calls, comparison, eqn_labels, eqns_labels, events, expr_labels, exprs_labels, output_places, parts_labels, places_of, with_comparison, calling}
-use Rattle.law_equations.specs.Meaning.Reactions.{has}
+use Rattle.law_equations.specs.Meaning.Instants.{Instant, holds}
+use Rattle.law_equations.specs.Meaning.Reactions.{has, is_set}
 use Rattle.law_choices.specs.Flat.Places.{AreAlone, IsOn}
 use Rattle.law_choices.specs.Places.Named.{IsIn}
 
@@ -245,3 +246,13 @@ module _ (types : List TypeDecl) (outputs : List ℕ → List (List ℕ)) (fill 
   -- So it is of each equation that compares or calls.
   pub events-alone : AreMadeAt means (events f.eqns) (block_labels outputs n.body in_body []) → AreAlone f
   events-alone labelled = each-alone (events f.eqns) (block_labels outputs n.body in_body []) (λ e i. among-events f.eqns e i) labelled (body-single types outputs fill n)
+
+-- where the clock does not hold, nothing sets it
+pub off-unset : (x : ℕ) (c : List (ℕ × ℕ)) (es : List FlatEqn) (now : Instant) → IsOn x c es → holds c now ≡ false → is_set es now x ≡ false
+off-unset x c [] now h off = refl
+off-unset x c (e ∷ es) now h off = by (holds e.clock now) (has e.targets x) refl refl (off-unset x c es now h.1 off)
+  where
+    by : (p q : Bool) → holds e.clock now ≡ p → has e.targets x ≡ q → is_set es now x ≡ false → (holds e.clock now && has e.targets x) || is_set es now x ≡ false
+    by false q f g rest = ap (λ b. (b && has e.targets x) || is_set es now x) f ∙ rest
+    by true false f g rest = ap (λ b. (b && has e.targets x) || is_set es now x) f ∙ ap (λ b. b || is_set es now x) g ∙ rest
+    by true true f g rest = absurd (let z : true ≡ false = sym f ∙ ap (λ d. holds d now) (h.0 g) ∙ off in cc)

@@ -34,6 +34,14 @@ all_true xs = map (λ x. true) xs
 
 -- ---- what is said of slots
 
+-- as many flags as free places
+pub flags-many : (early : Place → Bool) (ss : List Slot) → length (early_flags early ss) ≡ length (free_among ss)
+flags-many early [] = refl
+flags-many early (register p k ∷ ss) = flags-many early ss
+flags-many early (control p t ∷ ss) = flags-many early ss
+flags-many early (input p t ∷ ss) = ap suc (flags-many early ss)
+flags-many early (free p t ∷ ss) = ap suc (flags-many early ss)
+
 module _ (early : Place → Bool) where
   pub flags-append : (ss rest : List Slot) → early_flags early (ss ++ rest) ≡ early_flags early ss ++ early_flags early rest
   flags-append [] rest = refl

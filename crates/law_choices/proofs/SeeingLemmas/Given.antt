@@ -1,6 +1,6 @@
 -- An instant of the game is one for values of free places that are of their types, and its own wherever it looks.
-use Rattle.std.proofs.Common.{◌≡◌, inl, inr, ℕ, List, [], ◌∷◌, ◌++◌, map, refl, sym, ap, ap₂, subst, ◌∙◌}
-use Rattle.std.specs.Prelude.{Bool, true, false, ◌&&◌, ◌||◌, IsTrue, if◌then◌else◌, reverse, All}
+use Rattle.std.proofs.Common.{◌≡◌, inl, inr, ℕ, List, [], ◌∷◌, ◌++◌, map, refl, sym, ap, ap₂, subst, ◌∙◌, if◌then◌else◌}
+use Rattle.std.specs.Prelude.{Bool, true, false, ◌&&◌, ◌||◌, IsTrue, reverse, All}
 use Rattle.hp_base.specs.declared.ty.Ty.{Ty}
 use Rattle.hp_base.specs.declared.ty.Ty.TheVariants as ty
 use Rattle.hp_base.specs.declared.value.Value.{Value}
@@ -39,7 +39,6 @@ use Rattle.law_choices.specs.Chosen.Laws.{is_seen}
 use Rattle.law_choices.specs.Seeing.Values.{AreOwn}
 use Rattle.law_choices.proofs.ChosenLemmas.Chosen.{bool_same, other_same}
 use Rattle.law_choices.proofs.ChosenLemmas.Seen.{seen_marks, seen_output, declared, as_node, made, early_fits, early_given}
-use Rattle.law_choices.proofs.SeeingLemmas.Labels.{both-true}
 
 -- ---- places
 
@@ -55,6 +54,10 @@ among-free (q ∷ qs) p h = by (same_place q.0 p) refl h (among-free qs p)
     by : (b : Bool) → same_place q.0 p ≡ b → (b || is_among qs p) ≡ true → (is_among qs p ≡ true → IsFree qs p) → IsFree (q ∷ qs) p
     by true e h more = inl (sym (place_same q.0 p e))
     by false e h more = inr (more h)
+
+pub both-true : (a b : Bool) → (a && b) ≡ true → (a ≡ true) × (b ≡ true)
+both-true true b h = (refl, h)
+both-true false b h = absurd cc
 
 or-right : (a b : Bool) → b ≡ true → (a || b) ≡ true
 or-right true b e = refl

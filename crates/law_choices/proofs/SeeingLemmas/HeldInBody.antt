@@ -1,6 +1,6 @@
 -- The equations of a node of which only inputs, and comparisons and calls of the body are free, hold values of its free places: of their types, and the instant's own wherever it looks.
-use Rattle.std.proofs.Common.{◌≡◌, ◌⊎◌, inl, inr, ℕ, ◌+◌, ◌<◌, ◌≤◌, List, [], ◌∷◌, ◌++◌, length, map, refl, sym, ap, subst, ◌∙◌, arith}
-use Rattle.std.specs.Prelude.{Bool, true, false, if◌then◌else◌, IsFalse, IsTrue}
+use Rattle.std.proofs.Common.{◌≡◌, ◌⊎◌, inl, inr, ℕ, ◌+◌, ◌<◌, ◌≤◌, List, [], ◌∷◌, ◌++◌, length, map, refl, sym, ap, subst, ◌∙◌, arith, if◌then◌else◌}
+use Rattle.std.specs.Prelude.{Bool, true, false, IsFalse, IsTrue}
 use Rattle.std.specs.List.{AllByRecursion, flat_map, range_with_len}
 use Rattle.std.proofs.lemmas.List.{length-append}
 use Rattle.hp_base.specs.Kinds.{IsOfKind}
@@ -61,16 +61,14 @@ use Rattle.law_choices.proofs.BroughtLemmas.Inputless.{late-places}
 use Rattle.law_choices.proofs.ChosenLemmas.Seen.{declared, made, slots_fit}
 use Rattle.law_choices.proofs.ClosedLemmas.ClosedLaws.{each_other}
 use Rattle.law_choices.proofs.CodedLemmas.Kinds.{code_bits_law, kind_bits_law}
+use Rattle.law_choices.proofs.FlatLemmas.Alone.{off-unset}
 use Rattle.law_choices.proofs.InTurnLemmas.Contracted.{Ground, NodeLaws}
 use Rattle.law_choices.proofs.PlayingLemmas.Asking.{seen, survey}
-use Rattle.law_choices.proofs.PlayingLemmas.Flags.{free-long}
+use Rattle.law_choices.proofs.PlayingLemmas.Flags.{flags-many, free-long}
 use Rattle.law_choices.proofs.PlayingLemmas.Greatest.{inputs-fit}
-use Rattle.law_choices.proofs.SeeingLemmas.Defined.{IsSome}
-use Rattle.law_choices.proofs.BroughtLemmas.Inputless.{flags-many}
+use Rattle.law_choices.proofs.SeeingLemmas.Looked.{IsSome, seen-some}
 use Rattle.law_choices.proofs.SeeingLemmas.Listed.{IsHeld, IsOfType, SameKind, along-parts, both-fit, fit-slots, free-either, held-slots, in-row-free, inputs-held, inputs-of-types, same-type, still-below}
-use Rattle.law_choices.proofs.SeeingLemmas.Looked.{seen-some}
 use Rattle.law_choices.proofs.SeeingLemmas.Rowed.{IsBrought, Row, all-rows, at-least}
-use Rattle.law_choices.proofs.SeeingLemmas.Sole.{off-unset}
 
 -- A variable has the value of a place outside of transitions, wherever that is there and not Nil.
 abbrev pub IsTold : flows.Instant → Instant → ℕ → Place → Type 0
@@ -175,7 +173,7 @@ module _ (nodes : NodeLaws) (types : List ObcType) (all : Callees) (observers : 
     row-of-kind q f r = by (flows.holds (clock_of s.node f.eqn) i) refl
       where
         below_watched : f.variable < length s.node.variables
-        below_watched = still-below nodes types all observers n c g k low laid (λ f. outputs_in after f) decls out_kinds f.variable r.below
+        below_watched = still-below nodes types all observers n c g k low laid f.variable r.below
 
         by : (h : Bool) → flows.holds (clock_of s.node f.eqn) i ≡ h → IsOfKind (kind_of_type types (type_at s.node f.variable)) (if h then i f.variable else some_value (type_at s.node f.variable))
         by true h = typed f.variable below_watched (ap (λ d. flows.holds d i) r.clock ∙ h)
@@ -281,7 +279,7 @@ module _ (nodes : NodeLaws) (types : List ObcType) (all : Callees) (observers : 
     held : Along (IsHeld types decls s.node i given) (places ++ right_places) s.free
     held =
         along-parts (IsHeld types decls s.node i given) places right_places (free_inputs c.plant (length n.inputs)) of_contract of_body as-many inputs-many body-least
-        (inputs-held types decls g.bytes c.plant s.node i given n.inputs 0 row (below Inputs (λ p. p)) (λ x l. same-type nodes types all observers n c g k low laid (λ f. outputs_in after f) decls out_kinds x (omega (arith, l, below_plant))) kinds first (λ q. refl))
+        (inputs-held types decls g.bytes c.plant s.node i given n.inputs 0 row (below Inputs (λ p. p)) (λ x l. same-type nodes types all observers n c g k low laid x (omega (arith, l, below_plant))) kinds first (λ q. refl))
         (λ l. all-held right_places of_body rows are-at)
 
     pub holds : HoldsValues types after n s i now

@@ -1,77 +1,55 @@
--- Of a node whose comparisons and calls have names, what is watched are the inputs, the comparisons and the outputs, and these hold values of their types: the instant's own wherever it looks.
-use Rattle.std.proofs.Common.{◌≡◌, ◌⊎◌, inl, inr, ℕ, ◌+◌, ◌≤◌, ◌<◌, Bool, true, false, if◌then◌else◌, List, [], ◌∷◌, ◌++◌, length, map, slice_get, Option, None, Some, refl, sym, ap, ap₂, subst, ◌∙◌, arith}
+-- What is watched of a node are its inputs, what its contract brings and what its body brings: inputs hold values of their types, and targets of events are on the clocks of these.
+use Rattle.std.proofs.Common.{◌≡◌, ◌⊎◌, inl, inr, ℕ, ◌+◌, ◌≤◌, ◌<◌, Bool, List, [], ◌∷◌, ◌++◌, length, map, slice_get, None, Some, refl, sym, ap, subst, ◌∙◌, arith, if◌then◌else◌}
 use Rattle.std.specs.List.{AllByRecursion, flat_map, range_with_len}
-use Rattle.std.proofs.lemmas.List.{append-nil, length-append, length-map, map-append}
-use Rattle.hp_base.specs.Kinds.{KindData, Bools, Ints, Constructors, IsOfKind}
-use Rattle.hp_base.specs.declared.span.Span.{Span}
+use Rattle.std.proofs.lemmas.List.{append-nil, length-append}
+use Rattle.hp_base.specs.Kinds.{Ints, Constructors}
 use Rattle.hp_base.specs.declared.ty.Ty.{Ty}
 use Rattle.hp_base.specs.declared.ty.Ty.TheVariants as ty
 use Rattle.hp_base.specs.declared.value.Value.{Value}
-use Rattle.hp_base.specs.declared.value.Value.TheVariants.{Absent, B, E, I, Nil, Star}
-use Rattle.hp_obc.specs.Form.{binary_kind, result_kind}
+use Rattle.hp_base.specs.declared.value.Value.TheVariants.{B, E, I}
 use Rattle.hp_obc.specs.Machines.{ObcType}
 use Rattle.hp_tree.specs.declared.expr.Op2.{Op2}
 use Rattle.hp_tree.specs.declared.expr.Op2.TheVariants as op
 use Rattle.hp_tree.specs.Blocks.{Decl}
 use Rattle.hp_tree.specs.Programs.{Node, TypeDecl}
-use Rattle.hp_tree.specs.Operators.{is_comparison, marked}
-use Rattle.hp_tree.specs.Instant.{Body, Head, Instance, Instant, Named, Place, Tail, alone, in_row}
+use Rattle.hp_tree.specs.Operators.{marked}
+use Rattle.hp_tree.specs.Instant.{Head, Instant, Place, Tail, alone, in_row}
 use Rattle.hp_tree.specs.Values.{AreOf, IsOf}
 use Rattle.hp_flat.specs.declared.equation.Atom.{Atom}
-use Rattle.hp_flat.specs.declared.equation.Atom.TheVariants.{Variable as Read}
 use Rattle.hp_flat.specs.declared.node.FlatTy.{FlatTy}
 use Rattle.hp_flat.specs.declared.node.FlatTy.TheVariants as flat
-use Rattle.hp_flat.specs.Equations.{Clock, FlatEqn, Right, called, operator}
+use Rattle.hp_flat.specs.Equations.{Clock, FlatEqn, operator}
 use Rattle.hp_flat.specs.Nodes.{FlatNode}
 use Rattle.hp_meaning.specs.Causal.Sources.{below}
 use Rattle.hp_meaning.specs.Contract.Codes.{code}
-use Rattle.hp_meaning.specs.Contract.Forgetting.{erased}
 use Rattle.hp_meaning.specs.Contract.FreePlaces.{IsFree}
 use Rattle.hp_meaning.specs.Contract.Slots.{FreePlace, Slot, control, free, free_among, input, register}
 use Rattle.law_automata.specs.Lowered.Standing.{Along}
 use Rattle.law_equations.specs.Flattened.Flatten.{obc_two}
-use Rattle.law_equations.specs.Made.Making.{Known, flat_type, numbers_from, sketch_node}
+use Rattle.law_equations.specs.Made.Making.{Known, flat_type, sketch_node}
 use Rattle.law_equations.specs.Meaning.Instants as flows
-use Rattle.law_equations.specs.Meaning.Kinding.{Callees, EqnKinds, HaveKinds, RightHasKinds, kind_of_type, variable_kind}
-use Rattle.law_equations.specs.Meaning.Reactions.{Answers, Holds, is_set}
-use Rattle.law_equations.specs.Meaning.Scheduling.{EqnWithin, clock_variables}
-use Rattle.law_equations.proofs.FewerLemmas.AlikeLaws.{holds-same}
+use Rattle.law_equations.specs.Meaning.Kinding.{Callees, kind_of_type, variable_kind}
+use Rattle.law_equations.specs.Meaning.Scheduling.{EqnWithin}
 use Rattle.law_games.specs.Mirror.Memories.{SlotsFit}
-use Rattle.law_values.specs.Filled.Under.{Under}
 use Rattle.law_wellmade.specs.Timely.Kinds.{kind_of, kinds_of_decls}
-use Rattle.law_wellmade.specs.Timely.Tested.{ConstructorsDiffer}
 use Rattle.law_wellmade.proofs.BegunLemmas.Keeping.{HasType}
-use Rattle.law_wellmade.proofs.TimelyLemmas.KindLaws.{of_kind}
-use Rattle.hp_watch.specs.Adding.{some_value, type_at, type_of as type_in}
+use Rattle.hp_watch.specs.Adding.{type_at, type_of as type_in}
 use Rattle.hp_watch.specs.Embedding.{embedded}
-use Rattle.hp_watch.specs.Watching.{Observing, Placed, Surveyed, called_by, clock_by, clock_of, free_by, free_input, free_moved, free_placed, free_placed_by, free_target, is_integer, own_site, placed, shift_at}
+use Rattle.hp_watch.specs.Watching.{Observing, Placed, Surveyed, free_input, free_placed, is_integer, own_site, placed}
 use Rattle.hp_watch.specs.declared.watching.Free.{Free}
 use Rattle.law_choices.specs.Adding.Lifts.{HaveBytes}
-use Rattle.law_choices.specs.Chosen.Laws.{is_seen}
 use Rattle.law_choices.specs.Closed.Clocking.{DefinesOwn, IsCopy}
 use Rattle.law_choices.specs.Coded.Codes.{bits_at, bits_of_kind, bits_of_value}
-use Rattle.law_choices.specs.Coded.Laws.{IsTypedAt}
-use Rattle.law_choices.specs.Flat.Names.{is_body_name, variable_of}
-use Rattle.law_choices.specs.Flat.Places.{IsOn}
 use Rattle.law_choices.specs.InTurn.Nodes.{Contracted}
-use Rattle.law_choices.specs.Places.Named.{HasCopy}
 use Rattle.law_choices.specs.Playing.Inputs.{placed as place_of, places_in_row}
-use Rattle.law_choices.specs.Seeing.ByName.{Naming, of_call, of_comparison}
 use Rattle.law_choices.specs.Seeing.Held.{AreHeld}
-use Rattle.law_choices.proofs.AddingLemmas.Lifts.{first_of}
-use Rattle.law_choices.proofs.AddingLemmas.One.{kind-at, value-at}
+use Rattle.law_choices.proofs.AddingLemmas.One.{kind-at}
 use Rattle.law_choices.proofs.AddingLemmas.Surveyed.{at_number, get_front, number_below}
-use Rattle.law_choices.proofs.ClosedLemmas.ClosedLaws.{each_both, each_other}
+use Rattle.law_choices.proofs.ClosedLemmas.ClosedLaws.{each_both}
 use Rattle.law_choices.proofs.CodedLemmas.Kinds.{code_bits_law, kind_bits_law}
 use Rattle.law_choices.proofs.InTurnLemmas.Contracted.{Ground, NodeLaws}
-use Rattle.law_choices.proofs.PlacesLemmas.Named.{Label, copy_law}
-use Rattle.law_choices.proofs.PlacesLemmas.Numbers.{AtNumber}
 use Rattle.law_choices.proofs.PlayingLemmas.Asking.{seen, survey, type-same}
 use Rattle.law_choices.proofs.PlayingLemmas.Flags.{declared-cons}
-use Rattle.law_choices.proofs.SeeingLemmas.Defined.{HasItsValue, IsSome}
-use Rattle.law_choices.proofs.SeeingLemmas.Labels.{Cell, cell_typed, free_of_cell, label_cells, naming_cells, output_cells, somes}
-use Rattle.law_choices.proofs.SeeingLemmas.Ordered.{IsCallRow, IsRow, IsRowOf, MayBeRow, OutputsAre}
-use Rattle.law_choices.proofs.SeeingLemmas.Sole.{each-in, off-unset}
 
 -- ---- lists
 
@@ -211,37 +189,7 @@ module _ (types : List ObcType) (decls : List TypeDecl) (bytes : HaveBytes types
       (one-held (w (Head ∷ [])) f (type_at plant first) d.ty kind bits)
       (inputs-held ds (first + 1) vs (below Tail w) (λ x l. same x (omega (arith, l))) behind others (λ q. are (Tail ∷ q)))
 
--- ---- comparisons of integers
-
--- they give truth values
-compared-kinds : (o : Op2) (k m : KindData) → is_comparison o ≡ true → binary_kind (obc_two o) Ints k ≡ Some m → m ≡ Bools
-compared-kinds op.Eq Ints m c e = cc
-compared-kinds op.Ne Ints m c e = cc
-compared-kinds op.Lt Ints m c e = cc
-compared-kinds op.Le Ints m c e = cc
-compared-kinds op.Gt Ints m c e = cc
-compared-kinds op.Ge Ints m c e = cc
-compared-kinds op.Eq Bools m c e = absurd cc
-compared-kinds op.Ne Bools m c e = absurd cc
-compared-kinds op.Lt Bools m c e = absurd cc
-compared-kinds op.Le Bools m c e = absurd cc
-compared-kinds op.Gt Bools m c e = absurd cc
-compared-kinds op.Ge Bools m c e = absurd cc
-compared-kinds op.Eq (Constructors t cs) m c e = absurd cc
-compared-kinds op.Ne (Constructors t cs) m c e = absurd cc
-compared-kinds op.Lt (Constructors t cs) m c e = absurd cc
-compared-kinds op.Le (Constructors t cs) m c e = absurd cc
-compared-kinds op.Gt (Constructors t cs) m c e = absurd cc
-compared-kinds op.Ge (Constructors t cs) m c e = absurd cc
-compared-kinds op.And k m c e = absurd cc
-compared-kinds op.Or k m c e = absurd cc
-compared-kinds op.Xor k m c e = absurd cc
-compared-kinds op.Imp k m c e = absurd cc
-compared-kinds op.Add k m c e = absurd cc
-compared-kinds op.Sub k m c e = absurd cc
-compared-kinds op.Mul k m c e = absurd cc
-compared-kinds op.Div k m c e = absurd cc
-compared-kinds op.Rem k m c e = absurd cc
+-- ---- comparisons
 
 pub no-copy : (o : Op2) (args : List Atom) → IsCopy (operator (obc_two o) args) → ⊥
 no-copy op.Lt args c = c
@@ -260,37 +208,13 @@ no-copy op.Mul args c = c
 no-copy op.Div args c = c
 no-copy op.Rem args c = c
 
-truth-type : (types : List ObcType) (t : FlatTy) → kind_of_type types t ≡ Bools → t ≡ flat.Bool
-truth-type types flat.Bool e = refl
-truth-type types flat.Int e = absurd cc
-truth-type types (flat.Enum x) e = absurd cc
-
--- its target is a truth value
-compared-typed : (types : List ObcType) (callees : Callees) (n : FlatNode) (o : Op2) (a : ℕ) (b : Atom) (x : ℕ) → is_comparison o ≡ true → type_at n a ≡ flat.Int
-    → RightHasKinds types callees n.variables (operator (obc_two o) (Read a ∷ b ∷ [])) (variable_kind types n.variables x ∷ []) → type_at n x ≡ flat.Bool
-compared-typed types callees n o a b x c is h = by h.0 h.1 h.2 h.3 h.4
-  where
-    by : (js : List KindData) → HaveKinds types callees n.variables (Read a ∷ b ∷ []) js → (k : KindData) → result_kind (obc_two o) js ≡ Some k → variable_kind types n.variables x ∷ [] ≡ k ∷ [] → type_at n x ≡ flat.Bool
-    by (j ∷ l ∷ []) g k r e =
-        let first : j ≡ Ints = sym g.0 ∙ kind-at types n a ∙ ap (kind_of_type types) is in
-        let same : variable_kind types n.variables x ≡ k = cc in
-        truth-type types (type_at n x) (sym (kind-at types n x) ∙ same ∙ compared-kinds o l k c (sym (ap (λ z. binary_kind (obc_two o) z l) first) ∙ r))
-    by [] g k r e = absurd g
-    by (j ∷ []) g k r e = absurd g.1
-    by (j ∷ l ∷ m ∷ js) g k r e = absurd g.1.1
-
--- all elements of lists, in a row
-abbrev pub joined : {A : Type 0} → List (List A) → List A
-joined xss = flat_map (λ xs. xs) xss
-
 -- ---- the node that is watched
 
 -- a type has one kind in the tree and in the equations
 abbrev pub SameKind : List ObcType → List TypeDecl → Known → Ty → Type 0
 SameKind types decls k t = kind_of_type types (flat_type k.types t) ≡ kind_of decls t
 
-module _ (laws : NodeLaws) (types : List ObcType) (all : Callees) (observers : Observing) (n : Node) (c : Contracted) (g : Ground types all observers n c) (k : Known) (low : Node) (made : c.plant.variables ≡ (sketch_node k low).variables) (outs : List ℕ → List Decl) (decls : List TypeDecl)
-    (kinds : (f : List ℕ) → AllByRecursion (λ (d : Decl). SameKind types decls k d.ty) (outs f)) where
+module _ (laws : NodeLaws) (types : List ObcType) (all : Callees) (observers : Observing) (n : Node) (c : Contracted) (g : Ground types all observers n c) (k : Known) (low : Node) (made : c.plant.variables ≡ (sketch_node k low).variables) where
   abbrev plant : FlatNode
   plant = c.plant
 
@@ -305,10 +229,6 @@ module _ (laws : NodeLaws) (types : List ObcType) (all : Callees) (observers : O
 
   abbrev pub free_by_number : ℕ → List Free
   free_by_number m = free_placed observers own_places m
-
-  -- the number of an event, and what may be said of it
-  abbrev pub MayRow : ℕ → Option Label → Type 0
-  MayRow m l = AtNumber (MayBeRow k low outs plant.eqns) plant.eqns m l
 
   more_eqns : (more : List FlatEqn) × (s.node.eqns ≡ plant.eqns ++ more)
   more_eqns = let q = ((seen laws types all observers n c g).keeps).grows in q.eqns
@@ -329,33 +249,6 @@ module _ (laws : NodeLaws) (types : List ObcType) (all : Callees) (observers : O
       let at = ap (λ vs. slice_get vs x) made ∙ h.1 in
       same-type x (number_below plant.variables x h.0 at) ∙ ap type_in at ∙ h.2
 
-  -- A cell, with the variable that holds its value where an event is there.
-  pub record Row : Type 0 where
-    pub cell : Cell
-    pub number : ℕ
-    pub eqn : FlatEqn
-    pub at : slice_get s.node.eqns number ≡ Some eqn
-    pub within : EqnWithin (length plant.variables) eqn
-    pub target : ℕ
-    pub below : target < length plant.variables
-    pub clock : clocks target ≡ eqn.clock
-    pub kind : kind_of_type types (type_at s.node target) ≡ kind_of decls cell.2
-    pub copied : (x : ℕ) → variable_of k low cell.0 ≡ Some x → HasCopy plant.eqns eqn target x
-    pub sole : (x : ℕ) → variable_of k low cell.0 ≡ Some x → IsOn x eqn.clock plant.eqns
-
-  abbrev pub cell_of : Row → Cell
-  cell_of r = r.cell
-
-  abbrev pub place_of_row : Row → Free
-  place_of_row r = record { variable = r.target; eqn = Some r.number }
-
-  -- The cells of a label are those of rows, and these are the first free places of its event.
-  pub record LabelRows (m : ℕ) (cells : List Cell) : Type 0 where
-    pub rows : List Row
-    pub are : map cell_of rows ≡ cells
-    pub more : List Free
-    pub free : free_by_number m ≡ map place_of_row rows ++ more
-
   module _ (m : ℕ) (e : FlatEqn) (at_number_is : slice_get plant.eqns m ≡ Some e) where
     pub there : slice_get s.node.eqns m ≡ Some e
     there = let q = more_eqns in ap (λ es. slice_get es m) q.1 ∙ get_front plant.eqns q.0 m (number_below plant.eqns m e at_number_is) ∙ at_number_is
@@ -372,246 +265,3 @@ module _ (laws : NodeLaws) (types : List ObcType) (all : Callees) (observers : O
         by : (y : ℕ) → (g.clock y ≡ e.clock) ⊎ IsCopy e.right → g.clock y ≡ e.clock
         by y (inl q) = q
         by y (inr q) = absurd (new q)
-
-    -- ---- a comparison
-
-    module _ (y : List ℕ) (o : Op2) (w : Place → Place) (x : IsRow k low plant.eqns e y o) where
-      first-typed : type_at s.node x.first ≡ flat.Int
-      first-typed = typed-there x.first flat.Int x.integer
-
-      typed-row : type_at s.node x.target ≡ flat.Bool
-      typed-row =
-          let keeps = (seen laws types all observers n c g).keeps in
-          let w = (keeps.built).well in
-          let h = at_number (EqnKinds types all s.node.variables) s.node.eqns m e there w.kinds in
-          compared-typed types all s.node o x.first x.second x.target x.compares first-typed
-          (subst (λ ts. RightHasKinds types all s.node.variables (operator (obc_two o) (Read x.first ∷ x.second ∷ [])) (map (variable_kind types s.node.variables) ts)) x.targets
-          (subst (λ q. RightHasKinds types all s.node.variables q (map (variable_kind types s.node.variables) e.targets)) x.right h.right))
-
-      abbrev compared-row : Row
-      compared-row = record {
-        cell = (y, w [], ty.Bool);
-        number = m;
-        eqn = e;
-        at = there;
-        within = numbers;
-        target = x.target;
-        below = (subst (AllByRecursion (λ z. z < length plant.variables)) x.targets numbers.targets).0;
-        clock = (subst (AllByRecursion (λ z. clocks z ≡ e.clock)) x.targets (targets-clock (λ q. absurd (no-copy o (Read x.first ∷ x.second ∷ []) (subst IsCopy x.right q))))).0;
-        kind = ap (kind_of_type types) typed-row;
-        copied = x.copied;
-        sole = x.sole;
-      }
-
-      -- it gives one free place
-      compared-rows : LabelRows m ((y, w [], ty.Bool) ∷ [])
-      compared-rows = record {
-        rows = compared-row ∷ [];
-        are = refl;
-        more = [];
-        free =
-            ap (free_placed_by observers own_places m) there
-            ∙ ap₂ (λ (q : Right) ts. free_by s.node m q ts ++ free_moved (called_by observers q) (shift_at own_places.shifts m)) x.right x.targets
-            ∙ ap (λ ty. (if is_integer ty then flat_map (free_target s.node m) (x.target ∷ []) else []) ++ []) first-typed
-            ∙ ap (λ ty. ((if is_integer ty then [] else record { variable = x.target; eqn = Some m } ∷ []) ++ []) ++ []) typed-row;
-      }
-
-    -- ---- the outputs of a call
-
-    -- of one output that is no integer, and of an integer
-    output-row : (y : List ℕ) (p : Place) (t : ℕ) (u : Ty) → t < length plant.variables → clocks t ≡ e.clock → HasType (sketch_node k low) t (flat_type k.types u) → SameKind types decls k u → ((x : ℕ) → variable_of k low y ≡ Some x → HasCopy plant.eqns e t x)
-        → ((x : ℕ) → variable_of k low y ≡ Some x → IsOn x e.clock plant.eqns) → (rows : List Row) × (map cell_of rows ≡ cell_typed y p u) × (free_target s.node m t ≡ map place_of_row rows)
-    output-row y p t u below clock typed kind copied sole = by u (typed-there t (flat_type k.types u) typed) kind
-      where
-        place : Free
-        place = record { variable = t; eqn = Some m }
-
-        row : (v : Ty) → type_at s.node t ≡ flat_type k.types v → SameKind types decls k v → Row
-        row v is same = record { cell = (y, p, v); number = m; eqn = e; at = there; within = numbers; target = t; below = below; clock = clock; kind = ap (kind_of_type types) is ∙ same; copied = copied; sole = sole }
-
-        by : (v : Ty) → type_at s.node t ≡ flat_type k.types v → SameKind types decls k v → (rows : List Row) × (map cell_of rows ≡ cell_typed y p v) × (free_target s.node m t ≡ map place_of_row rows)
-        by ty.Bool is same = (row ty.Bool is same ∷ [], refl, ap (λ z. if is_integer z then [] else place ∷ []) is)
-        by ty.Int is same = ([], refl, ap (λ z. if is_integer z then [] else place ∷ []) is)
-        by (ty.Enum z) is same = (row (ty.Enum z) is same ∷ [], refl, ap (λ z. if is_integer z then [] else place ∷ []) is)
-
-    outputs-rows : (ys : List (List ℕ × Span)) (t : ℕ) (os : List Decl) (w : Place → Place) → length ys ≡ length os → OutputsAre k low plant.eqns e ys t os → AllByRecursion (λ (d : Decl). SameKind types decls k d.ty) os → AllByRecursion (λ z. z < length plant.variables) (numbers_from t os)
-        → AllByRecursion (λ z. clocks z ≡ e.clock) (numbers_from t os) → (rows : List Row) × (map cell_of rows ≡ output_cells ys os w) × (flat_map (free_target s.node m) (numbers_from t os) ≡ map place_of_row rows)
-    outputs-rows [] t [] w l are same below clock = ([], refl, refl)
-    outputs-rows [] t (d ∷ os) w l are same below clock = absurd (omega (arith, l))
-    outputs-rows (y ∷ ys) t [] w l are same below clock = absurd (omega (arith, l))
-    outputs-rows (y ∷ ys) t (d ∷ os) w l are same below clock =
-        let one = output-row y.0 (w (Named d.name ∷ [])) t d.ty below.0 clock.0 are.0.0 same.0 are.0.1 are.0.2 in
-        let rest = outputs-rows ys (t + 1) os w (omega (arith, l)) are.1 same.1 below.1 clock.1 in (
-          one.0 ++ rest.0,
-          map-append cell_of one.0 rest.0 ∙ ap₂ (λ (xs zs : List Cell). xs ++ zs) one.1 rest.1,
-          ap₂ (λ (xs zs : List Free). xs ++ zs) one.2 rest.2 ∙ sym (map-append place_of_row one.0 rest.0),
-        )
-
-    called-rows : (ys : List (List ℕ × Span)) (f : List ℕ) (w : Place → Place) → IsCallRow k low outs plant.eqns e ys f → LabelRows m (output_cells ys (outs f) w)
-    called-rows ys f w x =
-        let below = subst (AllByRecursion (λ z. z < length plant.variables)) x.targets numbers.targets in
-        let clock = subst (AllByRecursion (λ z. clocks z ≡ e.clock)) x.targets (targets-clock (λ q. absurd (subst IsCopy x.right q))) in
-        let r = outputs-rows ys x.first (outs f) w x.as_many x.outputs (kinds f) below clock in
-        let moved = free_moved (called_by observers (called f x.args)) (shift_at own_places.shifts m) in
-        record {
-          rows = r.0;
-          are = r.1;
-          more = moved;
-          free =
-              ap (free_placed_by observers own_places m) there ∙ ap₂ (λ (q : Right) ts. free_by s.node m q ts ++ free_moved (called_by observers q) (shift_at own_places.shifts m)) x.right x.targets
-              ∙ ap (λ fs. fs ++ moved) r.2;
-        }
-
-    pub label-rows : (r : Naming) (w : Place → Place) → IsRowOf k low outs plant.eqns e r → LabelRows m (naming_cells outs r w)
-    label-rows (of_comparison y o a) w x = compared-rows y o w x
-    label-rows (of_call ys f) w x = called-rows ys f (below Instance w) x
-
-  -- ---- all of them
-
-  abbrev pub all-rows : (ms : List ℕ) (ls : List (Option Label)) → Along MayRow ms ls → List (List Row)
-  all-rows [] [] h = []
-  all-rows [] (l ∷ ls) h = absurd h
-  all-rows (m ∷ ms) [] h = absurd h
-  all-rows (m ∷ ms) (None ∷ ls) h = all-rows ms ls h.1
-  all-rows (m ∷ ms) (Some r ∷ ls) h = (label-rows m h.0.0 h.0.1 r.0 r.1 h.0.2).rows ∷ all-rows ms ls h.1
-
-  -- they have the cells of the labels
-  abbrev pub AreCellsOf : Label → List Row → Type 0
-  AreCellsOf l rows = map cell_of rows ≡ label_cells outs l
-
-  pub rows-cells : (ms : List ℕ) (ls : List (Option Label)) (h : Along MayRow ms ls) → Along AreCellsOf (somes ls) (all-rows ms ls h)
-  rows-cells [] [] h = tt
-  rows-cells [] (l ∷ ls) h = absurd h
-  rows-cells (m ∷ ms) [] h = absurd h
-  rows-cells (m ∷ ms) (None ∷ ls) h = rows-cells ms ls h.1
-  rows-cells (m ∷ ms) (Some r ∷ ls) h = ((label-rows m h.0.0 h.0.1 r.0 r.1 h.0.2).are, rows-cells ms ls h.1)
-
-  -- there are as many free places at least
-  pub as-long : (ms : List ℕ) (ls : List (Option Label)) (h : Along MayRow ms ls) → length (joined (all-rows ms ls h)) ≤ length (flat_map free_by_number ms)
-  as-long [] [] h = omega arith
-  as-long [] (l ∷ ls) h = absurd h
-  as-long (m ∷ ms) [] h = absurd h
-  as-long (m ∷ ms) (None ∷ ls) h = let rest = as-long ms ls h.1 in let l = length-append (free_by_number m) (flat_map free_by_number ms) in omega (arith, rest, l)
-  as-long (m ∷ ms) (Some r ∷ ls) h =
-      let x = label-rows m h.0.0 h.0.1 r.0 r.1 h.0.2 in
-      let rest = as-long ms ls h.1 in
-      let a = length-append (free_by_number m) (flat_map free_by_number ms) in
-      let b = length-append x.rows (joined (all-rows ms ls h.1)) in
-      let d = ap length x.free ∙ length-append (map place_of_row x.rows) x.more in
-      let e = length-map x.rows place_of_row in
-      omega (arith, rest, a, b, d, e)
-
-  -- Where there are no more, they are those, in turn.
-  pub aligned : (ms : List ℕ) (ls : List (Option Label)) (h : Along MayRow ms ls) → length (flat_map free_by_number ms) ≡ length (joined (all-rows ms ls h)) → flat_map free_by_number ms ≡ map place_of_row (joined (all-rows ms ls h))
-  aligned [] [] h l = refl
-  aligned [] (x ∷ ls) h l = absurd h
-  aligned (m ∷ ms) [] h l = absurd h
-  aligned (m ∷ ms) (None ∷ ls) h l =
-      let long = as-long ms ls h.1 in
-      let both = length-append (free_by_number m) (flat_map free_by_number ms) in
-      let none : free_by_number m ≡ [] = no-elements (free_by_number m) (omega (arith, l, both, long)) in
-      ap (λ fs. fs ++ flat_map free_by_number ms) none ∙ aligned ms ls h.1 (omega (arith, l, both, long))
-  aligned (m ∷ ms) (Some r ∷ ls) h l =
-      let x = label-rows m h.0.0 h.0.1 r.0 r.1 h.0.2 in
-      let rest = joined (all-rows ms ls h.1) in
-      let long = as-long ms ls h.1 in
-      let a = length-append (free_by_number m) (flat_map free_by_number ms) in
-      let b = length-append x.rows rest in
-      let d = ap length x.free ∙ length-append (map place_of_row x.rows) x.more in
-      let e = length-map x.rows place_of_row in
-      let none : x.more ≡ [] = no-elements x.more (omega (arith, l, long, a, b, d, e)) in
-      let own : free_by_number m ≡ map place_of_row x.rows = x.free ∙ ap (λ fs. map place_of_row x.rows ++ fs) none ∙ append-nil (map place_of_row x.rows) in
-      ap₂ (λ (fs us : List Free). fs ++ us) own (aligned ms ls h.1 (omega (arith, l, long, a, b, d, e))) ∙ sym (map-append place_of_row x.rows rest)
-
-  -- ---- one instant
-
-  -- the variables of the plant have the values of an instant in which its equations hold, and names have their values there, wherever these are not Nil
-  module _ (differ : ConstructorsDiffer decls) (answers : Answers) (js : List flows.Instant) (j i : flows.Instant) (same : (x : ℕ) → x < length plant.variables → j x ≡ i x) (eqs : AllByRecursion (Holds answers js j) plant.eqns)
-      (others : (x : ℕ) → plant.inputs ≤ x → is_set plant.eqns j x ≡ false → j x ≡ Absent) (typed : IsTypedAt types s.node clocks i) (now : Instant)
-      (named : (y : List ℕ) → is_body_name n y ≡ true → (x : ℕ) × (variable_of k low y ≡ Some x) × Under (now (Body ∷ Named y ∷ [])) (j x)) where
-    -- the value of the event, and elsewhere some value of the type
-    abbrev pub row_value : Row → Value
-    row_value r = if flows.holds r.eqn.clock i then i r.target else some_value (type_at s.node r.target)
-
-    there-both : (r : Row) → flows.holds r.eqn.clock j ≡ flows.holds r.eqn.clock i
-    there-both r = holds-same i j r.eqn.clock (each_other (λ v. v < length plant.variables) (λ v. j v ≡ i v) same (clock_variables r.eqn.clock) (r.within).clock)
-
-    -- it is of its type
-    row-of-kind : (r : Row) → IsOfKind (kind_of_type types (type_at s.node r.target)) (row_value r)
-    row-of-kind r = by (flows.holds r.eqn.clock i) refl
-      where
-        by : (h : Bool) → flows.holds r.eqn.clock i ≡ h → IsOfKind (kind_of_type types (type_at s.node r.target)) (if h then i r.target else some_value (type_at s.node r.target))
-        by true h = typed r.target (still-below r.target r.below) (ap (λ d. flows.holds d i) r.clock ∙ h)
-        by false h =
-            let w = (((seen laws types all observers n c g).keeps).built).well in
-            (first_of types (type_at s.node r.target) (value-at types s.node r.target (still-below r.target r.below) w.values)).0
-
-    row-typed : (r : Row) → IsOf decls r.cell.2 (row_value r)
-    row-typed r = of_kind decls r.cell.2 (row_value r) differ (subst (λ z. IsOfKind z (row_value r)) r.kind (row-of-kind r))
-
-    same-value : (v w : Value) → IsSome v → Under v w → w ≡ v
-    same-value Nil w some u = absurd (some.0 refl)
-    same-value Absent w some u = u
-    same-value (B b) w some u = u
-    same-value (E t m) w some u = u
-    same-value (I m) w some u = u
-    same-value Star w some u = u
-
-    -- It is that of the place, if the instant looks there: the name is there then, and nothing else defines its variable.
-    row-own : (r : Row) → HasItsValue now r.cell → is_body_name n r.cell.0 ≡ true → is_seen (erased now) r.cell.1 ≡ true → row_value r ≡ now r.cell.1
-    row-own r its declared seen_there = by (flows.holds r.eqn.clock j) refl
-      where
-        truth : (now (Body ∷ Named r.cell.0 ∷ []) ≡ now r.cell.1) × IsSome (now r.cell.1)
-        truth = its seen_there
-
-        own : (v : ℕ) × (variable_of k low r.cell.0 ≡ Some v) × Under (now (Body ∷ Named r.cell.0 ∷ [])) (j v)
-        own = named r.cell.0 declared
-
-        value : j own.0 ≡ now r.cell.1
-        value = same-value (now r.cell.1) (j own.0) truth.1 (subst (λ v. Under v (j own.0)) truth.0 own.2)
-
-        copied : HasCopy plant.eqns r.eqn r.target own.0
-        copied = r.copied own.0 own.1
-
-        no_input : plant.inputs ≤ own.0
-        no_input =
-            let w = ((g.of_node).based).well in
-            (subst (AllByRecursion (λ v. plant.inputs ≤ v)) copied.targets (each-in (λ (q : FlatEqn). AllByRecursion (λ v. plant.inputs ≤ v) q.targets) plant.eqns copied.copy w.no_inputs copied.is_in)).0
-
-        by : (h : Bool) → flows.holds r.eqn.clock j ≡ h → row_value r ≡ now r.cell.1
-        by true h =
-            ap (λ b. if b then i r.target else some_value (type_at s.node r.target)) (sym (there-both r) ∙ h) ∙ sym (same r.target r.below) ∙ sym (copy_law answers js j plant.eqns r.eqn r.target own.0 eqs copied h) ∙ value
-        by false h = absurd (truth.1.1 (sym value ∙ others own.0 no_input (off-unset own.0 r.eqn.clock plant.eqns j (r.sole own.0 own.1) h)))
-
-    abbrev pub IsAt : Instant → Row → Type 0
-    IsAt given r = given r.cell.1 ≡ row_value r
-
-    abbrev pub free_rows : List Row → List FreePlace
-    free_rows rows = map (λ (r : Row). free_of_cell r.cell) rows
-
-    -- they are the instant's own wherever it looks
-    pub own-values : (values : Instant) (rows : List Row) → AllByRecursion (IsAt values) rows → AllByRecursion (λ (r : Row). HasItsValue now r.cell) rows → AllByRecursion (λ (r : Row). is_body_name n r.cell.0 ≡ true) rows
-        → (q : Place) → IsFree (free_rows rows) q → is_seen (erased now) q ≡ true → values q ≡ now q
-    own-values values [] at its declared q f seen_there = absurd f
-    own-values values (r ∷ rows) at its declared q (inl e) seen_there = ap values e ∙ at.0 ∙ row-own r its.0 declared.0 (ap (is_seen (erased now)) (sym e) ∙ seen_there) ∙ ap now (sym e)
-    own-values values (r ∷ rows) at its declared q (inr f) seen_there = own-values values rows at.1 its.1 declared.1 q f seen_there
-
-    -- they are of their types
-    pub own-typed : (given : Instant) (rows : List Row) → AllByRecursion (IsAt given) rows → AllByRecursion (IsOfType decls given) (free_rows rows)
-    own-typed given [] at = tt
-    own-typed given (r ∷ rows) at = (subst (IsOf decls r.cell.2) (sym at.0) (row-typed r), own-typed given rows at.1)
-
-    -- the bits of a free place are the code of what it holds
-    row-held : (given : Instant) (r : Row) → IsAt given r → IsHeld types decls s.node i given (free_of_cell r.cell) (place_of_row r)
-    row-held given r at =
-        let clock : clock_of s.node (Some r.number) ≡ r.eqn.clock = ap clock_by r.at in
-        ap (λ d. bits_of_value types (type_at s.node r.target) (if flows.holds d i then i r.target else some_value (type_at s.node r.target))) clock
-        ∙ kind_bits_law types (type_at s.node r.target) (row_value r) g.bytes
-        ∙ ap (λ z. bits_of_kind z (row_value r)) r.kind
-        ∙ sym (code_bits_law decls r.cell.2 (row_value r))
-        ∙ sym (ap (code decls r.cell.2) at)
-
-    -- so the free places hold the codes of these values
-    pub own-held : (given : Instant) (rows : List Row) → AllByRecursion (IsAt given) rows → Along (IsHeld types decls s.node i given) (free_rows rows) (map place_of_row rows)
-    own-held given [] at = tt
-    own-held given (r ∷ rows) at = (row-held given r at.0, own-held given rows at.1)

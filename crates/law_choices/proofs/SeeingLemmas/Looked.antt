@@ -1,5 +1,5 @@
 -- Where an instant looks at what is given at a free place, its own value there is no Nil, and is there.
-use Rattle.std.proofs.Common.{◌≡◌, ◌⊎◌, inl, inr, ℕ, Bool, true, false, ◌&&◌, ◌||◌, if◌then◌else◌, List, [], ◌∷◌, ◌++◌, map, refl, sym, ap, subst, ◌∙◌}
+use Rattle.std.proofs.Common.{◌≡◌, ◌⊎◌, inl, inr, ℕ, Bool, true, false, ◌&&◌, ◌||◌, List, [], ◌∷◌, ◌++◌, map, refl, sym, ap, subst, ◌∙◌, if◌then◌else◌}
 use Rattle.std.specs.Prelude.{IsTrue}
 use Rattle.hp_base.specs.declared.ty.Ty.{Ty}
 use Rattle.hp_base.specs.declared.ty.Ty.TheVariants as ty
@@ -25,9 +25,7 @@ use Rattle.law_games.proofs.ForcedLemmas.Steps.{OutputsAre, node_outputs}
 use Rattle.law_games.proofs.ReadyGamesLemmas.Settled.{found}
 use Rattle.law_choices.specs.Chosen.Laws.{is_mark, is_output, is_seen}
 use Rattle.law_choices.proofs.ChosenLemmas.Seen.{made, slots_fit}
-use Rattle.law_choices.proofs.SeeingLemmas.Defined.{IsSome}
-use Rattle.law_choices.proofs.SeeingLemmas.Given.{typed-at}
-use Rattle.law_choices.proofs.SeeingLemmas.Labels.{both-true}
+use Rattle.law_choices.proofs.SeeingLemmas.Given.{both-true, typed-at}
 
 -- ---- what is forgotten
 
@@ -53,6 +51,10 @@ forgotten-more (s ∷ p) r h = by (or_cases (is_instance s && begins_hidden p) (
     by (inr x) more = or-last (is_instance s && begins_hidden (p ++ r)) (is_forgotten (p ++ r)) (more x)
 
 -- ---- values
+
+-- a value that is there, and not Nil
+abbrev pub IsSome : Value → Type 0
+IsSome v = (v ≡ Nil → ⊥) × (v ≡ Absent → ⊥)
 
 marked-some : (types : List TypeDecl) (t : Ty) (v : Value) → IsOf types t v → IsSome (marked v)
 marked-some types ty.Bool (B b) h = (λ q. absurd cc, λ q. absurd cc)

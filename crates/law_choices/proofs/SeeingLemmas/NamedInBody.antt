@@ -1,8 +1,8 @@
 -- A node that sees by names sees in its body.
-use Rattle.std.proofs.Common.{◌≡◌, ℕ, ◌+◌, ◌≤◌, Bool, true, false, ◌&&◌, if◌then◌else◌, List, [], ◌∷◌, ◌++◌, length, reverse, refl, sym, ap, ap₂, subst, ◌∙◌, arith}
+use Rattle.std.proofs.Common.{◌≡◌, ℕ, ◌+◌, ◌≤◌, Bool, true, false, ◌&&◌, List, [], ◌∷◌, ◌++◌, length, reverse, refl, sym, ap, ap₂, subst, ◌∙◌, arith, if◌then◌else◌}
 use Rattle.std.specs.Prelude.{IsFalse, Option, None, Some}
 use Rattle.std.specs.List.{AllByRecursion}
-use Rattle.std.proofs.lemmas.List.{append-nil, append_cancel_left, append_assoc, length-append}
+use Rattle.std.proofs.lemmas.List.{append-nil, append_cancel_left, length-append}
 use Rattle.hp_base.specs.declared.span.Span.{Span}
 use Rattle.hp_base.specs.declared.ty.Ty.{Ty}
 use Rattle.hp_base.specs.declared.ty.Ty.TheVariants as ty
@@ -16,12 +16,11 @@ use Rattle.hp_tree.specs.Operators.{is_comparison}
 use Rattle.hp_tree.specs.Programs.{Node, TypeDecl}
 use Rattle.hp_tree.specs.Instant.{Arms as ArmsOf, Args, Body, Controls, Equations, First, Head, Inputs, Instance, Named, Place, Right, Second, States as StatesOf, Tail, Test, Third, Unless, Until}
 use Rattle.hp_tree.specs.Meaning.{controls_of, node_among, types_of}
-use Rattle.hp_meaning.specs.Contract.FreePlaces.{declared_outputs}
 use Rattle.hp_meaning.specs.Contract.Slots.{FreePlace, Slot, callee_slots, control, free, free_among, is_int, slots, slots_of_all, slots_of_block, slots_of_contract, slots_of_equation, slots_of_equations}
 use Rattle.law_automata.specs.Lowered.Standing.{Along}
 use Rattle.law_equations.specs.Flattened.Flatten.{Prefix, below}
 use Rattle.law_choices.specs.Flat.Names.{is_body_name}
-use Rattle.law_choices.specs.Places.Groups.{call_group, compared_groups, free_outputs, groups, groups_of_all, groups_of_arms, groups_of_block, groups_of_conditions, groups_of_equation, groups_of_equations, groups_of_parts, groups_of_states, in_a_row}
+use Rattle.law_choices.specs.Places.Groups.{compared_groups, free_outputs, groups, groups_of_all, groups_of_arms, groups_of_block, groups_of_conditions, groups_of_equation, groups_of_equations, groups_of_parts, groups_of_states, in_a_row}
 use Rattle.law_choices.specs.Places.Values.{in_transition}
 use Rattle.law_choices.specs.Playing.Inputs.{placed, places_in_row}
 use Rattle.law_choices.specs.Seeing.ByName.{Naming, SeesByName, are_named, is_integer, named_by, named_in, named_in_body, of_call, of_comparison, outputs_in, places_named, places_of_outputs, types_around}

@@ -1,5 +1,5 @@
 -- The variables of the comparisons and calls that a walk finds, one by one with the free places that these bring.
-use Rattle.std.proofs.Common.{◌≡◌, ◌⊎◌, inl, inr, ℕ, ◌+◌, ◌≤◌, ◌<◌, Bool, true, false, if◌then◌else◌, List, [], ◌∷◌, ◌++◌, length, map, slice_get, Some, refl, sym, ap, ap₂, subst, ◌∙◌, arith}
+use Rattle.std.proofs.Common.{◌≡◌, ◌⊎◌, inl, inr, ℕ, ◌+◌, ◌≤◌, ◌<◌, Bool, List, [], ◌∷◌, ◌++◌, length, map, slice_get, Some, refl, sym, ap, ap₂, subst, ◌∙◌, arith, if◌then◌else◌}
 use Rattle.std.specs.List.{AllByRecursion, flat_map}
 use Rattle.std.specs.Prelude.{⊤}
 use Rattle.std.proofs.lemmas.List.{append-nil, length-append}
@@ -24,7 +24,7 @@ use Rattle.law_wellmade.proofs.BegunLemmas.Keeping.{HasType}
 use Rattle.law_wellmade.proofs.RegularLemmas.Expressions.{Outputs}
 use Rattle.hp_watch.specs.Adding.{type_at}
 use Rattle.hp_watch.specs.Walk.{events_from, walk_block}
-use Rattle.hp_watch.specs.Watching.{Observing, Surveyed, called_by, clock_by, clock_of, free_by, free_moved, free_placed, free_placed_by, free_target, is_integer, shift_at}
+use Rattle.hp_watch.specs.Watching.{Observing, Surveyed, called_by, clock_by, clock_of, free_by, free_moved, free_placed_by, free_target, is_integer, shift_at}
 use Rattle.hp_watch.specs.declared.watching.Free.{Free}
 use Rattle.law_choices.specs.Closed.Clocking.{IsCopy}
 use Rattle.law_choices.specs.Flat.Places.{IsOn}
@@ -88,7 +88,7 @@ module _ (laws : NodeLaws) (types : List ObcType) (all : Callees) (observers : O
   clocks = ((seen laws types all observers n c g).keeps).clocks
 
   abbrev pub its_free : ℕ → List Free
-  its_free m = free_by_number laws types all observers n c g k low made outs decls kinds m
+  its_free m = free_by_number laws types all observers n c g k low made m
 
   -- A free place, with the variable that has its value where its clock holds. Nothing else defines the variable.
   pub record Row (q : FreePlace) (f : Free) : Type 0 where
@@ -115,11 +115,11 @@ module _ (laws : NodeLaws) (types : List ObcType) (all : Callees) (observers : O
     pub rows : Along Row places own
 
   typed : (x : ℕ) (t : FlatTy) → HasType (sketch_node k low) x t → type_at s.node x ≡ t
-  typed x t h = typed-there laws types all observers n c g k low made outs decls kinds x t h
+  typed x t h = typed-there laws types all observers n c g k low made x t h
 
   module _ (m : ℕ) (e : FlatEqn) (at : slice_get plant.eqns m ≡ Some e) where
     placed_eqn : slice_get s.node.eqns m ≡ Some e
-    placed_eqn = there laws types all observers n c g k low made outs decls kinds m e at
+    placed_eqn = there laws types all observers n c g k low made m e at
 
     its_clock : clock_of s.node (Some m) ≡ e.clock
     its_clock = ap clock_by placed_eqn
@@ -128,9 +128,9 @@ module _ (laws : NodeLaws) (types : List ObcType) (all : Callees) (observers : O
     targets-are : (IsCopy e.right → ⊥) → IsAlone e → AllByRecursion (IsTarget e) e.targets
     targets-are new alone =
         let w = ((g.of_node).based).well in
-        let l = (numbers laws types all observers n c g k low made outs decls kinds m e at).targets in
+        let l = (numbers laws types all observers n c g k low made m e at).targets in
         let i = at_number (λ (q : FlatEqn). AllByRecursion (λ x. plant.inputs ≤ x) q.targets) plant.eqns m e at w.no_inputs in
-        let t = targets-clock laws types all observers n c g k low made outs decls kinds m e at new in
+        let t = targets-clock laws types all observers n c g k low made m e at new in
         each_both (λ x. (x < length plant.variables) × (plant.inputs ≤ x)) (λ x. (clocks x ≡ e.clock) × IsOn x e.clock plant.eqns) (IsTarget e) (λ x a b. (a, b)) e.targets
         (each_both (λ x. x < length plant.variables) (λ x. plant.inputs ≤ x) (λ x. (x < length plant.variables) × (plant.inputs ≤ x)) (λ x a b. (a, b)) e.targets l i)
         (each_both (λ x. clocks x ≡ e.clock) (λ x. IsOn x e.clock plant.eqns) (λ x. (clocks x ≡ e.clock) × IsOn x e.clock plant.eqns) (λ x a b. (a, b)) e.targets t alone)
@@ -141,7 +141,7 @@ module _ (laws : NodeLaws) (types : List ObcType) (all : Callees) (observers : O
           below = is.0.0;
           no_input = is.0.1;
           clock = is.1.0 ∙ sym its_clock;
-          within = subst (λ (d : Clock). AllByRecursion (λ y. y < length plant.variables) (clock_variables d)) (sym its_clock) (numbers laws types all observers n c g k low made outs decls kinds m e at).clock;
+          within = subst (λ (d : Clock). AllByRecursion (λ y. y < length plant.variables) (clock_variables d)) (sym its_clock) (numbers laws types all observers n c g k low made m e at).clock;
           sole = subst (λ (d : Clock). IsOn x d plant.eqns) (sym its_clock) is.1.1;
           kind = kind;
           told = told;
@@ -161,8 +161,8 @@ module _ (laws : NodeLaws) (types : List ObcType) (all : Callees) (observers : O
           own = f ∷ [];
           more = [];
           free =
-              ap (free_placed_by observers (own_places laws types all observers n c g k low made outs decls kinds) m) placed_eqn
-              ∙ ap₂ (λ (q : Right) ts. free_by s.node m q ts ++ free_moved (called_by observers q) (shift_at (own_places laws types all observers n c g k low made outs decls kinds).shifts m)) x.right x.targets
+              ap (free_placed_by observers (own_places laws types all observers n c g k low made) m) placed_eqn
+              ∙ ap₂ (λ (q : Right) ts. free_by s.node m q ts ++ free_moved (called_by observers q) (shift_at (own_places laws types all observers n c g k low made).shifts m)) x.right x.targets
               ∙ ap (λ u. (if is_integer u then flat_map (free_target s.node m) (x.target ∷ []) else []) ++ []) first-typed
               ∙ ap (λ u. ((if is_integer u then [] else record { variable = x.target; eqn = Some m } ∷ []) ++ []) ++ []) typed-row;
           rows = subst (λ ps. Along Row ps (f ∷ [])) (sym one) (row x.target p ty.Bool target (ap (kind_of_type types) typed-row) (subst (λ xs. Along V xs (p ∷ [])) x.targets told).0, tt);
@@ -192,10 +192,10 @@ module _ (laws : NodeLaws) (types : List ObcType) (all : Callees) (observers : O
         let own = flat_map (free_target s.node m) (numbers_from x.from (outs f)) in
         record {
           own = own;
-          more = free_moved (called_by observers e.right) (shift_at (own_places laws types all observers n c g k low made outs decls kinds).shifts m);
+          more = free_moved (called_by observers e.right) (shift_at (own_places laws types all observers n c g k low made).shifts m);
           free =
-              ap (free_placed_by observers (own_places laws types all observers n c g k low made outs decls kinds) m) placed_eqn
-              ∙ ap₂ (λ (q : Right) ts. free_by s.node m q ts ++ free_moved (called_by observers e.right) (shift_at (own_places laws types all observers n c g k low made outs decls kinds).shifts m)) x.right targets;
+              ap (free_placed_by observers (own_places laws types all observers n c g k low made) m) placed_eqn
+              ∙ ap₂ (λ (q : Right) ts. free_by s.node m q ts ++ free_moved (called_by observers e.right) (shift_at (own_places laws types all observers n c g k low made).shifts m)) x.right targets;
           rows =
               subst (λ ps. Along Row ps own) (sym (is ∙ append-nil (free_outputs (outs f) v)))
               (outputs-rows x.from (outs f) v (subst (Outputs k (sketch_node k low) x.from) outputs x.typed) (kinds f) (subst (AllByRecursion (IsTarget e)) targets (targets-are new alone))

@@ -24,6 +24,7 @@ use Rattle.law_equations.specs.Made.Making.{Known, sketch_node, outputs_of}
 use Rattle.law_equations.specs.Made.Types.{obc_types}
 use Rattle.law_equations.specs.Meaning.Kinding.{Callees, IsPossible, kinds_at}
 use Rattle.law_equations.specs.Meaning.Reactions.{Answers, Reaction, inputs_of, is_set}
+use Rattle.law_wellmade.proofs.TimelyLemmas.KindLaws.{are_of}
 use Rattle.hp_complete.specs.Declaring.{known_of}
 use Rattle.law_games.proofs.GuaranteedLemmas.Apart.{ready_apart}
 use Rattle.law_history.proofs.StreamsLemmas.NamesApart.{name_found}
@@ -73,7 +74,9 @@ use Rattle.law_choices.specs.Places.Standing.{StandsAtNumber}
 use Rattle.law_choices.specs.Seeing.ByName.{outputs_in, types_around}
 use Rattle.law_choices.specs.Seeing.Found.{FoundAlike, KnownAlike}
 use Rattle.law_choices.specs.Seeing.InBody.{SeesInBody, free_in_body, no_slots}
+use Rattle.law_choices.specs.Seeing.SeenByName.{SeenByNameLaw}
 use Rattle.law_choices.specs.Seeing.SeenInBody.{SeenInBodyLaw}
+use Rattle.law_choices.proofs.SeeingLemmas.NamedInBody.{sees-in-body}
 use Rattle.law_choices.specs.Flat.Places.{IsOn, values_in}
 use Rattle.law_choices.specs.Streams.Places.{KeepsPlacesOf, PlacesLaw, outputs_low}
 use Rattle.law_choices.proofs.BroughtLemmas.Apiece.{outputs-anywhere, types_apiece}
@@ -85,9 +88,8 @@ use Rattle.law_choices.proofs.PlacesLemmas.Numbers.{AtNumber, found-law}
 use Rattle.law_choices.proofs.PlacesLemmas.Slots.{outputs_slots}
 use Rattle.law_choices.proofs.PlacesLemmas.Standing.{events-alike, standing-law}
 use Rattle.law_choices.proofs.SeeingLemmas.HeldInBody.{IsTold, holds}
-use Rattle.law_choices.proofs.SeeingLemmas.Integers.{outputs-known}
-use Rattle.law_choices.proofs.SeeingLemmas.Rowed.{all-brought, TargetsAre, walked-have}
-use Rattle.law_choices.proofs.SeeingLemmas.SeenPrograms.{rows-of}
+use Rattle.law_choices.proofs.SeeingLemmas.Outputs.{outputs-known}
+use Rattle.law_choices.proofs.SeeingLemmas.Rowed.{TargetsAre, all-brought, walked-have}
 use Rattle.law_equations.specs.Meaning.Instants as flows
 use Rattle.law_wellmade.specs.Timely.Kinds as timely
 use Rattle.law_equations.specs.Meaning.Kinding as flat_kinds
@@ -100,6 +102,10 @@ pub record InBodyLaws : Type 0 where
   pub places : PlacesLaw
   pub one_under : OneReactionLaw
   pub outputs : flat_kinds.OutputsOfKindsLaw
+
+rows-of : (types : List TypeDecl) (ds : List Decl) (rows : List (List Value)) → ConstructorsDiffer types → AllByRecursion (AreOfKinds (timely.kinds_of_decls types ds)) rows → AllByRecursion (AreOf types ds) rows
+rows-of types ds [] differ h = tt
+rows-of types ds (row ∷ rows) differ h = (are_of types ds row differ h.0, rows-of types ds rows differ h.1)
 
 -- ---- the variables of what a walk finds have the values of its places
 
@@ -284,3 +290,7 @@ seen_in_body_law laws program after ranks observers ms order h allowed f n rows 
     let single = subst (λ (es : List FlatEqn). AllByRecursion (λ (e : FlatEqn). AllByRecursion (λ x. IsOn x e.clock c.plant.eqns) e.targets) es) (events-alike c.plant.eqns) keeps.alone in
     all-hold nodes types all observers program after ranks order earlier n stands c g (enumerations [] after) (its.equations).eqns (its.equations).variables (x.mirrors).is_early x.flags kinds_in (output-kinds program after h.ready h.form) outs_are (differ laws.greatest program after ranks observers ms order h allowed) sees
     given_types B.0 B.1 (B.2 (below Body (λ p. p))) choices answers keeps.means labelled single rows instants past keeps.low of r possible runs typed plant alike values
+
+-- So they do where comparisons and calls have names, since such a node sees in its body.
+pub seen_by_name_law : InBodyLaws → SeenByNameLaw
+seen_by_name_law laws program after ranks observers ms order h allowed f n rows past e sees kinds reaction = seen_in_body_law laws program after ranks observers ms order h allowed f n rows past e (sees-in-body after n sees) kinds reaction

@@ -18,7 +18,6 @@ returns c =
       instances = c.instances_react_in_kind.ensures;
       tells = c.a_node_tells_each_contract.ensures;
       told = c.contracts_are_told.ensures;
-      by_name = c.named_places_are_seen.ensures;
       in_body = c.places_of_bodies_are_seen.ensures;
       seen = c.nodes_that_see_values_choose_the_greatest.ensures.greatest;
       seen_told = c.contracts_that_are_seen_are_told.ensures;

@@ -1,4 +1,4 @@
-use Rattle.law_choices.proofs.SeeingLemmas.SeenPrograms.{seen_by_name_law}
+use Rattle.law_choices.proofs.SeeingLemmas.SeenInBody.{seen_by_name_law}
 use Rattle.law_choices.proofs.seeing.named_places_are_seen.Goals as goal
 
 pub returns : goal.returns
@@ -39,7 +39,7 @@ returns c =
         preferred = c.machine_choices_are_kept.ensures.preferred;
       };
       meaning = c.programs_have_one_meaning_under_each_choice.ensures.ready;
-      names = c.meanings_give_the_chosen_reactions.ensures.names;
+      places = c.meanings_keep_places.ensures;
       one_under = c.chosen_nodes_have_one_reaction.ensures;
       outputs = c.nodes_have_one_reaction.ensures.outputs;
     })
