@@ -395,7 +395,7 @@ module _ (words : List (List ℕ)) (files left : Files) (input : List ℕ) where
         let same = untouched words files left 0 leaves f g (inr (writes_nothing 5115 (λ k. omega (arith, k)) (λ k. omega (arith, k)) (λ k. omega (arith, k)) words none (sweep_mark words t i w))) in
         subst (λ z. Does words files input z [] left 0) (sym (said_put text)) (at_left files text [] 0 same (Does.swept text w summary))
     ended log line status (Outcome.swept_in_part text out rest w summary k) h leaves e f g = absurd (f refl)
-    ended log line status (Outcome.not_swept w) h leaves e f g = let same = untouched words files left 1 leaves f g (inl (λ k. omega (arith, k))) in at_left files [] line 1 same (Does.not_swept w)
+    ended log line status (Outcome.not_swept w why) h leaves e f g = let same = untouched words files left 1 leaves f g (inl (λ k. omega (arith, k))) in at_left files [] line 1 same (Does.not_swept w why)
     ended log line status (Outcome.done {s = s} asked step end answer good) h leaves e f g =
         let same = untouched words files left 0 leaves f g (inr (runs_write_nothing s asked)) in ran same s (said log) [] 0 asked (whole_trace input log h s end answer good)
     ended log line status (Outcome.bad_line {s = s} bad asked step answer fault) h leaves e f g =

@@ -96,7 +96,7 @@ module _ (words : List (List ℕ)) (held : Files) (file out text : List ℕ) (pr
   succeeds log line status (Outcome.past {file = x} {out = y} v r) f g = unfolds x y line status v r g
   succeeds log line status (Outcome.swept other s is_summary) f g = inl refl
   succeeds log line status (Outcome.swept_in_part other said rest s is_summary e) f g = absurd (g refl)
-  succeeds log line status (Outcome.not_swept {tasks = t} {instants = i} s) f g = absurd (sweep_past words t i s file out w)
+  succeeds log line status (Outcome.not_swept {tasks = t} {instants = i} s why) f g = absurd (sweep_past words t i s file out w)
   succeeds log line status (Outcome.done asked step has_end answer good_lines) f g = inl refl
   succeeds log line status (Outcome.bad_line {s = s} bad_line asked step answer e) f g = absurd (not_system s asked)
   succeeds log line status (Outcome.take_failed asked step answer good_lines) f g = absurd (f refl)

@@ -28,11 +28,12 @@ use Rattle.hp_cert.specs.declared.checking.Proved.TheVariants.{Lose}
 use Rattle.hp_verdicts.specs.declared.error.ContractErr.{ContractErr}
 use Rattle.hp_verdicts.specs.declared.error.ContractErr.TheVariants as contract
 use Rattle.law_decided.specs.Laws.{HoldsOf, IsForcedFirst, IsVerdictOf}
-use Rattle.hp_driver.specs.Command.{IsRunOf, IsTellOf, IsCheckOf, IsCompileOf, IsPastOf, IsExecOf, IsProveOf, IsVerifyOf, IsSegmentOf, IsSweepOf, IsSummary, IsOverSource, IsOverContract, ReadsSource, IsNoCommand, usage_line, not_built_line, no_node_line, accepted_text, verdict_text}
+use Rattle.hp_driver.specs.Command.{IsRunOf, IsTellOf, IsCheckOf, IsCompileOf, IsPastOf, IsExecOf, IsProveOf, IsVerifyOf, IsSegmentOf, IsSweepOf, IsOverSource, IsOverContract, ReadsSource, IsNoCommand, usage_line, not_built_line, no_node_line, accepted_text, verdict_text}
 use Rattle.hp_driver.specs.Controls.{has_controls}
 use Rattle.hp_driver.specs.Diagnostics.{checkpoint_line, refusal_line, too_long_line, no_text_line, no_form_line, executor_line, forced_line, contract_line, no_contract_line, certificate_line, certificate_status}
 use Rattle.hp_driver.specs.Lines.{lines_of}
 use Rattle.hp_driver.specs.PastOutcome.{unfolded_text}
+use Rattle.hp_driver.specs.Swept.{IsSwept, IsNotSwept}
 use Rattle.hp_driver.specs.Systems.{System, of_node, of_machine}
 use Rattle.hp_obc.specs.Steps.{Memory}
 use Rattle.hp_driver.specs.Asking.{AsksToChoose, AsksToRun, IsRunFor, run_words}
@@ -131,10 +132,12 @@ module _ (words : List (List ℕ)) (files : Files) (input : List ℕ) where
         Does [] (refusal_line cause) files 1
     long_unfolded : {file out text : List ℕ} {program : List Item} → IsPastOf words file out → Holds files file text →
         IsProgramOf text program → most Size < length (unfolded_text program) → Does [] (too_long_line Size) files 1
-    -- the summary of a sweep; that its machines are ever not made is not said here
-    swept : {tasks instants : ℕ} (text : List ℕ) → IsSweepOf words tasks instants → IsSummary tasks text →
+    -- A sweep says the summary of a run of some tasks; or their program is not compiled, or its machine cannot be run,
+    -- and the line tells which. No sweep has shown either.
+    swept : {tasks instants : ℕ} (text : List ℕ) → IsSweepOf words tasks instants → IsSwept tasks instants text →
         Does text [] files 0
-    not_swept : {tasks instants : ℕ} → IsSweepOf words tasks instants → Does [] not_built_line files 1
+    not_swept : {tasks instants : ℕ} {line : List ℕ} → IsSweepOf words tasks instants → IsNotSwept tasks line →
+        Does [] line files 1
 
 -- `save` and `resume` leave a checkpoint; each other call does what is said above, or there was no memory.
 module _ (words : List (List ℕ)) (files : Files) (input : List ℕ) where
