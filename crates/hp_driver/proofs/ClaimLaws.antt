@@ -1,9 +1,8 @@
 -- From what the call did, as `run_tool` has it, to the rows of the claim.
-use Rattle.std.proofs.Common.{◌≡◌, ◌≢◌, ◌⊎◌, ◌+◌, ◌*◌, inl, inr, ℕ, Bool, true, false, List, [], ◌∷◌, ◌++◌, map, length, get_or, Option, None, Some, refl, sym, ap, subst, ◌∙◌, arith, if◌then◌else◌}
+use Rattle.std.proofs.Common.{◌≡◌, ◌≢◌, ◌⊎◌, ◌+◌, ◌*◌, inl, inr, ℕ, Bool, true, false, List, [], ◌∷◌, ◌++◌, length, get_or, Option, None, Some, refl, sym, ap, subst, ◌∙◌, arith}
 use Rattle.std.specs.Prelude.{option_map}
 use Rattle.std.specs.FinMap as finmap
 use Rattle.std.specs.Option.{option_copied, unwrap_or}
-use Rattle.std.specs.Str.{bytes_eq}
 use Rattle.std.specs.Borrow.{Bor}
 use Rattle.std.proofs.lemmas.Bool.Decides.{eqb_tells}
 use Rattle.std.proofs.lemmas.List.{append-nil}
@@ -14,10 +13,7 @@ use Rattle.hp_io.specs.declared.console.Event.{Event}
 use Rattle.hp_io.specs.declared.console.Event.TheVariants.{Asked, Heard, Ended, Said}
 use Rattle.hp_io.specs.Events.{put_events, said_bytes}
 use Rattle.hp_tree.specs.declared.program.Item.{Item}
-use Rattle.hp_tree.specs.declared.program.Item.TheVariants.{TypeItem, NodeItem}
 use Rattle.hp_tree.specs.Meaning.{node_among}
-use Rattle.hp_tree.specs.Programs.{Node}
-use Rattle.hp_machines.specs.Machined.{heading_of_machine, heading_of_node, headings_of}
 use Rattle.hp_obc.specs.Form.{machine_named}
 use Rattle.hp_obc.specs.Machines.{Machine, Obc}
 use Rattle.hp_obc.specs.Steps.{Memory}
@@ -31,7 +27,7 @@ use Rattle.hp_verdicts.specs.declared.error.ContractErr.TheVariants as contract
 use Rattle.law_decided.specs.Outcomes.{RefusesInGame, RefusesInGames}
 use Rattle.hp_driver.specs.Answers.{IsAnswer}
 use Rattle.hp_driver.specs.BadLines.{bad_line_line}
-use Rattle.hp_driver.specs.Asking.{AsksToChoose, AsksToRun}
+use Rattle.hp_driver.specs.Asking.{AsksToRun}
 use Rattle.hp_driver.specs.Claim.{Does, Ends}
 use Rattle.hp_driver.specs.ClaimTerms.{AllKept, Certifies, Choose, DoesTheSame, IsNoProof, IsOwnOf, IsReadAs, IsTellerOf, IsTrace, LacksFile, Program, Runs, Starts}
 use Rattle.hp_driver.specs.Checkpoints.{IsCheckpointOf, memory_past}
@@ -46,7 +42,7 @@ use Rattle.hp_driver.specs.Outcome.{Outcome, IsHeld, AreChosen, AreWritten, AreA
 use Rattle.hp_driver.specs.PastOutcome.{PastOutcome, unfolded_text}
 use Rattle.hp_driver.specs.Segments.{AreRun, Begins, CallOutcome, IsRunnable, SegmentRun, Stops, Traced, memory_after, run_words}
 use Rattle.hp_driver.specs.Status.{code_of}
-use Rattle.hp_driver.specs.Systems.{System, inputs_of, of_machine, Gives}
+use Rattle.hp_driver.specs.Systems.{System, inputs_of, Gives}
 use Rattle.hp_driver.specs.Values.{first_bad, inputs_until}
 use Rattle.hp_driver.specs.WrittenText.{WritesText}
 use Rattle.hp_driver.specs.Written.{WrittenLaw}

@@ -1,5 +1,5 @@
 -- A call of `past` with a text that is a program succeeds but for want of memory, where what it would write is not too long.
-use Rattle.std.proofs.Common.{◌≡◌, ◌<◌, ◌≤◌, ◌⊎◌, inl, inr, ℕ, List, codes, length, None, Some, refl, sym, ap, subst, arith}
+use Rattle.std.proofs.Common.{◌≡◌, ◌≤◌, ◌⊎◌, inl, inr, ℕ, List, codes, length, Some, refl, sym, ap, subst, arith}
 use Rattle.std.specs.Prelude.{Option}
 use Rattle.hp_base.specs.Limits.{most}
 use Rattle.hp_base.specs.declared.limit.What.TheVariants.{Size}
@@ -8,7 +8,7 @@ use Rattle.hp_io.specs.declared.console.Event.{Event}
 use Rattle.hp_compile.specs.Judged.{IsProgramOf}
 use Rattle.hp_obc.specs.Machines.{Obc}
 use Rattle.hp_tree.specs.declared.program.Item.{Item}
-use Rattle.hp_driver.specs.Command.{IsPastOf, IsRunOf, IsExecOf, IsOverContract, IsOverSource, ReadsSource, IsOver}
+use Rattle.hp_driver.specs.Command.{IsPastOf, IsExecOf, IsOverContract, IsOverSource, ReadsSource, IsOver}
 use Rattle.hp_driver.specs.GoodCalls.{IsGoodPast}
 use Rattle.hp_driver.specs.Outcome.{Outcome, Gives, AreAskedFor, IsAskedFor}
 use Rattle.hp_driver.specs.PastOutcome.{PastOutcome, unfolded_text}

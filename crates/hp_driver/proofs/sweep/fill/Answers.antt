@@ -1,4 +1,4 @@
-use Rattle.std.proofs.Common.{◌≡◌, ◌∙◌, ap, arith, set}
+use Rattle.std.proofs.Common.{◌∙◌, ap, arith, set}
 use Rattle.std.proofs.lemmas.List.{length-set}
 use Rattle.hp_base.specs.declared.value.Value.TheVariants.{B}
 use Rattle.hp_driver.proofs.SweepLaws.{fill_next}

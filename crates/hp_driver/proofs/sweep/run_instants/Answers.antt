@@ -1,4 +1,4 @@
-use Rattle.std.proofs.Common.{◌≡◌, ◌∙◌, ◌+◌, ap, arith, length, sym}
+use Rattle.std.proofs.Common.{◌≡◌, ◌∙◌, ap, arith, length, sym}
 use Rattle.hp_base.specs.Kinds.{SignatureData}
 use Rattle.hp_exec.specs.Executors.{kept}
 use Rattle.hp_driver.specs.Sweeping.{counts_behind}

@@ -1,4 +1,4 @@
-use Rattle.std.proofs.Common.{◌≡◌, ◌≤◌, length, replicate}
+use Rattle.std.proofs.Common.{◌≡◌, length, replicate}
 use Rattle.hp_exec.specs.Executors.{Runs, kept}
 use Rattle.hp_obc.specs.Steps.{Behaviour}
 use Rattle.hp_driver.specs.Sweeping.{memory_behind, counts_behind}
