@@ -13,10 +13,10 @@ returns-in_err-exec c =
 
 pub returns-then-has : goal.returns-then-has
 returns-then-has c =
-    let yes : c.has_many.result ≡ true = search rules in
-    record { executes = c.in_ok-exec.ensures; fits = c.has_many.ensures.yes yes }
+    let yes : c.has_many-has.result ≡ true = search rules in
+    record { executes = c.in_ok-exec.ensures; fits = c.has_many-has.ensures.yes yes }
 
 pub returns-else-has : goal.returns-else-has
 returns-else-has c =
-    let no : c.has_many.result ≡ false = search rules in
-    has_others c.args.many c.args.machines.now c.in_ok-exec.exec c.in_ok-exec.ensures (c.has_many.ensures.no no)
+    let no : c.has_many-has.result ≡ false = search rules in
+    has_others c.args.many c.args.machines.now c.in_ok-exec.exec c.in_ok-exec.ensures (c.has_many-has.ensures.no no)
