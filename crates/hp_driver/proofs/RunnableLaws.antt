@@ -1,5 +1,5 @@
 -- From the machine that is found for a node, or the refusal, to what `run` runs or refuses.
-use Rattle.std.proofs.Common.{◌≡◌, ℕ, true, false, List, Some, refl, ap, ◌∙◌}
+use Rattle.std.proofs.Common.{◌≡◌, ℕ, true, false, List, Some, refl, sym, ap, subst, ◌∙◌}
 use Rattle.std.specs.Prelude.{IfOk, Ok, Err, Result}
 use Rattle.hp_compile.specs.Arranged.{IsArranged}
 use Rattle.hp_compile.specs.Judged.{IsJudged}
