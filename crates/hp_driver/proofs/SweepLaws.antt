@@ -14,8 +14,8 @@ use Rattle.hp_obc.specs.Steps.{Behaviour, Memory, Stepped}
 use Rattle.hp_obc.specs.declared.machine.Var.{Var}
 use Rattle.hp_driver.specs.Compiled.{HasCircuit, IsCompiled, IsNotCompiled}
 use Rattle.hp_driver.specs.Stopping.{HasMany, HasOthers, Stops, StopsAt, of_exec}
-use Rattle.hp_driver.specs.Sweeping.{counted, counts_behind, inputs_at, is_input, memory_behind, one_more, sweep_text, tasks_name, tasks_text}
-use Rattle.hp_driver.specs.Swept.{HasTasks, IsNotRun, IsSwept}
+use Rattle.hp_driver.specs.Sweeping.{counted, counts_behind, inputs_at, is_input, memory_behind, one_more, sweep_text, tasks_name, tasks_text, HasTasks}
+use Rattle.hp_driver.specs.Swept.{IsNotRun, IsSwept}
 use Rattle.hp_driver.specs.declared.compile_error.CompileErr.{CompileErr}
 use Rattle.hp_driver.specs.declared.sweep.Stop.{Stop}
 use Rattle.hp_driver.specs.declared.sweep.Stop.TheVariants as stop

@@ -9,8 +9,8 @@ use Rattle.hp_exec.specs.declared.error.ExecErr.TheVariants as executor
 use Rattle.hp_obc.specs.Machines.{Obc}
 use Rattle.hp_obc.specs.Steps.{machine_behaviour}
 use Rattle.hp_driver.specs.Compiled.{HasCircuit, IsCompiled, IsNotCompiled}
-use Rattle.hp_driver.specs.Swept.{HasTasks, IsNotRun}
-use Rattle.hp_driver.specs.Sweeping.{counts_behind, tasks_name, tasks_text}
+use Rattle.hp_driver.specs.Sweeping.{HasTasks, counts_behind, tasks_name, tasks_text}
+use Rattle.hp_driver.specs.Swept.{IsNotRun}
 use Rattle.hp_driver.specs.declared.sweep.Stop.{Stop}
 use Rattle.hp_driver.specs.declared.sweep.Stop.TheVariants as stop
 

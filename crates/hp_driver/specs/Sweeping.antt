@@ -1,9 +1,10 @@
 -- What `sweep` runs: a program of some tasks, of which one may be active at a time, on inputs that come again and again.
 -- Source: own; delayable tasks, after Delaval, Marchand and Rutten (LCTES 2010).
-use Rattle.std.specs.Prelude.{ℕ, zero, suc, ◌+◌, ◌-◌, ◌*◌, ◌/◌, ◌%◌, ◌^◌, min, nat_eq, if◌then◌else◌, Bool, true, List, [], ◌∷◌, ◌++◌, take, drop, replicate, codes, decimal}
+use Rattle.std.specs.Prelude.{◌≡◌, ℕ, zero, suc, ◌+◌, ◌-◌, ◌*◌, ◌/◌, ◌%◌, ◌^◌, min, nat_eq, if◌then◌else◌, Bool, true, List, [], ◌∷◌, ◌++◌, length, take, drop, replicate, codes, decimal, Some}
 use Rattle.hp_base.specs.declared.value.Value.{Value}
 use Rattle.hp_base.specs.declared.value.Value.TheVariants.{B}
-use Rattle.hp_obc.specs.Machines.{Obc}
+use Rattle.hp_obc.specs.Form.{machine_named}
+use Rattle.hp_obc.specs.Machines.{Machine, Obc}
 use Rattle.hp_obc.specs.Steps.{Behaviour, Memory, machine_behaviour}
 use Rattle.hp_driver.specs.Command.{summary_text}
 
@@ -111,6 +112,13 @@ module _ (b : Behaviour) (many : ℕ) where
 -- the machine of the tasks
 abbrev pub tasks_name : List ℕ
 tasks_name = codes "tasks"
+
+-- The machine of the tasks is among these, with so many inputs and as many outputs.
+pub record HasTasks (many : ℕ) (o : Obc) : Type 0 where
+  pub machine : Machine
+  pub named : machine_named o.machines tasks_name ≡ Some machine
+  pub inputs : length machine.inputs ≡ many
+  pub outputs : length machine.outputs ≡ many
 
 -- How often each task was active, and how often each started, behind so many instants of that machine: of its outputs the first tell which task is active.
 abbrev pub sweep_text : Obc → ℕ → ℕ → List ℕ

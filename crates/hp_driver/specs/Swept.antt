@@ -10,15 +10,8 @@ use Rattle.hp_verdicts.specs.declared.error.ContractErr.{ContractErr}
 use Rattle.hp_driver.specs.Command.{not_built_line}
 use Rattle.hp_driver.specs.Compiled.{IsCompiled, IsNotCompiled}
 use Rattle.hp_driver.specs.Diagnostics.{contract_line, refusal_line}
-use Rattle.hp_driver.specs.Sweeping.{sweep_text, tasks_name, tasks_text}
+use Rattle.hp_driver.specs.Sweeping.{HasTasks, sweep_text, tasks_name, tasks_text}
 use Rattle.hp_driver.specs.declared.compile_error.CompileErr.TheVariants.{Refused, Contract, NotBuilt}
-
--- The machine of the tasks is among these, with so many inputs and as many outputs.
-pub record HasTasks (many : ℕ) (o : Obc) : Type 0 where
-  pub machine : Machine
-  pub named : machine_named o.machines tasks_name ≡ Some machine
-  pub inputs : length machine.inputs ≡ many
-  pub outputs : length machine.outputs ≡ many
 
 -- The text is the summary of a run of the tasks: their program is compiled to machines, among which is that of the tasks, and these are the counts of its run.
 pub record IsSwept (tasks instants : ℕ) (text : List ℕ) : Type 0 where

@@ -12,8 +12,8 @@ ghost use Rattle.hp_driver.specs.Happened.{Happened};
 ghost use Rattle.hp_driver.specs.Status.{code_of};
 ghost use Rattle.hp_driver.specs.Stopping.{AreCounts, HasMany, HasOthers, IsOfTasks, Stops, StopsAt};
 ghost use Rattle.hp_driver.specs.Sweeping.{row, numbered, names_text, inputs_text, pair_text, apart_text, guarantee_text, results_text, call_text, task_text, outputs_text, heading_text, contract_text, body_text, tasks_text};
-ghost use Rattle.hp_driver.specs.Sweeping.{is_input, inputs_at, one_more, counted, counts_behind, sweep_text};
-ghost use Rattle.hp_driver.specs.Swept.{HasTasks, IsSwept};
+ghost use Rattle.hp_driver.specs.Sweeping.{is_input, inputs_at, one_more, counted, counts_behind, sweep_text, HasTasks};
+ghost use Rattle.hp_driver.specs.Swept.{IsSwept};
 
 use crate::compile_error::CompileErr;
 use crate::compiling::compile;
