@@ -30,7 +30,7 @@ use Rattle.hp_driver.specs.Answers.{IsAnswer}
 use Rattle.hp_driver.specs.BadLines.{bad_line_line}
 use Rattle.hp_driver.specs.Asking.{AsksToRun}
 use Rattle.hp_driver.specs.Claim.{Does, Ends}
-use Rattle.hp_driver.specs.ClaimTerms.{AllKept, Certifies, Choose, DoesTheSame, IsNoProof, IsOwnOf, IsReadAs, IsTellerOf, IsTrace, LacksFile, Program, RefusesTasks, Runs, Starts}
+use Rattle.hp_driver.specs.ClaimTerms.{AllKept, Certifies, Choose, DoesTheSame, Implement, IsNoProof, IsOwnOf, IsReadAs, IsTellerOf, IsTrace, LacksFile, Program, RefusesTasks, Runs, Starts}
 use Rattle.hp_driver.specs.Checkpoints.{IsCheckpointOf, memory_past}
 use Rattle.hp_driver.specs.Command.{IsRunOf, IsTellOf, IsCheckOf, IsExecOf, IsPastOf, IsVerifyOf, IsSweepOf, IsNoSegment, IsSegmentOf, IsOver, IsOverSource, IsOverContract, Writes, no_node_line, verdict_text, accepted_text}
 use Rattle.hp_driver.specs.Compiled.{IsCompiled, IsNotCompiled}
@@ -192,8 +192,9 @@ module _ (files : Files) (tasks : ℕ) (o : Obc) (compiled : IsCompiled (tasks_t
     arranged = compiled.found.arranged;
   }
 
-  tasks_choose : has_controls compiled.program ≡ true → Choose tasks_program o
-  tasks_choose some = record { kept = compiled.kept.safe; says = compiled.says some }
+  implemented : (b : Bool) → has_controls compiled.program ≡ b → Implement tasks_program o
+  implemented false none = Implement.the_nodes none compiled.kept.safe (compiled.runs none)
+  implemented true some = Implement.that_choose some (record { kept = compiled.kept.safe; says = compiled.says some })
 
 -- where a text is refused it has no program, and this is why
 abbrev Refused : List ℕ → CompileErr → Type 0
@@ -248,7 +249,7 @@ module _ (words : List (List ℕ)) (files left : Files) (input : List ℕ) where
       let o = summary.machines in
       let compiled = summary.compiled in
       subst (λ z. Does words files input z [] files 0) (sym summary.spelled)
-      (Does.swept (tasks_program files tasks o compiled) w compiled.kept.safe (tasks_choose files tasks o compiled) summary.has)
+      (Does.swept (tasks_program files tasks o compiled) w (implemented files tasks o compiled (has_controls compiled.program) refl) summary.has)
 
   module _ (law : WrittenLaw) (none : IsNoSegment words) where
     does_the_same : (file text : List ℕ) (o : Obc) (written : AreWritten (Some files) file o) → IsPrinted o text → DoesTheSame text written.compiled.held.clocked

@@ -12,7 +12,8 @@ use Rattle.hp_controlled.specs.declared.error.ControlledErr.{ControlledErr}
 use Rattle.hp_controlled.specs.declared.error.ControlledErr.TheVariants as controlled
 use Rattle.hp_driver.proofs.AcceptedLaws.{accepted_by, accepted_plain, is_not_built}
 use Rattle.hp_driver.proofs.OwnLaws.{run_nodes}
-use Rattle.hp_driver.specs.Compiled.{AreMachinesFor, HasCircuit, IsCompiled, IsFound, IsNotCompiled, RunNodes}
+use Rattle.hp_driver.specs.Agreeing.{RunNodes}
+use Rattle.hp_driver.specs.Compiled.{AreMachinesFor, HasCircuit, IsCompiled, IsFound, IsNotCompiled}
 use Rattle.hp_driver.specs.Controls.{has_controls}
 use Rattle.hp_driver.specs.Texts.{HasNoProgram, IsArrangedText}
 use Rattle.hp_driver.specs.CompileErrors.{of_refusal, of_contract, of_controlled}

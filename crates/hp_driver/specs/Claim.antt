@@ -39,7 +39,7 @@ use Rattle.hp_obc.specs.Steps.{Memory}
 use Rattle.hp_driver.specs.Asking.{AsksToChoose, AsksToRun, IsRunFor, run_words}
 use Rattle.hp_driver.specs.Checkpoints.{IsCheckpointOf, RefusesCheckpoint, memory_past}
 use Rattle.hp_obctext.specs.declared.memory.error.MemErr.{MemErr}
-use Rattle.hp_driver.specs.ClaimTerms.{Program, AllKept, IsFirst, Certifies, IsNoProof, IsUndecidable, IsTrace, DoesTheSame, Choose, IsOwnOf, IsTellerOf, Runs, Starts, IsReadAs, LacksFile, RefusesTasks}
+use Rattle.hp_driver.specs.ClaimTerms.{Program, AllKept, IsFirst, Certifies, IsNoProof, IsUndecidable, IsTrace, DoesTheSame, Choose, Implement, IsOwnOf, IsTellerOf, Runs, Starts, IsReadAs, LacksFile, RefusesTasks}
 
 -- The call answers with what is said, the line of diagnostics, the files that it leaves, and its status.
 module _ (words : List (List ℕ)) (files : Files) (input : List ℕ) where
@@ -133,10 +133,10 @@ module _ (words : List (List ℕ)) (files : Files) (input : List ℕ) where
     long_unfolded : {file out text : List ℕ} {program : List Item} → IsPastOf words file out → Holds files file text →
         IsProgramOf text program → most Size < length (unfolded_text program) → Does [] (too_long_line Size) files 1
     -- A sweep says how often each task was active, and how often each started, in a run of the machine of its tasks.
-    -- Their text has a program as though a file held it, and the machines are of this program.
+    -- Their text has a program as though a file held it, and the machines implement it.
     swept : {tasks instants : ℕ} {file : List ℕ} {o : Obc} (p : Program (map.insert files file (tasks_text tasks)) file) →
-        IsSweepOf words tasks instants → AllKept p → (has_controls p.program ≡ true → Choose p o) →
-        HasTasks (2 * tasks) o → Does (sweep_text o tasks instants) [] files 0
+        IsSweepOf words tasks instants → Implement p o → HasTasks (2 * tasks) o →
+        Does (sweep_text o tasks instants) [] files 0
     -- or it says nothing. No sweep has shown it; `run_tool` says why (`hp_driver/specs/Outcome`)
     not_swept : {tasks instants : ℕ} {line : List ℕ} → IsSweepOf words tasks instants → RefusesTasks tasks line →
         Does [] line files 1

@@ -30,7 +30,7 @@ use Rattle.hp_verdicts.specs.declared.error.ContractErr.{ContractErr}
 use Rattle.hp_verdicts.specs.declared.error.ContractErr.TheVariants as contract
 use Rattle.law_drawing.specs.Mirrors.Assumptions.{AssumesControl}
 use Rattle.law_drawing.specs.Mirrors.Limits.{IsOver as PassesLimit}
-use Rattle.hp_driver.specs.Agreeing.{AgreesWith}
+use Rattle.hp_driver.specs.Agreeing.{AgreesWith, RunNodes}
 use Rattle.hp_driver.specs.Answers.{IsAnswer}
 use Rattle.hp_driver.specs.BadLines.{bad_line_line}
 use Rattle.hp_driver.specs.Command.{IsPastOf, IsExecOf, IsVerifyOf, IsOver, ReadsSource, not_built_line}
@@ -98,10 +98,16 @@ DoesTheSame text program =
 
 -- Machines of a program whose contracts are kept. What they say over inputs of its kinds the program allows; where nothing
 -- is free in a node but its inputs, and comparisons of integers and outputs of calls that equations of the outermost block
--- give names to, it has the greatest permitted values; so it keeps its contract, if it calls nothing.
+-- give names to, it has the greatest permitted values; so it keeps its contract while the nodes that it calls keep theirs.
 pub record Choose {files : Files} {file : List ℕ} (p : Program files file) (o : Obc) : Type 0 where
   pub kept : AllKept p
   pub says : AllSayGreatest p.clocked o
+
+-- Machines implement a program whose contracts are kept: they run its nodes, or choose where it has controllable
+-- variables.
+pub data Implement {files : Files} {file : List ℕ} (p : Program files file) (o : Obc) : Type 0 where
+  the_nodes : has_controls p.program ≡ false → AllKept p → RunNodes p.clocked o → Implement p o
+  that_choose : has_controls p.program ≡ true → Choose p o → Implement p o
 
 -- Of machines that choose, what is run for a node: its own machine, which takes its inputs and gives its outputs;
 pub data IsOwnOf (program : List Item) (o : Obc) (node : List ℕ) : System → Type 0 where

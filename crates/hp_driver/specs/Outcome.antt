@@ -91,7 +91,7 @@ pub record AreWritten (files : Option Files) (file : List ℕ) (o : Obc) : Type 
   pub compiled : AreCompiled files file own
   pub others : (o ≡ own) ⊎ AreWithContracts compiled.held.clocked own o
 
--- machines of the program that the file holds, of which each contract is kept; some node of it chooses the values of its controllable variables, or it is asked what contracts assume and enforce. What the machines of nodes say, the program allows; and where nothing is free in a node but its inputs, and comparisons of integers and outputs of calls that equations of the outermost block give names to, these variables have the greatest permitted values, so a node that calls nothing keeps its contract
+-- machines of the program that the file holds, of which each contract is kept; some node of it chooses the values of its controllable variables, or it is asked what contracts assume and enforce. What the machines of nodes say, the program allows; and where nothing is free in a node but its inputs, and comparisons of integers and outputs of calls that equations of the outermost block give names to, these variables have the greatest permitted values, so the node keeps its contract while the nodes that it calls keep theirs
 pub record AreChosen (files : Option Files) (file : List ℕ) (o : Obc) : Type 0 where
   pub program : List Item
   pub held : IsHeld files file program
