@@ -20,14 +20,14 @@ use Rattle.law_controlled.specs.Headed.{HeadedLaw}
 use Rattle.law_controlled.specs.Remaining.{RemainingLaw}
 use Rattle.law_controlled.specs.Said.{GreatestSaidLaw}
 use Rattle.law_decided.specs.Outcomes.{AreKeptInGames}
-use Rattle.hp_driver.specs.Command.{IsSummary, not_built_line, no_node_line}
+use Rattle.hp_driver.specs.Command.{not_built_line, no_node_line}
 use Rattle.hp_driver.specs.Compiled.{IsNotBuilt}
 use Rattle.hp_driver.specs.Diagnostics.{executor_line}
 use Rattle.hp_driver.specs.Executing.{executing}
 use Rattle.hp_driver.specs.Follows.{Accepts, ChoosingRun, ChoosingTell, ChosenOutcome, NodeRun, NodeTold, RefusedChosen, SweepOutcome}
-use Rattle.hp_driver.specs.Leaves.{Leaves}
 use Rattle.hp_driver.specs.Outcome.{Outcome, IsHeld, AreChosen, AsksToChoose, AsksToRun, IsAskedFor}
 use Rattle.hp_driver.specs.Ran.{Ran}
+use Rattle.hp_driver.specs.Swept.{IsSwept}
 use Rattle.hp_driver.specs.Systems.{System, of_machine, that_tells}
 use Rattle.hp_driver.specs.Teller.{teller, telling}
 use Rattle.hp_driver.specs.declared.telling.Ending.{Ending}
@@ -146,17 +146,7 @@ module _ (node : List ℕ) (ordered : List Item) where
 
 -- ---- a sweep
 
-module _ (tasks instants : ℕ) where
-  pub sweep_failed : (line : List ℕ) (b : ℕ) (rest : List ℕ) (status : ℕ) → SweepOutcome tasks instants [] (line ++ b ∷ rest) status → SweepOutcome tasks instants [] line 5
-  sweep_failed line b rest status f words files w = Outcome.line_failed line b rest (f words files w)
-
-  pub sweep_not_built : SweepOutcome tasks instants [] not_built_line 1
-  sweep_not_built words files w = Outcome.not_swept w
-
-  pub sweep_memory : SweepOutcome tasks instants [] [] 6
-  sweep_memory words files w = Outcome.no_memory
-
-  pub swept : (text out : List ℕ) (status : ℕ) → IsSummary tasks text → Accepts text out status → SweepOutcome tasks instants (put_events out) [] status
-  swept text out status is Accepts.said words files w = Outcome.swept text w is
-  swept text out status is (Accepts.said_in_part said rest e) words files w = Outcome.swept_in_part text out rest w is e
-  swept text out status is Accepts.no_memory words files w = Outcome.no_memory
+pub swept : (tasks instants : ℕ) (text out : List ℕ) (status : ℕ) → IsSwept tasks instants text → Accepts text out status → SweepOutcome tasks instants (put_events out) [] status
+swept tasks instants text out status is Accepts.said words files w = Outcome.swept text w is
+swept tasks instants text out status is (Accepts.said_in_part said rest e) words files w = Outcome.swept_in_part text out rest w is e
+swept tasks instants text out status is Accepts.no_memory words files w = Outcome.no_memory

@@ -1,8 +1,7 @@
 -- From what each step answers to what a text is compiled to, or why it is not.
-use Rattle.std.proofs.Common.{◌≡◌, ◌≢◌, ◌⊎◌, ℕ, Bool, true, false, List, [], ◌∷◌, refl, sym, subst, ◌∙◌}
+use Rattle.std.proofs.Common.{◌≡◌, ◌≢◌, ℕ, true, false, List, refl}
 use Rattle.std.specs.Prelude.{Result, Ok, Err, IfErr, MatchResult}
 use Rattle.hp_compile.proofs.FormLaws.{formed}
-use Rattle.hp_compile.specs.Judged.{IsJudged}
 use Rattle.hp_compile.specs.Refusals.{IsRefused}
 use Rattle.hp_compile.specs.declared.refusal.Refusal.{Refusal}
 use Rattle.hp_compile.specs.declared.refusal.Refusal.TheVariants as refusal
@@ -13,7 +12,8 @@ use Rattle.hp_controlled.specs.declared.error.ControlledErr.{ControlledErr}
 use Rattle.hp_controlled.specs.declared.error.ControlledErr.TheVariants as controlled
 use Rattle.hp_driver.proofs.AcceptedLaws.{accepted_by, accepted_plain, is_not_built}
 use Rattle.hp_driver.proofs.OwnLaws.{run_nodes}
-use Rattle.hp_driver.specs.Compiled.{AreMachinesFor, HasCircuit, IsCompiled, IsFound, IsNotCompiled, RunNodes}
+use Rattle.hp_driver.specs.Agreeing.{RunNodes}
+use Rattle.hp_driver.specs.Compiled.{AreMachinesFor, HasCircuit, IsCompiled, IsFound, IsNotCompiled}
 use Rattle.hp_driver.specs.Controls.{has_controls}
 use Rattle.hp_driver.specs.Texts.{HasNoProgram, IsArrangedText}
 use Rattle.hp_driver.specs.CompileErrors.{of_refusal, of_contract, of_controlled}

@@ -139,7 +139,7 @@ module _ (words : List (List ℕ)) (held : Files) (file node : List ℕ) (o : Ob
   completes log line status more (Outcome.past {file = x} {out = y} p r) ended good f g = absurd (past_exec words x y p file node w)
   completes log line status more (Outcome.swept {tasks = t} {instants = i} text s is) ended good f g = inl refl
   completes log line status more (Outcome.swept_in_part {tasks = t} {instants = i} text out rest s is e) ended good f g = absurd (g refl)
-  completes log line status more (Outcome.not_swept {tasks = t} {instants = i} s) ended good f g = absurd (sweep_exec words t i s file node w)
+  completes log line status more (Outcome.not_swept {tasks = t} {instants = i} s why) ended good f g = absurd (sweep_exec words t i s file node w)
   completes log line status more (Outcome.done asked step has_end answer good_lines) ended good f g = inl refl
   completes log line status more (Outcome.bad_line {s = s} bad_line asked step answer e) ended good f g =
       absurd (no_bad_line (inputs_of (of_machine o node)) (has_ended log) (heard log) more bad_line ended good (ap (λ z. first_bad (inputs_of z) 1 (lines_of (has_ended log) (heard log))) (sym (system s asked)) ∙ e))

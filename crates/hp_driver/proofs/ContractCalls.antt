@@ -127,7 +127,7 @@ module _ (words : List (List ℕ)) (held : Files) (file name text : List ℕ) (p
     decides log line status short within shown (Outcome.past {file = x} {out = y} p r) f g = absurd (past_contract words x y p file name over)
     decides log line status short within shown (Outcome.swept {tasks = t} {instants = i} other s is) f g = inl refl
     decides log line status short within shown (Outcome.swept_in_part {tasks = t} {instants = i} other out rest s is e) f g = absurd (g refl)
-    decides log line status short within shown (Outcome.not_swept {tasks = t} {instants = i} s) f g = absurd (sweep_contract words t i s file name over)
+    decides log line status short within shown (Outcome.not_swept {tasks = t} {instants = i} s why) f g = absurd (sweep_contract words t i s file name over)
     decides log line status short within shown (Outcome.done asked step has_end answer good_lines) f g = inl refl
     decides log line status short within shown (Outcome.bad_line {s = s} bad_line asked step answer e) f g = absurd (not_system s asked)
     decides log line status short within shown (Outcome.take_failed asked step answer good_lines) f g = absurd (f refl)

@@ -1,5 +1,5 @@
 -- A call of `past` with a text that is a program succeeds but for want of memory, where what it would write is not too long.
-use Rattle.std.proofs.Common.{◌≡◌, ◌<◌, ◌≤◌, ◌⊎◌, inl, inr, ℕ, List, codes, length, None, Some, refl, sym, ap, subst, arith}
+use Rattle.std.proofs.Common.{◌≡◌, ◌≤◌, ◌⊎◌, inl, inr, ℕ, List, codes, length, Some, refl, sym, ap, subst, arith}
 use Rattle.std.specs.Prelude.{Option}
 use Rattle.hp_base.specs.Limits.{most}
 use Rattle.hp_base.specs.declared.limit.What.TheVariants.{Size}
@@ -8,7 +8,7 @@ use Rattle.hp_io.specs.declared.console.Event.{Event}
 use Rattle.hp_compile.specs.Judged.{IsProgramOf}
 use Rattle.hp_obc.specs.Machines.{Obc}
 use Rattle.hp_tree.specs.declared.program.Item.{Item}
-use Rattle.hp_driver.specs.Command.{IsPastOf, IsRunOf, IsExecOf, IsOverContract, IsOverSource, ReadsSource, IsOver}
+use Rattle.hp_driver.specs.Command.{IsPastOf, IsExecOf, IsOverContract, IsOverSource, ReadsSource, IsOver}
 use Rattle.hp_driver.specs.GoodCalls.{IsGoodPast}
 use Rattle.hp_driver.specs.Outcome.{Outcome, Gives, AreAskedFor, IsAskedFor}
 use Rattle.hp_driver.specs.PastOutcome.{PastOutcome, unfolded_text}
@@ -96,7 +96,7 @@ module _ (words : List (List ℕ)) (held : Files) (file out text : List ℕ) (pr
   succeeds log line status (Outcome.past {file = x} {out = y} v r) f g = unfolds x y line status v r g
   succeeds log line status (Outcome.swept other s is_summary) f g = inl refl
   succeeds log line status (Outcome.swept_in_part other said rest s is_summary e) f g = absurd (g refl)
-  succeeds log line status (Outcome.not_swept {tasks = t} {instants = i} s) f g = absurd (sweep_past words t i s file out w)
+  succeeds log line status (Outcome.not_swept {tasks = t} {instants = i} s why) f g = absurd (sweep_past words t i s file out w)
   succeeds log line status (Outcome.done asked step has_end answer good_lines) f g = inl refl
   succeeds log line status (Outcome.bad_line {s = s} bad_line asked step answer e) f g = absurd (not_system s asked)
   succeeds log line status (Outcome.take_failed asked step answer good_lines) f g = absurd (f refl)

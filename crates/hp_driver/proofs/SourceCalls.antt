@@ -114,7 +114,7 @@ module _ (words : List (List ℕ)) (held : Files) (file text : List ℕ) (progra
     succeeds log line status good (Outcome.past {file = x} {out = y} p r) f g = absurd (past_source words x y p file over)
     succeeds log line status good (Outcome.swept {tasks = t} {instants = i} other s is) f g = inl refl
     succeeds log line status good (Outcome.swept_in_part {tasks = t} {instants = i} other out rest s is e) f g = absurd (g refl)
-    succeeds log line status good (Outcome.not_swept {tasks = t} {instants = i} s) f g = absurd (sweep_source words t i s file over)
+    succeeds log line status good (Outcome.not_swept {tasks = t} {instants = i} s why) f g = absurd (sweep_source words t i s file over)
     succeeds log line status good (Outcome.done asked step has_end answer good_lines) f g = inl refl
     succeeds log line status good (Outcome.bad_line {s = s} bad_line asked step answer e) f g = absurd (good s bad_line asked e)
     succeeds log line status good (Outcome.take_failed asked step answer good_lines) f g = absurd (f refl)

@@ -1,9 +1,7 @@
 -- What a text is compiled to, and why it is not.
 -- Source: own.
-use Rattle.std.specs.Prelude.{◌≡◌, ◌≢◌, ◌⊎◌, ⊤, ℕ, true, false, List, Some}
+use Rattle.std.specs.Prelude.{◌≡◌, ◌≢◌, ◌⊎◌, ⊤, ℕ, true, false, List}
 use Rattle.hp_tree.specs.declared.program.Item.{Item}
-use Rattle.hp_tree.specs.Meaning.{node_among}
-use Rattle.hp_tree.specs.Programs.{Node}
 use Rattle.hp_compile.specs.Arranged.{IsArranged}
 use Rattle.hp_compile.specs.Judged.{IsJudged}
 use Rattle.hp_compile.specs.Refusals.{Causes}
@@ -12,14 +10,13 @@ use Rattle.hp_controlled.specs.Chosen.{AreControlledMachines}
 use Rattle.hp_controlled.specs.Joining.{AreWithContracts}
 use Rattle.hp_controlled.specs.Lacking.{HasNoChosenMachines}
 use Rattle.hp_machines.specs.Machined.{AreMachinesOf}
-use Rattle.hp_obc.specs.Form.{machine_named}
-use Rattle.hp_obc.specs.Machines.{Machine, Obc}
+use Rattle.hp_obc.specs.Machines.{Obc}
 use Rattle.hp_verdicts.specs.declared.error.ContractErr.{ContractErr}
 use Rattle.hp_verdicts.specs.declared.error.ContractErr.TheVariants as contract
 use Rattle.law_controlled.specs.Greatest.{AllSayGreatest}
 use Rattle.law_controlled.specs.Remaining.{Remaining}
 use Rattle.law_decided.specs.Outcomes.{AreKeptInGames, RefusesInGames}
-use Rattle.law_history.specs.Streams.Texts.{RunsNode}
+use Rattle.hp_driver.specs.Agreeing.{RunNodes}
 use Rattle.hp_driver.specs.Controls.{has_controls}
 use Rattle.hp_driver.specs.Texts.{HasNoProgram, IsOnly}
 use Rattle.hp_driver.specs.declared.compile_error.CompileErr.{CompileErr}
@@ -36,10 +33,6 @@ pub record IsFound (text : List ℕ) (program ordered : List Item) : Type 0 wher
 pub data AreMachinesFor (program ordered : List Item) (o : Obc) : Type 0 where
   of_nodes : {own : Obc} → has_controls program ≡ false → AreMachinesOf ordered own → (o ≡ own) ⊎ AreWithContracts ordered own o → AreMachinesFor program ordered o
   that_choose : has_controls program ≡ true → AreControlledMachines ordered o → AreMachinesFor program ordered o
-
--- each node has a machine among these, of its name, which gives the outputs of its one run
-abbrev pub RunNodes : List Item → Obc → Type 0
-RunNodes ordered o = (f : List ℕ) (n : Node) → node_among ordered f ≡ Some n → (m : Machine) × (machine_named o.machines f ≡ Some m) × RunsNode ordered o f m
 
 -- What a text is compiled to. It has one program, which breaks no rule and of which each contract is kept. Its machines run its nodes; those of a program with controllable variables say what it allows, with the greatest permitted values as far as `AllSayGreatest` has it.
 pub record IsCompiled (text : List ℕ) (o : Obc) : Type 0 where

@@ -108,7 +108,8 @@ pub fn compile_program(alloc: Global, program: &Program) -> Result<Obc, CompileE
 /// The machines of a source text, or why it has none. For each node there is a machine of its name, and for each with a contract one of its controller, before it, and one that also tells what the contract
 /// assumes and enforces, behind it (`f$ctl`, `f`, `f$contract`); `hp_exec::Exec` runs them, and has their signatures.
 pub fn compile(alloc: Global, text: &[u8]) -> Result<Obc, CompileErr>
-    ensures { MatchResult result (IsCompiled text.now) (IsNotCompiled text.now) }
+    ensures compiled { MatchResult result (IsCompiled text.now) (IsNotCompiled text.now) }
+    ensures circuits { IfErr result HasCircuit }
 {
     let program = judge(alloc, text)?;
     compile_program(alloc, &program)
