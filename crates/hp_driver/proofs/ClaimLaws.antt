@@ -204,7 +204,6 @@ Refused text error = ⊤
 refused_text : (text : List ℕ) (error : CompileErr) → IsNotCompiled text error → Refused text error
 refused_text text error (IsNotCompiled.refused causes none) = (none, causes)
 refused_text text error (IsNotCompiled.contract_refused found differs refuses) = tt
-refused_text text error (IsNotCompiled.not_built found kept some why) = tt
 refused_text text error IsNotCompiled.out_of_memory = tt
 
 -- why it says nothing
@@ -212,7 +211,6 @@ refuses_tasks : (tasks : ℕ) (line : List ℕ) → IsNotSwept tasks line → Re
 refuses_tasks tasks line (IsNotSwept.refused cause why) =
     let told = refused_text (tasks_text tasks) (compile.Refused cause) why in RefusesTasks.refused cause told.0 told.1
 refuses_tasks tasks line (IsNotSwept.contract_refused cause why) = RefusesTasks.contract_refused cause
-refuses_tasks tasks line (IsNotSwept.not_built why) = RefusesTasks.not_run
 refuses_tasks tasks line (IsNotSwept.not_run compiled why) = RefusesTasks.not_run
 
 -- ---- contracts
@@ -399,8 +397,6 @@ module _ (words : List (List ℕ)) (files left : Files) (input : List ℕ) where
         let same = untouched words files left 1 leaves f g (inl (λ k. omega (arith, k))) in at_left files [] line 1 same (Does.refused cause w gives unheld causes)
     ended log line status (Outcome.contract_refused {file = x} {program = p} cause over held some differs refuses) h leaves e f g =
         first_refused (untouched words files left 1 leaves f g (inl (λ k. omega (arith, k)))) x p cause over held differs refuses
-    ended log line status (Outcome.not_built {file = x} {program = p} asks held kept why) h leaves e f g =
-        let same = untouched words files left 1 leaves f g (inl (λ k. omega (arith, k))) in at_left files [] line 1 same (Does.not_built (program_of files x p held) asks kept.safe)
     ended log line status (Outcome.no_node_to_run {file = x} {name = y} {program = p} asks held kept unnamed) h leaves e f g =
         no_node_to_run (untouched words files left 1 leaves f g (inl (λ k. omega (arith, k)))) x y p asks held kept.safe unnamed
     ended log line status (Outcome.chosen_too_large {file = x} {o = o} limit chosen asks for passed) h leaves e f g =

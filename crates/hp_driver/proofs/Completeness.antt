@@ -100,7 +100,6 @@ module _ (words : List (List ℕ)) (held : Files) (file node : List ℕ) (o : Ob
   completes log line status more (Outcome.refused {file = x} text cause (ReadsSource.of_program over) gives causes none) ended good f g = absurd (exec_source words file node x w over)
   completes log line status more (Outcome.refused {file = x} text cause (ReadsSource.of_contract {node = y} k) gives causes none) ended good f g = absurd (exec_contract words file node x y w k)
   completes log line status more (Outcome.contract_refused {file = x} cause over source some differs refuses) ended good f g = absurd (exec_source words file node x w over)
-  completes log line status more (Outcome.not_built {file = x} {program = p} asks source kept why) ended good f g = absurd (exec_source words file node x w (choosing_source words x p asks))
   completes log line status more (Outcome.no_node_to_run {file = x} {name = y} {program = p} asks source kept none) ended good f g = absurd (exec_source words file node x w (choosing_source words x p (running_choosing words x y p asks)))
   completes log line status more (Outcome.chosen_too_large {file = x} {node = y} {name = z} limit chosen asks for passed) ended good f g =
       absurd (exec_source words file node x w (choosing_source words x chosen.program (running_choosing words x y chosen.program asks)))

@@ -98,7 +98,6 @@ module _ (words : List (List ℕ)) (held : Files) (file name text : List ℕ) (p
     decides log line status short within shown (Outcome.refused {file = x} other cause (ReadsSource.of_contract {node = y} k) gives causes none) f g =
         absurd (has_program held file text program holds judged x other (only x y k).0 gives arrangeable none)
     decides log line status short within shown (Outcome.contract_refused {file = x} cause reads source some differs refuses) f g = absurd (source_contract words x file name reads over)
-    decides log line status short within shown (Outcome.not_built {file = x} {program = p} asks source kept why) f g = absurd (source_contract words x file name (choosing_source words x p asks) over)
     decides log line status short within shown (Outcome.no_node_to_run {file = x} {name = y} {program = p} asks source kept none) f g = absurd (source_contract words x file name (choosing_source words x p (running_choosing words x y p asks)) over)
     decides log line status short within shown (Outcome.chosen_too_large {file = x} {node = y} {name = z} limit chosen asks for passed) f g =
         absurd (source_contract words x file name (choosing_source words x chosen.program (running_choosing words x y chosen.program asks)) over)

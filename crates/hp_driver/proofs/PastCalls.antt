@@ -67,7 +67,6 @@ module _ (words : List (List ℕ)) (held : Files) (file out text : List ℕ) (pr
   succeeds log line status (Outcome.too_long {file = x} reads long) f g = absurd (not_read x reads)
   succeeds log line status (Outcome.refused {file = x} other cause reads gives causes none) f g = absurd (not_read x reads)
   succeeds log line status (Outcome.contract_refused {file = x} cause over source some differs refuses) f g = absurd (not_source x over)
-  succeeds log line status (Outcome.not_built {file = x} {program = p} asks source kept why) f g = absurd (not_source x (choosing_source words x p asks))
   succeeds log line status (Outcome.no_node_to_run {file = x} {name = y} {program = p} asks source kept none) f g = absurd (not_source x (choosing_source words x p (running_choosing words x y p asks)))
   succeeds log line status (Outcome.chosen_too_large {file = x} {node = y} {name = z} limit chosen asks for passed) f g =
       absurd (not_source x (choosing_source words x chosen.program (running_choosing words x y chosen.program asks)))

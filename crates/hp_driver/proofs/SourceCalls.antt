@@ -31,13 +31,13 @@ use Rattle.hp_driver.specs.Lines.{lines_of}
 use Rattle.hp_driver.specs.Log.{heard, has_ended, HeardFrom}
 use Rattle.hp_driver.specs.NodeKinds.{input_kinds}
 use Rattle.hp_driver.specs.Controls.{has_controls}
-use Rattle.hp_driver.specs.Outcome.{Outcome, Gives, GivesMoreThan, HasNoProgram, IsHeld, AreCompiled, AreAskedFor, IsAskedFor, LacksNode, AsksToChoose}
+use Rattle.hp_driver.specs.Outcome.{Outcome, Gives, GivesMoreThan, HasNoProgram, IsHeld, AreCompiled, AreAskedFor, IsAskedFor, LacksNode}
 use Rattle.hp_driver.specs.Systems.{System, inputs_of}
 use Rattle.hp_driver.specs.Values.{first_bad}
 use Rattle.hp_driver.specs.declared.trace_limits.BadLine.{BadLine}
 use Rattle.hp_driver.proofs.Completeness.{same_text, no_bad_line}
 use Rattle.hp_driver.proofs.GoodContracts.{none_refused}
-use Rattle.hp_driver.proofs.WordLaws.{past_source, run_exec, run_compile, exec_compile, check_run, check_exec, same_words, check_source, run_source, compile_source, source_contract, tell_run, tell_check, tell_compile, check_chooses, running_choosing, sweep_source}
+use Rattle.hp_driver.proofs.WordLaws.{AsksToChoose, past_source, run_exec, run_compile, exec_compile, check_run, check_exec, same_words, check_source, run_source, compile_source, source_contract, tell_run, tell_check, tell_compile, check_chooses, running_choosing, sweep_source}
 
 -- ---- a file that holds such a program
 
@@ -86,7 +86,6 @@ module _ (words : List (List ℕ)) (held : Files) (file text : List ℕ) (progra
     succeeds log line status good (Outcome.refused {file = x} other cause (ReadsSource.of_program reads) gives causes none) f g = absurd (has_program held file text program holds judged x other (only_file x reads) gives arrangeable none)
     succeeds log line status good (Outcome.refused {file = x} other cause (ReadsSource.of_contract {node = y} k) gives causes none) f g = absurd (source_contract words file x y over k)
     succeeds log line status good (Outcome.contract_refused {file = x} {program = p} cause reads source some differs refuses) f g = absurd (no_contract_refused x p cause reads source differs refuses)
-    succeeds log line status good (Outcome.not_built {file = x} {program = p} asks source kept why) f g = absurd (not_choosing x p source asks)
     succeeds log line status good (Outcome.no_node_to_run {file = x} {name = y} {program = p} asks source kept none) f g = absurd (not_choosing x p source (running_choosing words x y p asks))
     succeeds log line status good (Outcome.chosen_too_large {file = x} {node = y} {name = z} limit chosen asks for passed) f g = absurd (not_choosing x chosen.program chosen.held (running_choosing words x y chosen.program asks))
     succeeds log line status good (Outcome.accepted other c source kept) f g = inl refl

@@ -13,7 +13,7 @@ use Rattle.hp_driver.specs.Stopping.{Stops}
 use Rattle.hp_driver.specs.Sweeping.{tasks_text}
 use Rattle.hp_driver.specs.Swept.{IsNotSwept}
 use Rattle.hp_driver.specs.declared.compile_error.CompileErr.{CompileErr}
-use Rattle.hp_driver.specs.declared.compile_error.CompileErr.TheVariants.{Refused, Contract, NotBuilt}
+use Rattle.hp_driver.specs.declared.compile_error.CompileErr.TheVariants.{Refused, Contract}
 use Rattle.hp_driver.specs.declared.sweep.Stop.{Stop}
 use Rattle.hp_driver.specs.declared.sweep.Stop.TheVariants.{NotCompiled, NotRun}
 
@@ -37,9 +37,6 @@ program_refused cause tasks instants n words files w = Outcome.not_swept w (IsNo
 
 pub contract_refused : (cause : ContractErr) → Unswept (Contract cause) (contract_line cause) 1
 contract_refused cause tasks instants n words files w = Outcome.not_swept w (IsNotSwept.contract_refused cause n)
-
-pub program_not_built : Unswept NotBuilt not_built_line 1
-program_not_built tasks instants n words files w = Outcome.not_swept w (IsNotSwept.not_built n)
 
 -- ---- whatever the cause
 

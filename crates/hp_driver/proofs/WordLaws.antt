@@ -3,7 +3,7 @@ use Rattle.std.proofs.Common.{◌≡◌, ◌<◌, ℕ, suc, ◌⊎◌, inl, inr,
 use Rattle.std.specs.Prelude.{codes, Option, Some}
 use Rattle.hp_arguments.specs.Words.{IsArgument}
 use Rattle.hp_driver.specs.Command.{IsOnTraceBy, IsOnCertBy, IsRunOf, IsTellOf, IsExecOf, IsCheckOf, IsCompileOf, IsPastOf, IsProveOf, IsVerifyOf, IsSegmentOf, IsNoSegment, IsSweepOf, IsOverSource, IsOverContract, ReadsSource, IsOver, Writes}
-use Rattle.hp_driver.specs.Outcome.{AsksToChoose, AsksToRun}
+use Rattle.hp_driver.specs.Outcome.{AsksToRun}
 use Rattle.hp_tree.specs.declared.program.Item.{Item}
 
 same_first : (x y : List ℕ) (xs ys : List (List ℕ)) → x ∷ xs ≡ y ∷ ys → x ≡ y
@@ -283,6 +283,12 @@ module _ (words : List (List ℕ)) (file out : List ℕ) where
   verify_writes node cert w (Writes.a_checkpoint {file = x} {node = y} {from = z} s) = verify_segment words file node cert w x y z out s
 
 -- ---- machines that choose
+
+-- The words ask for the machines of a program that choose the values of its controllable variables, or for what its contracts assume and enforce.
+pub data AsksToChoose (words : List (List ℕ)) (file : List ℕ) (program : List Item) : Type 0 where
+  to_run : {node : List ℕ} → IsRunOf words file node → has_controls program ≡ true → AsksToChoose words file program
+  to_tell : {node : List ℕ} → IsTellOf words file node → AsksToChoose words file program
+  to_compile : {out : List ℕ} → IsCompileOf words file out → has_controls program ≡ true → AsksToChoose words file program
 
 -- they are made of a source text
 pub choosing_source : (words : List (List ℕ)) (file : List ℕ) (program : List Item) → AsksToChoose words file program → IsOverSource words file

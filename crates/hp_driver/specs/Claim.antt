@@ -28,7 +28,7 @@ use Rattle.hp_cert.specs.declared.checking.Proved.TheVariants.{Lose}
 use Rattle.hp_verdicts.specs.declared.error.ContractErr.{ContractErr}
 use Rattle.hp_verdicts.specs.declared.error.ContractErr.TheVariants as contract
 use Rattle.law_decided.specs.Laws.{HoldsOf, IsForcedFirst, IsVerdictOf}
-use Rattle.hp_driver.specs.Command.{IsRunOf, IsTellOf, IsCheckOf, IsCompileOf, IsPastOf, IsExecOf, IsProveOf, IsVerifyOf, IsSegmentOf, IsSweepOf, IsOverSource, IsOverContract, ReadsSource, IsNoCommand, usage_line, not_built_line, no_node_line, accepted_text, verdict_text}
+use Rattle.hp_driver.specs.Command.{IsRunOf, IsTellOf, IsCheckOf, IsCompileOf, IsPastOf, IsExecOf, IsProveOf, IsVerifyOf, IsSegmentOf, IsSweepOf, IsOverSource, IsOverContract, ReadsSource, IsNoCommand, usage_line, no_node_line, accepted_text, verdict_text}
 use Rattle.hp_driver.specs.Controls.{has_controls}
 use Rattle.hp_driver.specs.Diagnostics.{checkpoint_line, refusal_line, too_long_line, no_text_line, no_form_line, executor_line, forced_line, contract_line, no_contract_line, certificate_line, certificate_status}
 use Rattle.hp_driver.specs.Lines.{lines_of}
@@ -36,7 +36,7 @@ use Rattle.hp_driver.specs.PastOutcome.{unfolded_text}
 use Rattle.hp_driver.specs.Sweeping.{HasTasks, sweep_text, tasks_text}
 use Rattle.hp_driver.specs.Systems.{System, of_node, of_machine}
 use Rattle.hp_obc.specs.Steps.{Memory}
-use Rattle.hp_driver.specs.Asking.{AsksToChoose, AsksToRun, IsRunFor, run_words}
+use Rattle.hp_driver.specs.Asking.{AsksToRun, IsRunFor, run_words}
 use Rattle.hp_driver.specs.Checkpoints.{IsCheckpointOf, RefusesCheckpoint, memory_past}
 use Rattle.hp_obctext.specs.declared.memory.error.MemErr.{MemErr}
 use Rattle.hp_driver.specs.ClaimTerms.{Program, AllKept, IsFirst, Certifies, IsNoProof, IsUndecidable, IsTrace, DoesTheSame, Choose, Implement, IsOwnOf, IsTellerOf, Runs, Starts, IsReadAs, LacksFile, RefusesTasks}
@@ -76,9 +76,6 @@ module _ (words : List (List ℕ)) (files : Files) (input : List ℕ) where
     chosen_too_large : {file node name : List ℕ} {o : Obc} (limit : Limit) (p : Program files file) →
         AsksToRun words file node p.program → Choose p o → IsRunFor node name → IsPassed o name limit →
         Does [] (executor_line limit) files 1
-    -- or they are not made. No program has shown it; `run_tool` says why (`hp_driver/specs/Outcome`)
-    not_built : {file : List ℕ} (p : Program files file) → AsksToChoose words file p.program → AllKept p →
-        Does [] not_built_line files 1
     -- 3. The first contract that is refused is lost: in its game the inputs force a violation within so many instants,
     -- and within no fewer. Behind the line stands its certificate, or that this is too long. Or it is undecidable.
     lost : {file behind : List ℕ} (n : Node) (instants : ℕ) (p : Program files file) → IsOverSource words file →

@@ -146,8 +146,8 @@ pub data IsReadAs (words : List (List ℕ)) (file : List ℕ) : What → Type 0 
 abbrev pub LacksFile : List (List ℕ) → Files → Type 0
 LacksFile words files = (file : List ℕ) × IsOver words file × (map.get files file ≡ None)
 
--- The line tells why a sweep says nothing: the program of its tasks is refused, or its contract is, or its machines are
--- not made or not run.
+-- The line tells why a sweep says nothing: the program of its tasks is refused, or its contract is, or its machine cannot
+-- be run.
 pub data RefusesTasks (tasks : ℕ) : List ℕ → Type 0 where
   refused : (cause : Refusal) → ((program : List Item) → IsJudged (tasks_text tasks) program → IsArrangeable program → ⊥) →
       Causes (tasks_text tasks) cause → RefusesTasks tasks (refusal_line cause)

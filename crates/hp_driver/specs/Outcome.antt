@@ -42,10 +42,9 @@ use Rattle.hp_verdicts.specs.declared.error.ContractErr.{ContractErr}
 use Rattle.hp_verdicts.specs.declared.error.ContractErr.TheVariants.{OutOfMemory}
 use Rattle.hp_driver.specs.Diagnostics.{refusal_line, too_long_line, no_text_line, no_form_line, executor_line, contract_line, no_contract_line, certificate_line, certificate_status}
 use Rattle.hp_driver.specs.BadLines.{bad_line_line}
-use Rattle.hp_driver.specs.Compiled.{IsNotBuilt}
 use Rattle.hp_driver.specs.Controls.{has_controls}
-use Rattle.hp_driver.specs.Command.{IsRunOf, IsTellOf, IsCheckOf, IsCompileOf, IsPastOf, IsExecOf, IsProveOf, IsVerifyOf, IsSweepOf, IsOverSource, IsOverContract, ReadsSource, ReadsFirst, IsNoCommand, usage_line, not_built_line, no_node_line, accepted_text, verdict_text}
-pub use Rattle.hp_driver.specs.Asking.{AsksToChoose, AsksToRun, IsRunFor}
+use Rattle.hp_driver.specs.Command.{IsRunOf, IsTellOf, IsCheckOf, IsCompileOf, IsPastOf, IsExecOf, IsProveOf, IsVerifyOf, IsSweepOf, IsOverSource, IsOverContract, ReadsSource, ReadsFirst, IsNoCommand, usage_line, no_node_line, accepted_text, verdict_text}
+pub use Rattle.hp_driver.specs.Asking.{AsksToRun, IsRunFor}
 pub use Rattle.hp_driver.specs.Given.{Gives, GivesMoreThan}
 pub use Rattle.hp_driver.specs.Texts.{IsOnly, HasNoProgram}
 use Rattle.hp_driver.specs.PastOutcome.{PastOutcome}
@@ -150,9 +149,6 @@ module _ (words : List (List ℕ)) (files : Option Files) where
     -- In the games of the contracts before it no violation is ever forced, and what the cause says is so of its node
     contract_refused : {file : List ℕ} {program : List Item} (cause : ContractErr) → IsOverSource words file → (held : IsHeld files file program) → has_contract program ≡ true →
         cause ≢ OutOfMemory → RefusesInGames held.clocked cause → Outcome [] (contract_line cause) 1
-    -- each contract is kept, in its game too, and machines that choose were not made, for an early bit of a node waits for the choice. No program has shown this; that none does is not said here
-    not_built : {file : List ℕ} {program : List Item} → AsksToChoose words file program → (held : IsHeld files file program) → AreKeptInGames held.clocked → IsNotBuilt held.clocked →
-        Outcome [] not_built_line 1
     -- the program has no node of this name to be run
     no_node_to_run : {file name : List ℕ} {program : List Item} → AsksToRun words file name program → (held : IsHeld files file program) → AreKeptInGames held.clocked →
         node_among held.clocked name ≡ None → Outcome [] (no_node_line name) 1

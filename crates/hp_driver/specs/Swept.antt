@@ -11,7 +11,7 @@ use Rattle.hp_driver.specs.Command.{not_built_line}
 use Rattle.hp_driver.specs.Compiled.{IsCompiled, IsNotCompiled}
 use Rattle.hp_driver.specs.Diagnostics.{contract_line, refusal_line}
 use Rattle.hp_driver.specs.Sweeping.{HasTasks, sweep_text, tasks_name, tasks_text}
-use Rattle.hp_driver.specs.declared.compile_error.CompileErr.TheVariants.{Refused, Contract, NotBuilt}
+use Rattle.hp_driver.specs.declared.compile_error.CompileErr.TheVariants.{Refused, Contract}
 
 -- The text is the summary of a run of the tasks: their program is compiled to machines, among which is that of the tasks, and these are the counts of its run.
 pub record IsSwept (tasks instants : ℕ) (text : List ℕ) : Type 0 where
@@ -27,9 +27,8 @@ pub data IsNotRun (many : ℕ) (o : Obc) : Type 0 where
   other_inputs : (m : Machine) → machine_named o.machines tasks_name ≡ Some m → length m.inputs ≢ many → IsNotRun many o
   other_outputs : (m : Machine) → machine_named o.machines tasks_name ≡ Some m → length m.outputs ≢ many → IsNotRun many o
 
--- Nothing is said of so many tasks, and this line tells why: their program is not compiled, since it is refused, or its contract is, or since an early bit of its node waits for the choice; or its machine cannot be run. No sweep has shown any of them.
+-- Nothing is said of so many tasks, and this line tells why: their program is refused, or its contract is, or their machine cannot be run. No sweep has shown any of them.
 pub data IsNotSwept (tasks : ℕ) : List ℕ → Type 0 where
   refused : (cause : Refusal) → IsNotCompiled (tasks_text tasks) (Refused cause) → IsNotSwept tasks (refusal_line cause)
   contract_refused : (cause : ContractErr) → IsNotCompiled (tasks_text tasks) (Contract cause) → IsNotSwept tasks (contract_line cause)
-  not_built : IsNotCompiled (tasks_text tasks) NotBuilt → IsNotSwept tasks not_built_line
   not_run : {o : Obc} → IsCompiled (tasks_text tasks) o → IsNotRun (2 * tasks) o → IsNotSwept tasks not_built_line

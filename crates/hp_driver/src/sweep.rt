@@ -529,7 +529,6 @@ fn report_cause<E: Sink>(alloc: Global, diag: &mut E, error: &CompileErr) -> Sta
     match error {
         CompileErr::Refused(refusal) => report_refusal(alloc, diag, refusal),
         CompileErr::Contract(cause) => report_contract(alloc, diag, cause),
-        CompileErr::NotBuilt => report(diag, NOT_BUILT, Status::Refused),
         CompileErr::OutOfMemory => Status::NoMemory,
     }
 }
