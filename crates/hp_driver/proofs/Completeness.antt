@@ -27,7 +27,7 @@ use Rattle.hp_driver.specs.Systems.{System, of_machine, inputs_of}
 use Rattle.hp_driver.specs.Values.{first_bad}
 use Rattle.hp_driver.specs.declared.trace_limits.BadLine.{BadLine}
 use Rattle.hp_driver.proofs.GoodLines.{good_so_far}
-use Rattle.hp_driver.proofs.WordLaws.{past_exec, run_exec, same_words, exec_source, exec_contract, tell_exec, choosing_source, running_choosing, sweep_exec}
+use Rattle.hp_driver.proofs.WordLaws.{past_exec, run_exec, same_words, exec_source, exec_contract, tell_exec, running_source, sweep_exec}
 
 -- ---- texts
 
@@ -100,9 +100,9 @@ module _ (words : List (List ℕ)) (held : Files) (file node : List ℕ) (o : Ob
   completes log line status more (Outcome.refused {file = x} text cause (ReadsSource.of_program over) gives causes none) ended good f g = absurd (exec_source words file node x w over)
   completes log line status more (Outcome.refused {file = x} text cause (ReadsSource.of_contract {node = y} k) gives causes none) ended good f g = absurd (exec_contract words file node x y w k)
   completes log line status more (Outcome.contract_refused {file = x} cause over source some differs refuses) ended good f g = absurd (exec_source words file node x w over)
-  completes log line status more (Outcome.no_node_to_run {file = x} {name = y} {program = p} asks source kept none) ended good f g = absurd (exec_source words file node x w (choosing_source words x p (running_choosing words x y p asks)))
+  completes log line status more (Outcome.no_node_to_run {file = x} {name = y} {program = p} asks source kept none) ended good f g = absurd (exec_source words file node x w (running_source words x y p asks))
   completes log line status more (Outcome.chosen_too_large {file = x} {node = y} {name = z} limit chosen asks for passed) ended good f g =
-      absurd (exec_source words file node x w (choosing_source words x chosen.program (running_choosing words x y chosen.program asks)))
+      absurd (exec_source words file node x w (running_source words x y chosen.program asks))
   completes log line status more (Outcome.accepted print c source kept) ended good f g = inl refl
   completes log line status more (Outcome.accepted_in_part print out rest c source kept e) ended good f g = absurd (g refl)
   completes log line status more (Outcome.no_node {file = x} {name = y} k source none) ended good f g = absurd (exec_contract words file node x y w k)

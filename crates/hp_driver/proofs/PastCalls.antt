@@ -14,7 +14,7 @@ use Rattle.hp_driver.specs.Outcome.{Outcome, Gives, AreAskedFor, IsAskedFor}
 use Rattle.hp_driver.specs.PastOutcome.{PastOutcome, unfolded_text}
 use Rattle.hp_driver.specs.Systems.{System}
 use Rattle.hp_driver.proofs.Completeness.{same_text}
-use Rattle.hp_driver.proofs.WordLaws.{past_source, past_contract, past_exec, same_words, choosing_source, running_choosing, sweep_past}
+use Rattle.hp_driver.proofs.WordLaws.{past_source, past_contract, past_exec, same_words, running_source, sweep_past}
 
 module _ (words : List (List ℕ)) (held : Files) (file out text : List ℕ) (program : List Item) (w : IsPastOf words file out) (holds : Holds held file text) (is : IsProgramOf text program)
     (short : (other : List Item) → IsProgramOf text other → length (unfolded_text other) ≤ most Size) where
@@ -67,9 +67,9 @@ module _ (words : List (List ℕ)) (held : Files) (file out text : List ℕ) (pr
   succeeds log line status (Outcome.too_long {file = x} reads long) f g = absurd (not_read x reads)
   succeeds log line status (Outcome.refused {file = x} other cause reads gives causes none) f g = absurd (not_read x reads)
   succeeds log line status (Outcome.contract_refused {file = x} cause over source some differs refuses) f g = absurd (not_source x over)
-  succeeds log line status (Outcome.no_node_to_run {file = x} {name = y} {program = p} asks source kept none) f g = absurd (not_source x (choosing_source words x p (running_choosing words x y p asks)))
+  succeeds log line status (Outcome.no_node_to_run {file = x} {name = y} {program = p} asks source kept none) f g = absurd (not_source x (running_source words x y p asks))
   succeeds log line status (Outcome.chosen_too_large {file = x} {node = y} {name = z} limit chosen asks for passed) f g =
-      absurd (not_source x (choosing_source words x chosen.program (running_choosing words x y chosen.program asks)))
+      absurd (not_source x (running_source words x y chosen.program asks))
   succeeds log line status (Outcome.accepted print c source kept) f g = inl refl
   succeeds log line status (Outcome.accepted_in_part print said rest c source kept e) f g = absurd (g refl)
   succeeds log line status (Outcome.no_node {file = x} {name = y} k source none) f g = absurd (not_contract x y k)
