@@ -90,8 +90,6 @@ def try_program(folder, text, lines, seed, counts, label):
     with open(f'{folder}/F', 'w', encoding='latin-1') as file:
         file.write(text)
     status, _, told = hept(['check', f'{folder}/F'])
-    if told == 'E2 not built\n':
-        counts.failed.append(f'{label}: {told.strip()}')
     if status:
         return
     counts.accepted += 1
