@@ -89,9 +89,7 @@ def try_program(folder, text, lines, seed, counts, label):
     counts.programs += 1
     with open(f'{folder}/F', 'w', encoding='latin-1') as file:
         file.write(text)
-    status, _, told = hept(['check', f'{folder}/F'])
-    if told == 'E2 not built\n':
-        counts.failed.append(f'{label}: {told.strip()}')
+    status, _, _ = hept(['check', f'{folder}/F'])
     if status:
         return
     counts.accepted += 1

@@ -4,9 +4,8 @@ use Rattle.hp_compile.proofs.FormLaws.{formed}
 use Rattle.hp_compile.specs.Arranged.{IsArranged}
 use Rattle.hp_compile.specs.Judged.{IsJudged}
 use Rattle.hp_controlled.specs.Lacking.{HasNoChosenMachines}
-use Rattle.hp_driver.specs.Compiled.{IsNotBuilt}
 use Rattle.hp_driver.specs.Controls.{some_variable, has_controls}
-use Rattle.hp_driver.specs.Texts.{IsPlainText}
+use Rattle.hp_driver.specs.Texts.{IsArrangedText, IsPlainText}
 use Rattle.hp_machines.specs.NotBuilt.{HasNoMachines}
 use Rattle.hp_meaning.specs.Causal.Runs.{NoControls}
 use Rattle.hp_tree.specs.Blocks.{Decl}
@@ -14,7 +13,7 @@ use Rattle.hp_tree.specs.Meaning.{controls_of}
 use Rattle.hp_tree.specs.declared.program.Item.{Item}
 use Rattle.hp_tree.specs.declared.program.Item.TheVariants.{TypeItem, NodeItem}
 use Rattle.hp_verdicts.specs.Decided.{AreKept}
-use Rattle.law_controlled.specs.Remaining.{RemainingLaw}
+use Rattle.law_controlled.specs.Built.{ChosenBuiltLaw}
 use Rattle.law_decided.specs.Laws.{IsAcceptedText}
 use Rattle.law_history.specs.Streams.Texts.{BuiltLaw, IsAccepted}
 
@@ -29,15 +28,6 @@ accepted_by text program ordered ranks judged arranged = record {
   initialised = arranged.initialised;
   clocks = arranged.clocks;
   fall = arranged.ordered;
-}
-
--- Where machines that choose are not made, and contracts are kept, an early bit waits for the choice.
-pub is_not_built : RemainingLaw → (text : List ℕ) (program ordered : List Item) (ranks : List (List ℕ)) (judged : IsJudged text program) → IsArranged program ordered ranks → AreKept ordered ordered → HasNoChosenMachines ordered → IsNotBuilt ordered
-is_not_built law text program ordered ranks judged arranged kept lacks = record {
-  lacks = lacks;
-  remaining =
-      law text judged.program_of.tokens program ordered ranks judged.program_of.spelled judged.program_of.read judged.named judged.typed judged.defined (formed text program judged arranged.well_formed) arranged.initialised arranged.clocks arranged.ordered
-      kept lacks;
 }
 
 -- ---- no controllable variables
@@ -74,3 +64,13 @@ accepted_plain text program ordered ranks judged arranged none = record {
 -- nothing is in the way of its machines
 pub is_built : BuiltLaw → (ordered : List Item) → IsPlainText ordered → HasNoMachines ordered → ⊥
 is_built law ordered t none = let text = t.1 in law text.0 text.2.program_of.tokens t.0 ordered text.1 (accepted_plain text.0 t.0 ordered text.1 text.2 text.3 t.2) none
+
+-- nothing is in the way of machines that choose, where contracts are kept
+pub are_built : ChosenBuiltLaw → (ordered : List Item) → (program : List Item) × IsArrangedText program ordered → AreKept ordered ordered → HasNoChosenMachines ordered → ⊥
+are_built law ordered t kept none =
+    let program = t.0 in
+    let text = t.1.0 in
+    let judged = t.1.2 in
+    let arranged = t.1.3 in
+    law text judged.program_of.tokens program ordered t.1.1 judged.program_of.spelled judged.program_of.read judged.named judged.typed judged.defined (formed text program judged arranged.well_formed) arranged.initialised arranged.clocks
+    arranged.ordered kept none

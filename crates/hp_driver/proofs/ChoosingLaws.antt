@@ -6,7 +6,6 @@ use Rattle.hp_io.specs.Events.{put_events}
 use Rattle.hp_io.specs.Files.{Files}
 use Rattle.hp_io.specs.declared.console.Event.{Event}
 use Rattle.hp_controlled.specs.Chosen.{AreControlledMachines, IsChosen, IsToldBy}
-use Rattle.hp_controlled.specs.Lacking.{HasNoChosenMachines}
 use Rattle.hp_exec.specs.Answers.{Executes, Refuses as RefusesMachine}
 use Rattle.hp_exec.specs.Executors.{Executor}
 use Rattle.hp_exec.specs.declared.error.ExecErr.{ExecErr}
@@ -17,22 +16,19 @@ use Rattle.hp_tree.specs.Meaning.{node_among}
 use Rattle.hp_tree.specs.Programs.{Node}
 use Rattle.hp_tree.specs.declared.program.Item.{Item}
 use Rattle.law_controlled.specs.Headed.{HeadedLaw}
-use Rattle.law_controlled.specs.Remaining.{RemainingLaw}
 use Rattle.law_controlled.specs.Said.{GreatestSaidLaw}
 use Rattle.law_decided.specs.Outcomes.{AreKeptInGames}
-use Rattle.hp_driver.specs.Command.{IsSummary, not_built_line, no_node_line}
-use Rattle.hp_driver.specs.Compiled.{IsNotBuilt}
+use Rattle.hp_driver.specs.Command.{no_node_line}
 use Rattle.hp_driver.specs.Diagnostics.{executor_line}
 use Rattle.hp_driver.specs.Executing.{executing}
 use Rattle.hp_driver.specs.Follows.{Accepts, ChoosingRun, ChoosingTell, ChosenOutcome, NodeRun, NodeTold, RefusedChosen, SweepOutcome}
-use Rattle.hp_driver.specs.Leaves.{Leaves}
-use Rattle.hp_driver.specs.Outcome.{Outcome, IsHeld, AreChosen, AsksToChoose, AsksToRun, IsAskedFor}
+use Rattle.hp_driver.specs.Outcome.{Outcome, IsHeld, AreChosen, AsksToRun, IsAskedFor}
 use Rattle.hp_driver.specs.Ran.{Ran}
+use Rattle.hp_driver.specs.Swept.{IsSwept}
 use Rattle.hp_driver.specs.Systems.{System, of_machine, that_tells}
 use Rattle.hp_driver.specs.Teller.{teller, telling}
 use Rattle.hp_driver.specs.declared.telling.Ending.{Ending}
 use Rattle.hp_driver.specs.declared.telling.Ending.TheVariants.{Told, Kept}
-use Rattle.hp_driver.proofs.AcceptedLaws.{is_not_built}
 use Rattle.hp_driver.proofs.GameLaws.{all_greatest}
 use Rattle.hp_driver.proofs.ExecutionLaws.{teller_says, teller_refuses}
 use Rattle.hp_driver.proofs.MachineLaws.{machine_of, machine_mirrors}
@@ -109,13 +105,6 @@ module _ (node : List ℕ) (ordered : List Item) where
   pub run_memory : ChoosingRun node ordered [] [] 6
   run_memory words files file program held e some kept w = Outcome.no_memory
 
-  -- why machines that choose are not made
-  not_built_for : RemainingLaw → HasNoChosenMachines ordered → (files : Option Files) (file : List ℕ) (program : List Item) (held : IsHeld files file program) → held.clocked ≡ ordered → AreKeptInGames held.clocked → IsNotBuilt held.clocked
-  not_built_for law lacks files file program held e kept = is_not_built law held.text program held.clocked held.ranks held.judged held.arranged kept.kept (subst (λ (z : List Item). HasNoChosenMachines z) (sym e) lacks)
-
-  pub run_not_built : RemainingLaw → HasNoChosenMachines ordered → ChoosingRun node ordered [] not_built_line 1
-  run_not_built law lacks words files file program held e some kept w = Outcome.not_built (AsksToChoose.to_run w some) held kept (not_built_for law lacks files file program held e kept)
-
   pub run_no_node : node_among ordered node ≡ None → ChoosingRun node ordered [] (no_node_line node) 1
   run_no_node none words files file program held e some kept w = Outcome.no_node_to_run (AsksToRun.to_run w some) held kept (ap (λ z. node_among z node) e ∙ none)
 
@@ -124,9 +113,6 @@ module _ (node : List ℕ) (ordered : List Item) where
 
   pub tell_memory : ChoosingTell node ordered [] [] 6
   tell_memory words files file program held e kept w = Outcome.no_memory
-
-  pub tell_not_built : RemainingLaw → HasNoChosenMachines ordered → ChoosingTell node ordered [] not_built_line 1
-  tell_not_built law lacks words files file program held e kept w = Outcome.not_built (AsksToChoose.to_tell w) held kept (not_built_for law lacks files file program held e kept)
 
   pub tell_no_node : node_among ordered node ≡ None → ChoosingTell node ordered [] (no_node_line node) 1
   tell_no_node none words files file program held e kept w = Outcome.no_node_to_run (AsksToRun.to_tell w) held kept (ap (λ z. node_among z node) e ∙ none)
@@ -146,17 +132,7 @@ module _ (node : List ℕ) (ordered : List Item) where
 
 -- ---- a sweep
 
-module _ (tasks instants : ℕ) where
-  pub sweep_failed : (line : List ℕ) (b : ℕ) (rest : List ℕ) (status : ℕ) → SweepOutcome tasks instants [] (line ++ b ∷ rest) status → SweepOutcome tasks instants [] line 5
-  sweep_failed line b rest status f words files w = Outcome.line_failed line b rest (f words files w)
-
-  pub sweep_not_built : SweepOutcome tasks instants [] not_built_line 1
-  sweep_not_built words files w = Outcome.not_swept w
-
-  pub sweep_memory : SweepOutcome tasks instants [] [] 6
-  sweep_memory words files w = Outcome.no_memory
-
-  pub swept : (text out : List ℕ) (status : ℕ) → IsSummary tasks text → Accepts text out status → SweepOutcome tasks instants (put_events out) [] status
-  swept text out status is Accepts.said words files w = Outcome.swept text w is
-  swept text out status is (Accepts.said_in_part said rest e) words files w = Outcome.swept_in_part text out rest w is e
-  swept text out status is Accepts.no_memory words files w = Outcome.no_memory
+pub swept : (tasks instants : ℕ) (text out : List ℕ) (status : ℕ) → IsSwept tasks instants text → Accepts text out status → SweepOutcome tasks instants (put_events out) [] status
+swept tasks instants text out status is Accepts.said words files w = Outcome.swept text w is
+swept tasks instants text out status is (Accepts.said_in_part said rest e) words files w = Outcome.swept_in_part text out rest w is e
+swept tasks instants text out status is Accepts.no_memory words files w = Outcome.no_memory

@@ -1,23 +1,20 @@
 -- From what the call did, as `run_tool` has it, to the rows of the claim.
-use Rattle.std.proofs.Common.{◌≡◌, ◌≢◌, ◌⊎◌, ◌+◌, ◌*◌, inl, inr, ℕ, Bool, true, false, List, [], ◌∷◌, ◌++◌, map, length, get_or, Option, None, Some, refl, sym, ap, subst, ◌∙◌, arith, if◌then◌else◌}
-use Rattle.std.specs.Prelude.{option_map}
+use Rattle.std.proofs.Common.{◌≡◌, ◌≢◌, ◌⊎◌, ◌+◌, ◌*◌, inl, inr, ℕ, Bool, true, false, List, [], ◌∷◌, ◌++◌, length, get_or, Option, None, Some, refl, sym, ap, subst, ◌∙◌, arith}
+use Rattle.std.specs.Prelude.{⊤, option_map}
 use Rattle.std.specs.FinMap as finmap
 use Rattle.std.specs.Option.{option_copied, unwrap_or}
-use Rattle.std.specs.Str.{bytes_eq}
 use Rattle.std.specs.Borrow.{Bor}
 use Rattle.std.proofs.lemmas.Bool.Decides.{eqb_tells}
 use Rattle.std.proofs.lemmas.List.{append-nil}
 use Rattle.hp_base.specs.declared.limit.What.TheVariants.{Size, Text}
 use Rattle.hp_boolx.specs.Machine.{Machine as BoolMachine}
+use Rattle.hp_compile.specs.Refusals.{Causes}
 use Rattle.hp_io.specs.Files.{Files}
 use Rattle.hp_io.specs.declared.console.Event.{Event}
 use Rattle.hp_io.specs.declared.console.Event.TheVariants.{Asked, Heard, Ended, Said}
 use Rattle.hp_io.specs.Events.{put_events, said_bytes}
 use Rattle.hp_tree.specs.declared.program.Item.{Item}
-use Rattle.hp_tree.specs.declared.program.Item.TheVariants.{TypeItem, NodeItem}
 use Rattle.hp_tree.specs.Meaning.{node_among}
-use Rattle.hp_tree.specs.Programs.{Node}
-use Rattle.hp_machines.specs.Machined.{heading_of_machine, heading_of_node, headings_of}
 use Rattle.hp_obc.specs.Form.{machine_named}
 use Rattle.hp_obc.specs.Machines.{Machine, Obc}
 use Rattle.hp_obc.specs.Steps.{Memory}
@@ -31,11 +28,13 @@ use Rattle.hp_verdicts.specs.declared.error.ContractErr.TheVariants as contract
 use Rattle.law_decided.specs.Outcomes.{RefusesInGame, RefusesInGames}
 use Rattle.hp_driver.specs.Answers.{IsAnswer}
 use Rattle.hp_driver.specs.BadLines.{bad_line_line}
-use Rattle.hp_driver.specs.Asking.{AsksToChoose, AsksToRun}
+use Rattle.hp_driver.specs.Asking.{AsksToRun}
 use Rattle.hp_driver.specs.Claim.{Does, Ends}
-use Rattle.hp_driver.specs.ClaimTerms.{AllKept, Certifies, Choose, DoesTheSame, IsNoProof, IsOwnOf, IsReadAs, IsTellerOf, IsTrace, LacksFile, Program, Runs, Starts}
+use Rattle.hp_driver.specs.ClaimTerms.{AllKept, Certifies, Choose, DoesTheSame, Implement, IsNoProof, IsOwnOf, IsReadAs, IsTellerOf, IsTrace, LacksFile, Program, RefusesTasks, Runs, Starts}
 use Rattle.hp_driver.specs.Checkpoints.{IsCheckpointOf, memory_past}
 use Rattle.hp_driver.specs.Command.{IsRunOf, IsTellOf, IsCheckOf, IsExecOf, IsPastOf, IsVerifyOf, IsSweepOf, IsNoSegment, IsSegmentOf, IsOver, IsOverSource, IsOverContract, Writes, no_node_line, verdict_text, accepted_text}
+use Rattle.hp_driver.specs.Compiled.{IsCompiled, IsNotCompiled}
+use Rattle.hp_driver.specs.Controls.{has_controls}
 use Rattle.hp_driver.specs.Commanded.{Spells, SpellsSegment, file_of}
 use Rattle.hp_driver.specs.Diagnostics.{behind_forced, certificate_status, contract_line, forced_line, refusal_line, too_long_line}
 use Rattle.hp_driver.specs.Happened.{Happened}
@@ -46,10 +45,15 @@ use Rattle.hp_driver.specs.Outcome.{Outcome, IsHeld, AreChosen, AreWritten, AreA
 use Rattle.hp_driver.specs.PastOutcome.{PastOutcome, unfolded_text}
 use Rattle.hp_driver.specs.Segments.{AreRun, Begins, CallOutcome, IsRunnable, SegmentRun, Stops, Traced, memory_after, run_words}
 use Rattle.hp_driver.specs.Status.{code_of}
-use Rattle.hp_driver.specs.Systems.{System, inputs_of, of_machine, Gives}
+use Rattle.hp_driver.specs.Sweeping.{tasks_text}
+use Rattle.hp_driver.specs.Swept.{IsNotSwept, IsSwept}
+use Rattle.hp_driver.specs.Systems.{System, inputs_of, Gives}
 use Rattle.hp_driver.specs.Values.{first_bad, inputs_until}
 use Rattle.hp_driver.specs.WrittenText.{WritesText}
 use Rattle.hp_driver.specs.Written.{WrittenLaw}
+use Rattle.hp_driver.specs.Texts.{HasNoProgram}
+use Rattle.hp_driver.specs.declared.compile_error.CompileErr.{CompileErr}
+use Rattle.hp_driver.specs.declared.compile_error.CompileErr.TheVariants as compile
 use Rattle.hp_driver.specs.declared.status.Status.{Status}
 use Rattle.hp_driver.specs.declared.status.Status.TheVariants.{NoMemory, ReadFailed}
 use Rattle.hp_driver.specs.declared.trace_limits.BadLine.{BadLine}
@@ -58,6 +62,7 @@ use Rattle.hp_driver.specs.declared.words.Segment.{Segment}
 use Rattle.hp_driver.proofs.GoodLines.{same_up_to}
 use Rattle.hp_driver.proofs.OutcomeLaws.{over_of}
 use Rattle.hp_driver.proofs.NamedLaws.{machine_of_node}
+use Rattle.hp_driver.proofs.ResumedLaws.{get_inserted}
 
 some_same : {A : Type 0} (a b : A) → Some a ≡ Some b → a ≡ b
 some_same a b e = ap (λ o. unwrap_or o a) e
@@ -171,6 +176,45 @@ program_of files file program held = record {
 choosing : (files : Files) (file : List ℕ) (o : Obc) (chosen : AreChosen (Some files) file o) → Choose (program_of files file chosen.program chosen.held) o
 choosing files file o chosen = record { kept = chosen.kept.safe; says = chosen.says }
 
+-- ---- a sweep
+
+module _ (files : Files) (tasks : ℕ) (o : Obc) (compiled : IsCompiled (tasks_text tasks) o) where
+  -- the program of its tasks, as though a file held it
+  abbrev tasks_program : Program (finmap.insert files [] (tasks_text tasks)) []
+  tasks_program = record {
+    text = tasks_text tasks;
+    held = get_inserted files [] (tasks_text tasks);
+    program = compiled.program;
+    judged = compiled.found.judged;
+    only = compiled.found.only;
+    clocked = compiled.ordered;
+    ranks = compiled.found.ranks;
+    arranged = compiled.found.arranged;
+  }
+
+  implemented : (b : Bool) → has_controls compiled.program ≡ b → Implement tasks_program o
+  implemented false none = Implement.the_nodes none compiled.kept.safe (compiled.runs none)
+  implemented true some = Implement.that_choose some (record { kept = compiled.kept.safe; says = compiled.says some })
+
+-- where a text is refused it has no program, and this is why
+abbrev Refused : List ℕ → CompileErr → Type 0
+Refused text (compile.Refused cause) = HasNoProgram text × Causes text cause
+Refused text error = ⊤
+
+refused_text : (text : List ℕ) (error : CompileErr) → IsNotCompiled text error → Refused text error
+refused_text text error (IsNotCompiled.refused causes none) = (none, causes)
+refused_text text error (IsNotCompiled.contract_refused found differs refuses) = tt
+refused_text text error IsNotCompiled.out_of_memory = tt
+
+-- why it says nothing
+refuses_tasks : (tasks : ℕ) (line : List ℕ) → IsNotSwept tasks line → RefusesTasks tasks line
+refuses_tasks tasks line (IsNotSwept.refused cause why) =
+    let told = refused_text (tasks_text tasks) (compile.Refused cause) why in RefusesTasks.refused cause told.0 told.1
+refuses_tasks tasks line (IsNotSwept.contract_refused cause why) = RefusesTasks.contract_refused cause
+refuses_tasks tasks line (IsNotSwept.not_run compiled why) = RefusesTasks.not_run
+
+-- ---- contracts
+
 -- what stands behind the line of a contract that is lost
 loss_text : (m : BoolMachine) (wide : Bool) (instants : ℕ) (text : Option (List ℕ)) → ShowsLoss m wide instants text → Certifies (behind_forced text) (Lose instants) ⊎ (behind_forced text ≡ too_long_line Text)
 loss_text m wide instants None h = inr refl
@@ -197,6 +241,13 @@ module _ (words : List (List ℕ)) (files left : Files) (input : List ℕ) where
   -- a row over the files that are left
   at_left : (z : Files) (bytes line : List ℕ) (status : ℕ) → left ≡ z → Does words files input bytes line z status → Does words files input bytes line left status
   at_left z bytes line status e row = subst (λ y. Does words files input bytes line y status) (sym e) row
+
+  is_swept : (text : List ℕ) (tasks instants : ℕ) → IsSweepOf words tasks instants → IsSwept tasks instants text → Does words files input text [] files 0
+  is_swept text tasks instants w summary =
+      let o = summary.machines in
+      let compiled = summary.compiled in
+      subst (λ z. Does words files input z [] files 0) (sym summary.spelled)
+      (Does.swept (tasks_program files tasks o compiled) w (implemented files tasks o compiled (has_controls compiled.program) refl) summary.has)
 
   module _ (law : WrittenLaw) (none : IsNoSegment words) where
     does_the_same : (file text : List ℕ) (o : Obc) (written : AreWritten (Some files) file o) → IsPrinted o text → DoesTheSame text written.compiled.held.clocked
@@ -346,8 +397,6 @@ module _ (words : List (List ℕ)) (files left : Files) (input : List ℕ) where
         let same = untouched words files left 1 leaves f g (inl (λ k. omega (arith, k))) in at_left files [] line 1 same (Does.refused cause w gives unheld causes)
     ended log line status (Outcome.contract_refused {file = x} {program = p} cause over held some differs refuses) h leaves e f g =
         first_refused (untouched words files left 1 leaves f g (inl (λ k. omega (arith, k)))) x p cause over held differs refuses
-    ended log line status (Outcome.not_built {file = x} {program = p} asks held kept why) h leaves e f g =
-        let same = untouched words files left 1 leaves f g (inl (λ k. omega (arith, k))) in at_left files [] line 1 same (Does.not_built (program_of files x p held) asks kept.safe)
     ended log line status (Outcome.no_node_to_run {file = x} {name = y} {program = p} asks held kept unnamed) h leaves e f g =
         no_node_to_run (untouched words files left 1 leaves f g (inl (λ k. omega (arith, k)))) x y p asks held kept.safe unnamed
     ended log line status (Outcome.chosen_too_large {file = x} {o = o} limit chosen asks for passed) h leaves e f g =
@@ -393,9 +442,9 @@ module _ (words : List (List ℕ)) (files left : Files) (input : List ℕ) where
     ended log line status (Outcome.past {file = x} {out = y} w past) h leaves e f g = past_ended law none x y line status w past leaves f g
     ended log line status (Outcome.swept {tasks = t} {instants = i} text w summary) h leaves e f g =
         let same = untouched words files left 0 leaves f g (inr (writes_nothing 5115 (λ k. omega (arith, k)) (λ k. omega (arith, k)) (λ k. omega (arith, k)) words none (sweep_mark words t i w))) in
-        subst (λ z. Does words files input z [] left 0) (sym (said_put text)) (at_left files text [] 0 same (Does.swept text w summary))
+        subst (λ z. Does words files input z [] left 0) (sym (said_put text)) (at_left files text [] 0 same (is_swept text t i w summary))
     ended log line status (Outcome.swept_in_part text out rest w summary k) h leaves e f g = absurd (f refl)
-    ended log line status (Outcome.not_swept w) h leaves e f g = let same = untouched words files left 1 leaves f g (inl (λ k. omega (arith, k))) in at_left files [] line 1 same (Does.not_swept w)
+    ended log line status (Outcome.not_swept {tasks = t} w why) h leaves e f g = let same = untouched words files left 1 leaves f g (inl (λ k. omega (arith, k))) in at_left files [] line 1 same (Does.not_swept w (refuses_tasks t line why))
     ended log line status (Outcome.done {s = s} asked step end answer good) h leaves e f g =
         let same = untouched words files left 0 leaves f g (inr (runs_write_nothing s asked)) in ran same s (said log) [] 0 asked (whole_trace input log h s end answer good)
     ended log line status (Outcome.bad_line {s = s} bad asked step answer fault) h leaves e f g =

@@ -10,24 +10,23 @@ use Rattle.hp_driver.proofs.AcceptedLaws.{none_or}
 use Rattle.hp_driver.specs.Compiled.{AreMachinesFor, IsCompiled, IsFound, IsNotCompiled}
 use Rattle.hp_driver.specs.Controls.{has_controls}
 use Rattle.hp_driver.specs.declared.compile_error.CompileErr.{CompileErr}
-use Rattle.hp_driver.specs.declared.compile_error.CompileErr.TheVariants.{Refused, Contract, NotBuilt, OutOfMemory}
+use Rattle.hp_driver.specs.declared.compile_error.CompileErr.TheVariants.{Refused, Contract, OutOfMemory}
 use Rattle.hp_machines.specs.Machined.{AreMachinesOf}
 use Rattle.hp_obc.specs.Machines.{Obc}
 use Rattle.hp_tree.specs.Programs.{Node}
 use Rattle.hp_tree.specs.declared.program.Item.{Item}
-use Rattle.hp_tree.specs.declared.program.Item.TheVariants.{TypeItem, NodeItem}
+use Rattle.hp_tree.specs.declared.program.Item.TheVariants.{NodeItem}
 use Rattle.hp_verdicts.specs.Decided.{RefusesContract, has_contract, own_contract}
 use Rattle.hp_verdicts.specs.declared.error.ContractErr.{ContractErr}
 use Rattle.hp_verdicts.specs.declared.error.ContractErr.TheVariants as contract
-use Rattle.law_decided.specs.Outcomes.{RefusesInGames}
 use Rattle.law_decided.specs.Promised.{RunLaw}
 use Rattle.law_history.specs.Streams.Texts.{TextLaw}
-use Rattle.hp_driver.specs.Command.{IsCompileOf, IsOverSource, ReadsSource, not_built_line}
+use Rattle.hp_driver.specs.Command.{IsCompileOf, IsOverSource, ReadsSource}
 use Rattle.hp_driver.specs.Diagnostics.{contract_line, refusal_line}
 use Rattle.hp_driver.specs.Follows.{RefusedCompile}
 use Rattle.hp_driver.specs.Leaves.{Leaves}
 use Rattle.hp_driver.specs.Leaving.{WritesMachines}
-use Rattle.hp_driver.specs.Outcome.{AreChosen, AreWritten, AsksToChoose, Gives, IsHeld, Outcome}
+use Rattle.hp_driver.specs.Outcome.{AreChosen, AreWritten, Gives, IsHeld, Outcome}
 use Rattle.hp_driver.proofs.ContractLaws.{has_one}
 use Rattle.hp_driver.proofs.WrittenLaws.{agree_with_nodes}
 
@@ -108,7 +107,3 @@ contract_refused cause out words files file text w gives (IsNotCompiled.contract
     let some : has_contract ordered ≡ false → ⊥ = λ none. contract_among r.before r.behind r.node (its_contract ordered r.node cause differs r.refused) (subst (λ z. has_contract z ≡ false) r.stands none) in
     let held = held_by text files file gives program ordered found in
     Outcome.contract_refused cause (IsOverSource.to_compile w) held (has_one files file program held some) differs refuses
-
-pub not_built : Uncompiled NotBuilt not_built_line 1
-not_built out words files file text w gives (IsNotCompiled.not_built {program = program} {ordered = ordered} found kept some lacks) =
-    Outcome.not_built (AsksToChoose.to_compile w some) (held_by text files file gives program ordered found) kept lacks

@@ -1,29 +1,24 @@
 -- From what each step answers to what a text is compiled to, or why it is not.
-use Rattle.std.proofs.Common.{◌≡◌, ◌≢◌, ◌⊎◌, ℕ, Bool, true, false, List, [], ◌∷◌, refl, sym, subst, ◌∙◌}
-use Rattle.std.specs.Prelude.{Result, Ok, Err, IfErr, MatchResult}
+use Rattle.std.proofs.Common.{◌≡◌, ◌≢◌, ℕ, true, false, List}
 use Rattle.hp_compile.proofs.FormLaws.{formed}
-use Rattle.hp_compile.specs.Judged.{IsJudged}
 use Rattle.hp_compile.specs.Refusals.{IsRefused}
 use Rattle.hp_compile.specs.declared.refusal.Refusal.{Refusal}
 use Rattle.hp_compile.specs.declared.refusal.Refusal.TheVariants as refusal
-use Rattle.hp_controlled.specs.Lacking.{HasNoChosenMachines, SaysNotBuilt}
 use Rattle.hp_controlled.specs.Among.{FormLaw}
 use Rattle.hp_controlled.specs.Joining.{SameLaw}
-use Rattle.hp_controlled.specs.declared.error.ControlledErr.{ControlledErr}
-use Rattle.hp_controlled.specs.declared.error.ControlledErr.TheVariants as controlled
-use Rattle.hp_driver.proofs.AcceptedLaws.{accepted_by, accepted_plain, is_not_built}
+use Rattle.hp_driver.proofs.AcceptedLaws.{accepted_by, accepted_plain}
 use Rattle.hp_driver.proofs.OwnLaws.{run_nodes}
-use Rattle.hp_driver.specs.Compiled.{AreMachinesFor, HasCircuit, IsCompiled, IsFound, IsNotCompiled, RunNodes}
+use Rattle.hp_driver.specs.Agreeing.{RunNodes}
+use Rattle.hp_driver.specs.Compiled.{AreMachinesFor, HasCircuit, IsCompiled, IsFound, IsNotCompiled}
 use Rattle.hp_driver.specs.Controls.{has_controls}
 use Rattle.hp_driver.specs.Texts.{HasNoProgram, IsArrangedText}
-use Rattle.hp_driver.specs.CompileErrors.{of_refusal, of_contract, of_controlled}
+use Rattle.hp_driver.specs.CompileErrors.{of_refusal, of_contract}
 use Rattle.hp_obc.specs.Machines.{Obc}
 use Rattle.hp_tree.specs.declared.program.Item.{Item}
 use Rattle.hp_verdicts.specs.Decided.{AreKept, Refuses}
 use Rattle.hp_verdicts.specs.declared.error.ContractErr.{ContractErr}
 use Rattle.hp_verdicts.specs.declared.error.ContractErr.TheVariants as contract
 use Rattle.law_controlled.specs.Greatest.{AllSayGreatest}
-use Rattle.law_controlled.specs.Remaining.{RemainingLaw}
 use Rattle.law_controlled.specs.Said.{GreatestSaidLaw}
 use Rattle.law_decided.specs.Outcomes.{AreKeptInGames, AreSaid, OutcomesLaw}
 use Rattle.law_history.specs.Streams.Texts.{BuiltLaw, TextLaw}
@@ -59,11 +54,6 @@ module _ (text : List ℕ) (program ordered : List Item) (found : IsFound text p
   contract_refused_by law contract.NotBuilt refuses = IsNotCompiled.contract_refused found (λ e. absurd cc) ((said law).refused contract.NotBuilt refuses)
   contract_refused_by law contract.OutOfMemory refuses = IsNotCompiled.out_of_memory
 
-  pub not_built_by : OutcomesLaw → RemainingLaw → AreKept ordered ordered → (e : ControlledErr) → (e ≡ controlled.NotBuilt → (has_controls program ≡ true) × HasNoChosenMachines ordered) → IsNotCompiled text (of_controlled e)
-  not_built_by law remaining kept controlled.NotBuilt some =
-      IsNotCompiled.not_built found (in_games law kept) (some refl).0 (is_not_built remaining text program ordered found.ranks found.judged found.arranged kept (some refl).1)
-  not_built_by law remaining kept controlled.OutOfMemory some = IsNotCompiled.out_of_memory
-
   module _ (law : OutcomesLaw) (kept : AreKept ordered ordered) (text_law : TextLaw) (built : BuiltLaw) (form_law : FormLaw) (same_law : SameLaw) (said_law : GreatestSaidLaw) where
     runs_of : (o : Obc) → AreMachinesFor program ordered o → has_controls program ≡ false → RunNodes ordered o
     runs_of o (AreMachinesFor.of_nodes {own = own} none machines others) e =
@@ -80,11 +70,6 @@ module _ (text : List ℕ) (program ordered : List Item) (found : IsFound text p
 
     pub compiled_by : (o : Obc) → AreMachinesFor program ordered o → IsCompiled text o
     compiled_by o machines = record { program = program; ordered = ordered; found = found; kept = in_games law kept; machines = machines; runs = runs_of o machines; says = says_of o machines }
-
--- where nodes choose, what is in the way is told with that
-pub says_where : {A : Type 0} (G : A → Type 0) (H P : Type 0) (r : Result A ControlledErr) → H → MatchResult r G (SaysNotBuilt P) → IfErr r (λ e. e ≡ controlled.NotBuilt → H × P)
-says_where G H P (Ok o) some h = tt
-says_where G H P (Err e) some h = λ q. (some, h q)
 
 -- a contract is not refused because its circuit is not built
 pub has_circuit : OutcomesLaw → (program ordered : List Item) → IsArrangedText program ordered → (cause : ContractErr) → Refuses ordered cause → HasCircuit (of_contract cause)

@@ -27,7 +27,7 @@ use Rattle.hp_driver.specs.Systems.{System, of_machine, inputs_of}
 use Rattle.hp_driver.specs.Values.{first_bad}
 use Rattle.hp_driver.specs.declared.trace_limits.BadLine.{BadLine}
 use Rattle.hp_driver.proofs.GoodLines.{good_so_far}
-use Rattle.hp_driver.proofs.WordLaws.{past_exec, run_exec, same_words, exec_source, exec_contract, tell_exec, choosing_source, running_choosing, sweep_exec}
+use Rattle.hp_driver.proofs.WordLaws.{past_exec, run_exec, same_words, exec_source, exec_contract, tell_exec, running_source, sweep_exec}
 
 -- ---- texts
 
@@ -100,10 +100,9 @@ module _ (words : List (List ℕ)) (held : Files) (file node : List ℕ) (o : Ob
   completes log line status more (Outcome.refused {file = x} text cause (ReadsSource.of_program over) gives causes none) ended good f g = absurd (exec_source words file node x w over)
   completes log line status more (Outcome.refused {file = x} text cause (ReadsSource.of_contract {node = y} k) gives causes none) ended good f g = absurd (exec_contract words file node x y w k)
   completes log line status more (Outcome.contract_refused {file = x} cause over source some differs refuses) ended good f g = absurd (exec_source words file node x w over)
-  completes log line status more (Outcome.not_built {file = x} {program = p} asks source kept why) ended good f g = absurd (exec_source words file node x w (choosing_source words x p asks))
-  completes log line status more (Outcome.no_node_to_run {file = x} {name = y} {program = p} asks source kept none) ended good f g = absurd (exec_source words file node x w (choosing_source words x p (running_choosing words x y p asks)))
+  completes log line status more (Outcome.no_node_to_run {file = x} {name = y} {program = p} asks source kept none) ended good f g = absurd (exec_source words file node x w (running_source words x y p asks))
   completes log line status more (Outcome.chosen_too_large {file = x} {node = y} {name = z} limit chosen asks for passed) ended good f g =
-      absurd (exec_source words file node x w (choosing_source words x chosen.program (running_choosing words x y chosen.program asks)))
+      absurd (exec_source words file node x w (running_source words x y chosen.program asks))
   completes log line status more (Outcome.accepted print c source kept) ended good f g = inl refl
   completes log line status more (Outcome.accepted_in_part print out rest c source kept e) ended good f g = absurd (g refl)
   completes log line status more (Outcome.no_node {file = x} {name = y} k source none) ended good f g = absurd (exec_contract words file node x y w k)
@@ -139,7 +138,7 @@ module _ (words : List (List ℕ)) (held : Files) (file node : List ℕ) (o : Ob
   completes log line status more (Outcome.past {file = x} {out = y} p r) ended good f g = absurd (past_exec words x y p file node w)
   completes log line status more (Outcome.swept {tasks = t} {instants = i} text s is) ended good f g = inl refl
   completes log line status more (Outcome.swept_in_part {tasks = t} {instants = i} text out rest s is e) ended good f g = absurd (g refl)
-  completes log line status more (Outcome.not_swept {tasks = t} {instants = i} s) ended good f g = absurd (sweep_exec words t i s file node w)
+  completes log line status more (Outcome.not_swept {tasks = t} {instants = i} s why) ended good f g = absurd (sweep_exec words t i s file node w)
   completes log line status more (Outcome.done asked step has_end answer good_lines) ended good f g = inl refl
   completes log line status more (Outcome.bad_line {s = s} bad_line asked step answer e) ended good f g =
       absurd (no_bad_line (inputs_of (of_machine o node)) (has_ended log) (heard log) more bad_line ended good (ap (λ z. first_bad (inputs_of z) 1 (lines_of (has_ended log) (heard log))) (sym (system s asked)) ∙ e))

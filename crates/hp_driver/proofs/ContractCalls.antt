@@ -29,7 +29,7 @@ use Rattle.hp_driver.specs.Systems.{System}
 use Rattle.hp_driver.proofs.Completeness.{same_text}
 use Rattle.hp_driver.proofs.GoodContracts.{has_verdict}
 use Rattle.hp_driver.proofs.SourceCalls.{same_arranged, not_long, has_program}
-use Rattle.hp_driver.proofs.WordLaws.{past_contract, exec_contract, source_contract, prove_contract, verify_contract, prove_verify, same_four, choosing_source, running_choosing, sweep_contract}
+use Rattle.hp_driver.proofs.WordLaws.{past_contract, exec_contract, source_contract, prove_contract, verify_contract, prove_verify, same_four, running_source, sweep_contract}
 
 same_some : (n m : Node) → Some n ≡ Some m → n ≡ m
 same_some n m e = cc
@@ -98,10 +98,9 @@ module _ (words : List (List ℕ)) (held : Files) (file name text : List ℕ) (p
     decides log line status short within shown (Outcome.refused {file = x} other cause (ReadsSource.of_contract {node = y} k) gives causes none) f g =
         absurd (has_program held file text program holds judged x other (only x y k).0 gives arrangeable none)
     decides log line status short within shown (Outcome.contract_refused {file = x} cause reads source some differs refuses) f g = absurd (source_contract words x file name reads over)
-    decides log line status short within shown (Outcome.not_built {file = x} {program = p} asks source kept why) f g = absurd (source_contract words x file name (choosing_source words x p asks) over)
-    decides log line status short within shown (Outcome.no_node_to_run {file = x} {name = y} {program = p} asks source kept none) f g = absurd (source_contract words x file name (choosing_source words x p (running_choosing words x y p asks)) over)
+    decides log line status short within shown (Outcome.no_node_to_run {file = x} {name = y} {program = p} asks source kept none) f g = absurd (source_contract words x file name (running_source words x y p asks) over)
     decides log line status short within shown (Outcome.chosen_too_large {file = x} {node = y} {name = z} limit chosen asks for passed) f g =
-        absurd (source_contract words x file name (choosing_source words x chosen.program (running_choosing words x y chosen.program asks)) over)
+        absurd (source_contract words x file name (running_source words x y chosen.program asks) over)
     decides log line status short within shown (Outcome.accepted print c source kept) f g = inl refl
     decides log line status short within shown (Outcome.accepted_in_part print out rest c source kept e) f g = absurd (g refl)
     decides log line status short within shown (Outcome.no_node {file = x} {name = y} {program = p} k source none) f g = absurd (node_there x y p k source none)
@@ -127,7 +126,7 @@ module _ (words : List (List ℕ)) (held : Files) (file name text : List ℕ) (p
     decides log line status short within shown (Outcome.past {file = x} {out = y} p r) f g = absurd (past_contract words x y p file name over)
     decides log line status short within shown (Outcome.swept {tasks = t} {instants = i} other s is) f g = inl refl
     decides log line status short within shown (Outcome.swept_in_part {tasks = t} {instants = i} other out rest s is e) f g = absurd (g refl)
-    decides log line status short within shown (Outcome.not_swept {tasks = t} {instants = i} s) f g = absurd (sweep_contract words t i s file name over)
+    decides log line status short within shown (Outcome.not_swept {tasks = t} {instants = i} s why) f g = absurd (sweep_contract words t i s file name over)
     decides log line status short within shown (Outcome.done asked step has_end answer good_lines) f g = inl refl
     decides log line status short within shown (Outcome.bad_line {s = s} bad_line asked step answer e) f g = absurd (not_system s asked)
     decides log line status short within shown (Outcome.take_failed asked step answer good_lines) f g = absurd (f refl)

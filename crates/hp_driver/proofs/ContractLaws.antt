@@ -25,7 +25,7 @@ use Rattle.hp_driver.specs.Follows.{DecidedOutcome, OrderedRun, ChoosingRun, Cho
 use Rattle.hp_driver.specs.Outcome.{Outcome, IsHeld}
 use Rattle.hp_driver.specs.Ran.{ReportsOrNot}
 use Rattle.hp_driver.specs.declared.words.Task.{Task}
-use Rattle.hp_driver.specs.declared.words.Task.TheVariants.{Run, Tell, Check, Compile}
+use Rattle.hp_driver.specs.declared.words.Task.TheVariants.{Run, Tell, Check}
 use Rattle.hp_driver.proofs.GameLaws.{are_said}
 use Rattle.hp_driver.proofs.AcceptedLaws.{none_or}
 use Rattle.hp_driver.proofs.OutcomeLaws.{over_source, told_or_not}

@@ -12,8 +12,6 @@ use Rattle.hp_driver.proofs.AcceptedLaws.{accepted_by}
 use Rattle.law_decided.specs.Mirrored.{MachinesLaw}
 use Rattle.law_decided.specs.Outcomes.{AreSaid, OutcomesLaw}
 use Rattle.hp_compile.proofs.FormLaws.{formed}
-use Rattle.hp_compile.specs.Arranged.{IsArranged}
-use Rattle.hp_compile.specs.Judged.{IsJudged}
 use Rattle.hp_tree.specs.Programs.{Node}
 use Rattle.hp_verdicts.specs.Decided.{Refuses, RefusesMachine, RefusesProof}
 use Rattle.hp_verdicts.specs.declared.error.ContractErr.{ContractErr}

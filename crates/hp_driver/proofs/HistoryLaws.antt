@@ -1,24 +1,20 @@
 -- The machines of a program that a file holds run its nodes.
-use Rattle.std.proofs.Common.{◌≡◌, ◌≤◌, ℕ, Bool, true, false, ◌||◌, List, [], ◌∷◌, None, Some, refl, sym, ap, subst, ◌∙◌}
+use Rattle.std.proofs.Common.{◌≡◌, ◌≤◌, ℕ, false, List, [], ◌∷◌, None, Some, sym, ap, subst, ◌∙◌}
 use Rattle.std.specs.Prelude.{Option}
 use Rattle.std.specs.List.{AllByRecursion, flat_map}
 use Rattle.hp_base.specs.Kinds.{KindData, AreOfKinds}
 use Rattle.hp_base.specs.declared.value.Value.{Value}
 use Rattle.hp_io.specs.Files.{Files}
 use Rattle.hp_lines.specs.Lines.{line_of}
-use Rattle.hp_tree.specs.Blocks.{Decl}
 use Rattle.hp_tree.specs.declared.program.Item.{Item}
-use Rattle.hp_tree.specs.declared.program.Item.TheVariants.{TypeItem, NodeItem}
-use Rattle.hp_tree.specs.Meaning.{types_of, controls_of}
+use Rattle.hp_tree.specs.Meaning.{types_of}
 use Rattle.hp_obc.specs.Form.{machine_named}
 use Rattle.hp_obc.specs.Kinded.{kinds_in}
 use Rattle.hp_obc.specs.Machines.{Machine, Obc}
 use Rattle.hp_obc.specs.Steps.{machine_behaviour, run}
 use Rattle.hp_tree.specs.Reaction.{IsRun}
-use Rattle.hp_compile.specs.Arranged.{IsArranged}
-use Rattle.hp_compile.specs.Judged.{IsJudged}
 use Rattle.law_wellmade.specs.Timely.Kinds.{kinds_of_decls}
-use Rattle.law_history.specs.Streams.Texts.{IsAccepted, RunsNode, TextLaw, BuiltLaw, WithinLaw}
+use Rattle.law_history.specs.Streams.Texts.{IsAccepted, RunsNode, TextLaw, WithinLaw}
 use Rattle.hp_machines.specs.Machined.{AreMachinesOf}
 use Rattle.law_decided.specs.Outcomes.{AreKeptInGames}
 use Rattle.law_decided.specs.Promised.{KeepsContracts, RunLaw}

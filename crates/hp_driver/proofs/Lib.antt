@@ -7,6 +7,9 @@ pub mod AlikeLaws
 pub mod CallLaws
 pub mod TellLaws
 pub mod Shown
+pub mod SweepTexts
+pub mod SweepLaws
+pub mod StopLaws
 pub mod ChoosingLaws
 pub mod CompileLaws
 pub mod WordLaws

@@ -1,5 +1,5 @@
 -- From what was found in a text of machines, and from how the trace of one ended, to what the call did; and what a call leaves in the files.
-use Rattle.std.proofs.Common.{◌≡◌, ◌≢◌, ℕ, ◌<◌, ◌≤◌, ◌⊎◌, inl, inr, Bool, false, List, [], ◌∷◌, ◌++◌, length, refl, sym, subst, arith}
+use Rattle.std.proofs.Common.{◌≡◌, ◌≢◌, ℕ, ◌<◌, ◌≤◌, inl, inr, Bool, false, List, [], ◌∷◌, ◌++◌, length, refl, sym, subst, arith}
 use Rattle.std.specs.Prelude.{Option, None, Some}
 use Rattle.hp_base.specs.Limits.{most}
 use Rattle.hp_base.specs.declared.limit.Limit.{Limit}
@@ -10,7 +10,6 @@ use Rattle.hp_io.proofs.FaultLaws.{Rose-behind}
 use Rattle.hp_io.specs.Files.{Files}
 use Rattle.hp_io.specs.Told.{Grows}
 use Rattle.hp_io.specs.declared.console.Event.{Event}
-use Rattle.hp_controlled.specs.Joining.{AreWithContracts}
 use Rattle.hp_machines.specs.Machined.{AreMachinesOf}
 use Rattle.hp_exec.specs.Answers.{Executes, IsPassed}
 use Rattle.hp_exec.specs.Bounds.{longest_chain, instance_count}
@@ -35,7 +34,7 @@ use Rattle.hp_driver.specs.Executing.{executing}
 use Rattle.hp_driver.specs.Follows.{ExecOf, MachinesOutcome, OrderedRun, RefusedText, RefusedMachine}
 use Rattle.hp_driver.specs.Leaves.{Leaves, IsPrinted, ReadRose, WriteRose}
 use Rattle.hp_driver.specs.Leaving.{WritesText, WritesMachines, RoseInWrite}
-use Rattle.hp_driver.specs.Outcome.{Outcome, Gives, GivesMoreThan, IsHeld, AreCompiled, AreWritten, AreAskedFor, IsMachine, IsAskedFor, LacksNode}
+use Rattle.hp_driver.specs.Outcome.{Outcome, Gives, GivesMoreThan, IsHeld, AreCompiled, AreAskedFor, IsMachine, IsAskedFor, LacksNode}
 use Rattle.hp_driver.specs.Ran.{Ran, Reports, ReportsOrNot}
 use Rattle.hp_driver.specs.Systems.{of_node, of_machine}
 use Rattle.hp_driver.specs.declared.words.Task.{Task}

@@ -7,7 +7,7 @@ use Rattle.hp_controlled.specs.Among.{FormLaw, call_earlier}
 use Rattle.hp_controlled.specs.Joining.{AreWithContracts, SameLaw}
 use Rattle.hp_lexer.specs.declared.token.Token.{Token}
 use Rattle.hp_driver.proofs.NamedLaws.{machine_of_node}
-use Rattle.hp_driver.specs.Compiled.{RunNodes}
+use Rattle.hp_driver.specs.Agreeing.{RunNodes}
 use Rattle.hp_machines.specs.Machined.{AreMachinesOf}
 use Rattle.hp_machines.specs.Making.{AreMade}
 use Rattle.hp_machines.specs.NotBuilt.{HasNoMachines}

@@ -1,5 +1,5 @@
 -- A call of `past` with a text that is a program succeeds but for want of memory, where what it would write is not too long.
-use Rattle.std.proofs.Common.{◌≡◌, ◌<◌, ◌≤◌, ◌⊎◌, inl, inr, ℕ, List, codes, length, None, Some, refl, sym, ap, subst, arith}
+use Rattle.std.proofs.Common.{◌≡◌, ◌≤◌, ◌⊎◌, inl, inr, ℕ, List, codes, length, Some, refl, sym, ap, subst, arith}
 use Rattle.std.specs.Prelude.{Option}
 use Rattle.hp_base.specs.Limits.{most}
 use Rattle.hp_base.specs.declared.limit.What.TheVariants.{Size}
@@ -8,13 +8,13 @@ use Rattle.hp_io.specs.declared.console.Event.{Event}
 use Rattle.hp_compile.specs.Judged.{IsProgramOf}
 use Rattle.hp_obc.specs.Machines.{Obc}
 use Rattle.hp_tree.specs.declared.program.Item.{Item}
-use Rattle.hp_driver.specs.Command.{IsPastOf, IsRunOf, IsExecOf, IsOverContract, IsOverSource, ReadsSource, IsOver}
+use Rattle.hp_driver.specs.Command.{IsPastOf, IsExecOf, IsOverContract, IsOverSource, ReadsSource, IsOver}
 use Rattle.hp_driver.specs.GoodCalls.{IsGoodPast}
 use Rattle.hp_driver.specs.Outcome.{Outcome, Gives, AreAskedFor, IsAskedFor}
 use Rattle.hp_driver.specs.PastOutcome.{PastOutcome, unfolded_text}
 use Rattle.hp_driver.specs.Systems.{System}
 use Rattle.hp_driver.proofs.Completeness.{same_text}
-use Rattle.hp_driver.proofs.WordLaws.{past_source, past_contract, past_exec, same_words, choosing_source, running_choosing, sweep_past}
+use Rattle.hp_driver.proofs.WordLaws.{past_source, past_contract, past_exec, same_words, running_source, sweep_past}
 
 module _ (words : List (List ℕ)) (held : Files) (file out text : List ℕ) (program : List Item) (w : IsPastOf words file out) (holds : Holds held file text) (is : IsProgramOf text program)
     (short : (other : List Item) → IsProgramOf text other → length (unfolded_text other) ≤ most Size) where
@@ -67,10 +67,9 @@ module _ (words : List (List ℕ)) (held : Files) (file out text : List ℕ) (pr
   succeeds log line status (Outcome.too_long {file = x} reads long) f g = absurd (not_read x reads)
   succeeds log line status (Outcome.refused {file = x} other cause reads gives causes none) f g = absurd (not_read x reads)
   succeeds log line status (Outcome.contract_refused {file = x} cause over source some differs refuses) f g = absurd (not_source x over)
-  succeeds log line status (Outcome.not_built {file = x} {program = p} asks source kept why) f g = absurd (not_source x (choosing_source words x p asks))
-  succeeds log line status (Outcome.no_node_to_run {file = x} {name = y} {program = p} asks source kept none) f g = absurd (not_source x (choosing_source words x p (running_choosing words x y p asks)))
+  succeeds log line status (Outcome.no_node_to_run {file = x} {name = y} {program = p} asks source kept none) f g = absurd (not_source x (running_source words x y p asks))
   succeeds log line status (Outcome.chosen_too_large {file = x} {node = y} {name = z} limit chosen asks for passed) f g =
-      absurd (not_source x (choosing_source words x chosen.program (running_choosing words x y chosen.program asks)))
+      absurd (not_source x (running_source words x y chosen.program asks))
   succeeds log line status (Outcome.accepted print c source kept) f g = inl refl
   succeeds log line status (Outcome.accepted_in_part print said rest c source kept e) f g = absurd (g refl)
   succeeds log line status (Outcome.no_node {file = x} {name = y} k source none) f g = absurd (not_contract x y k)
@@ -96,7 +95,7 @@ module _ (words : List (List ℕ)) (held : Files) (file out text : List ℕ) (pr
   succeeds log line status (Outcome.past {file = x} {out = y} v r) f g = unfolds x y line status v r g
   succeeds log line status (Outcome.swept other s is_summary) f g = inl refl
   succeeds log line status (Outcome.swept_in_part other said rest s is_summary e) f g = absurd (g refl)
-  succeeds log line status (Outcome.not_swept {tasks = t} {instants = i} s) f g = absurd (sweep_past words t i s file out w)
+  succeeds log line status (Outcome.not_swept {tasks = t} {instants = i} s why) f g = absurd (sweep_past words t i s file out w)
   succeeds log line status (Outcome.done asked step has_end answer good_lines) f g = inl refl
   succeeds log line status (Outcome.bad_line {s = s} bad_line asked step answer e) f g = absurd (not_system s asked)
   succeeds log line status (Outcome.take_failed asked step answer good_lines) f g = absurd (f refl)

@@ -1,5 +1,5 @@
 -- What `past` says and leaves.
-use Rattle.std.proofs.Common.{◌≡◌, ◌≤◌, ◌⊎◌, ◌∷◌, ◌++◌, inl, inr, ℕ, List, [], length, Option, sym, subst, refl}
+use Rattle.std.proofs.Common.{◌≡◌, ◌≤◌, ◌⊎◌, ◌∷◌, ◌++◌, inl, inr, ℕ, List, [], length, Option, sym, subst}
 use Rattle.hp_base.specs.Limits.{most}
 use Rattle.hp_base.specs.declared.limit.What.TheVariants.{Size}
 use Rattle.hp_compile.specs.Judged.{IsProgramOf}
@@ -12,13 +12,12 @@ use Rattle.hp_past.specs.Unfolding.{unfolded}
 use Rattle.law_past.specs.Unfolded.{TellsFormulas}
 use Rattle.hp_print.specs.ReadBack.{IsReadBack}
 use Rattle.hp_tree.specs.declared.program.Item.{Item}
-use Rattle.hp_driver.specs.Command.{IsPastOf}
 use Rattle.hp_driver.specs.Diagnostics.{refusal_line}
 use Rattle.hp_driver.specs.Given.{Gives}
 use Rattle.hp_driver.specs.Leaves.{Leaves}
 use Rattle.hp_driver.specs.Leaving.{WritesText}
 use Rattle.hp_driver.specs.Outcome.{Outcome}
-use Rattle.hp_driver.specs.Past.{UnfoldsText, UnfoldsProgram, WritesSource, LeavesOfText, LeavesOfProgram, LeavesSource}
+use Rattle.hp_driver.specs.Past.{UnfoldsText, UnfoldsProgram, WritesSource, LeavesOfProgram, LeavesSource}
 use Rattle.hp_driver.specs.PastOutcome.{PastOutcome, HoldsProgram, unfolded_text}
 use Rattle.hp_driver.specs.Ran.{ReportsOrNot}
 use Rattle.hp_driver.proofs.CertLaws.{refusal_or}

@@ -64,7 +64,7 @@ no_some : {A X : Type 0} (x : A) → None ≡ Some x → X
 no_some x e = absurd (cc)
 
 -- what is inserted is held
-get_inserted : (files : Files) (name text : List ℕ) → map.get (map.insert files name text) name ≡ Some text
+pub get_inserted : (files : Files) (name text : List ℕ) → map.get (map.insert files name text) name ≡ Some text
 get_inserted files name text =
     map.get-insert nat_list_cmp_total files name text name ∙ ap (λ (b : Bool). cond b (Some text) (map.get files name)) (tied name name true ((bytes_eq-Decides name name).1 refl))
 

@@ -1,10 +1,9 @@
 -- From the machine that is run, its memory and its trace to what `save` and `resume` did.
-use Rattle.std.proofs.Common.{◌≡◌, ◌≢◌, ℕ, ◌⊎◌, inl, inr, true, false, List, [], ◌∷◌, ◌++◌, length, None, Some, refl, sym, ap, subst, ◌∙◌, arith}
-use Rattle.std.specs.Prelude.{Option, IsSome, is_some, Ok, Err, Result}
+use Rattle.std.proofs.Common.{◌≡◌, ◌≢◌, ℕ, inl, inr, true, false, List, [], ◌∷◌, ◌++◌, None, Some, refl, sym, ap, subst, ◌∙◌, arith}
+use Rattle.std.specs.Prelude.{Option, IsSome, is_some}
 use Rattle.hp_base.specs.Kinds.{AreOfKinds, kinds_of}
 use Rattle.hp_base.specs.Limits.{most}
 use Rattle.hp_base.specs.declared.limit.What.TheVariants.{Size}
-use Rattle.hp_base.specs.declared.value.Value.{Value}
 use Rattle.hp_exec.specs.Answers.{Executes}
 use Rattle.hp_exec.specs.Executors.{Executor, Runs, IsKindedBy, kept}
 use Rattle.hp_exec.specs.Layouts.{flattened, flat_kinds}
@@ -30,7 +29,7 @@ use Rattle.hp_driver.specs.Command.{IsNoSegment, IsOver, IsOverSource, IsRunOf, 
 use Rattle.hp_driver.specs.Course.{Takes}
 use Rattle.hp_driver.specs.Executing.{HasBehaviour, executing, step_of}
 use Rattle.hp_driver.specs.Diagnostics.{too_long_line}
-use Rattle.hp_driver.specs.Given.{Gives, GivesMoreThan}
+use Rattle.hp_driver.specs.Given.{GivesMoreThan}
 use Rattle.hp_driver.specs.Leaves.{Leaves, ReadRose, WriteRose}
 use Rattle.hp_driver.specs.Lines.{whole_lines, lines_of}
 use Rattle.hp_driver.specs.Log.{heard, said, has_ended}
@@ -38,7 +37,7 @@ use Rattle.hp_driver.specs.Outcome.{Outcome, IsMachine}
 use Rattle.hp_driver.specs.Ran.{Ran, ReportsOrNot}
 use Rattle.hp_driver.specs.Readings.{AreReadings}
 use Rattle.hp_driver.specs.Restoring.{IsBegun, KeepsRun, NotBegun, NotRestored, ReadsFrom, RoseInRead, SegmentOfMachines, StandsFor}
-use Rattle.hp_driver.specs.Segments.{AreRun, Begins, CallOutcome, IsRunnable, SegmentOutcome, SegmentRun, Stops, Traced, memory_after, run_words}
+use Rattle.hp_driver.specs.Segments.{AreRun, Begins, CallOutcome, IsRunnable, SegmentRun, Stops, Traced, run_words}
 use Rattle.hp_driver.specs.Systems.{System, of_machine, from_memory, inputs_of}
 use Rattle.hp_driver.specs.Trace.{Machine}
 use Rattle.hp_driver.specs.Values.{inputs_until}

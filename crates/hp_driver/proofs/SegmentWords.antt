@@ -1,7 +1,6 @@
 -- From the words of `resume` to their form.
 use Rattle.std.proofs.Common.{◌≡◌, ℕ, List, [], ◌∷◌, MatchOption, Option, None, Some, codes, sym, subst, ◌∙◌, arith, length, get_or, map}
 use Rattle.std.specs.Borrow.{Bor}
-use Rattle.std.specs.Option.{option_copied}
 use Rattle.hp_arguments.specs.Words.{IsArgument}
 use Rattle.hp_driver.specs.Command.{IsResumeOf, IsSegmentOf, IsSaveOf, IsNoSegment}
 use Rattle.hp_driver.specs.Commanded.{AreBoth, SpellsSegment}

@@ -25,19 +25,19 @@ use Rattle.hp_meaning.specs.Clocking.Clocking.{base_written}
 use Rattle.law_decided.specs.Outcomes.{RefusesInGames}
 use Rattle.hp_verdicts.specs.declared.error.ContractErr.{ContractErr}
 use Rattle.hp_verdicts.specs.declared.error.ContractErr.TheVariants as contract
-use Rattle.hp_driver.specs.Command.{IsRunOf, IsTellOf, IsCompileOf, IsExecOf, IsOverSource, IsOverContract, ReadsSource, IsOver}
+use Rattle.hp_driver.specs.Command.{IsRunOf, IsTellOf, IsExecOf, IsOverSource, IsOverContract, ReadsSource, IsOver}
 use Rattle.hp_driver.specs.GoodCalls.{AreGoodContracts, IsGoodCheck, IsGoodCompile, IsGoodRun}
 use Rattle.hp_driver.specs.Lines.{lines_of}
 use Rattle.hp_driver.specs.Log.{heard, has_ended, HeardFrom}
 use Rattle.hp_driver.specs.NodeKinds.{input_kinds}
 use Rattle.hp_driver.specs.Controls.{has_controls}
-use Rattle.hp_driver.specs.Outcome.{Outcome, Gives, GivesMoreThan, HasNoProgram, IsHeld, AreCompiled, AreAskedFor, IsAskedFor, LacksNode, AsksToChoose}
+use Rattle.hp_driver.specs.Outcome.{Outcome, Gives, GivesMoreThan, HasNoProgram, IsHeld, AreCompiled, AreAskedFor, IsAskedFor, LacksNode, AsksToRun}
 use Rattle.hp_driver.specs.Systems.{System, inputs_of}
 use Rattle.hp_driver.specs.Values.{first_bad}
 use Rattle.hp_driver.specs.declared.trace_limits.BadLine.{BadLine}
 use Rattle.hp_driver.proofs.Completeness.{same_text, no_bad_line}
 use Rattle.hp_driver.proofs.GoodContracts.{none_refused}
-use Rattle.hp_driver.proofs.WordLaws.{past_source, run_exec, run_compile, exec_compile, check_run, check_exec, same_words, check_source, run_source, compile_source, source_contract, tell_run, tell_check, tell_compile, check_chooses, running_choosing, sweep_source}
+use Rattle.hp_driver.proofs.WordLaws.{past_source, run_exec, run_compile, exec_compile, check_run, check_exec, same_words, check_source, run_source, compile_source, source_contract, tell_run, tell_check, tell_compile, check_runs, compile_runs, sweep_source}
 
 -- ---- a file that holds such a program
 
@@ -68,7 +68,7 @@ module _ (held : Files) (file text : List ℕ) (program : List Item) (holds : Ho
 -- ---- a call over all of its program
 
 module _ (words : List (List ℕ)) (held : Files) (file text : List ℕ) (program : List Item) (only_file : (x : List ℕ) → IsOverSource words x → x ≡ file) (holds : Holds held file text) (judged : IsJudged text program)
-    (arrangeable : IsArrangeable program) (contracts : AreGoodContracts program) (not_choosing : (x : List ℕ) (p : List Item) → IsHeld (Some held) x p → AsksToChoose words x p → ⊥) where
+    (arrangeable : IsArrangeable program) (contracts : AreGoodContracts program) (not_choosing : (x y : List ℕ) (p : List Item) → IsHeld (Some held) x p → AsksToRun words x y p → ⊥) where
   no_contract_refused : (x : List ℕ) (p : List Item) (cause : ContractErr) → IsOverSource words x → (h : IsHeld (Some held) x p) → cause ≢ contract.OutOfMemory → RefusesInGames h.clocked cause → ⊥
   no_contract_refused x p cause over h differs refuses =
       none_refused h.clocked (contracts h.clocked h.ranks (same_arranged held file text program holds judged x p (only_file x over) h)) cause refuses differs
@@ -86,9 +86,8 @@ module _ (words : List (List ℕ)) (held : Files) (file text : List ℕ) (progra
     succeeds log line status good (Outcome.refused {file = x} other cause (ReadsSource.of_program reads) gives causes none) f g = absurd (has_program held file text program holds judged x other (only_file x reads) gives arrangeable none)
     succeeds log line status good (Outcome.refused {file = x} other cause (ReadsSource.of_contract {node = y} k) gives causes none) f g = absurd (source_contract words file x y over k)
     succeeds log line status good (Outcome.contract_refused {file = x} {program = p} cause reads source some differs refuses) f g = absurd (no_contract_refused x p cause reads source differs refuses)
-    succeeds log line status good (Outcome.not_built {file = x} {program = p} asks source kept why) f g = absurd (not_choosing x p source asks)
-    succeeds log line status good (Outcome.no_node_to_run {file = x} {name = y} {program = p} asks source kept none) f g = absurd (not_choosing x p source (running_choosing words x y p asks))
-    succeeds log line status good (Outcome.chosen_too_large {file = x} {node = y} {name = z} limit chosen asks for passed) f g = absurd (not_choosing x chosen.program chosen.held (running_choosing words x y chosen.program asks))
+    succeeds log line status good (Outcome.no_node_to_run {file = x} {name = y} {program = p} asks source kept none) f g = absurd (not_choosing x y p source asks)
+    succeeds log line status good (Outcome.chosen_too_large {file = x} {node = y} {name = z} limit chosen asks for passed) f g = absurd (not_choosing x y chosen.program chosen.held asks)
     succeeds log line status good (Outcome.accepted other c source kept) f g = inl refl
     succeeds log line status good (Outcome.accepted_in_part other out rest c source kept e) f g = absurd (g refl)
     succeeds log line status good (Outcome.no_node {file = x} {name = y} k source none) f g = absurd (source_contract words file x y over k)
@@ -114,7 +113,7 @@ module _ (words : List (List ℕ)) (held : Files) (file text : List ℕ) (progra
     succeeds log line status good (Outcome.past {file = x} {out = y} p r) f g = absurd (past_source words x y p file over)
     succeeds log line status good (Outcome.swept {tasks = t} {instants = i} other s is) f g = inl refl
     succeeds log line status good (Outcome.swept_in_part {tasks = t} {instants = i} other out rest s is e) f g = absurd (g refl)
-    succeeds log line status good (Outcome.not_swept {tasks = t} {instants = i} s) f g = absurd (sweep_source words t i s file over)
+    succeeds log line status good (Outcome.not_swept {tasks = t} {instants = i} s why) f g = absurd (sweep_source words t i s file over)
     succeeds log line status good (Outcome.done asked step has_end answer good_lines) f g = inl refl
     succeeds log line status good (Outcome.bad_line {s = s} bad_line asked step answer e) f g = absurd (good s bad_line asked e)
     succeeds log line status good (Outcome.take_failed asked step answer good_lines) f g = absurd (f refl)
@@ -135,15 +134,6 @@ module _ (words : List (List ℕ)) (files : Option Files) (not_run : (x y : List
   not_system s (IsAskedFor.a_contract {file = x} {node = y} n r chosen named some found is) = not_tell x y r
   not_system s (IsAskedFor.no_contract {file = x} {node = y} n r chosen named none found is) = not_tell x y r
 
--- nothing is chosen in a program without controllable variables whose machines are written
-compile_chooses : (words : List (List ℕ)) (held : Files) (file out text : List ℕ) (program : List Item) → IsCompileOf words file out → Holds held file text → IsJudged text program → has_controls program ≡ false →
-    (x : List ℕ) (p : List Item) → IsHeld (Some held) x p → AsksToChoose words x p → ⊥
-compile_chooses words held file out text program w holds judged none x p h (AsksToChoose.to_run {node = y} r some) = run_compile words x y file out r w
-compile_chooses words held file out text program w holds judged none x p h (AsksToChoose.to_tell {node = y} r) = tell_compile words x y file out r w
-compile_chooses words held file out text program w holds judged none x p h (AsksToChoose.to_compile {out = y} c some) =
-    let same = same_program held file text program holds judged x p (compile_source words file out x w (IsOverSource.to_compile c)) h in
-    let both : false ≡ true = sym none ∙ ap has_controls same ∙ some in cc
-
 module _ (words : List (List ℕ)) (files : Option Files) (log : List Event) (line : List ℕ) (status : ℕ) where
   pub good_check : IsGoodCheck words files → Outcome words files log line status → (status ≡ 4 → ⊥) → (status ≡ 5 → ⊥) → (status ≡ 0) ⊎ (status ≡ 6)
   good_check good r f g =
@@ -153,7 +143,7 @@ module _ (words : List (List ℕ)) (files : Option Files) (log : List Event) (li
       let not_exec : (x y : List ℕ) → IsExecOf words x y → ⊥ = λ x y v. check_exec words good.file x y good.print w v in
       let not_tell : (x y : List ℕ) → IsTellOf words x y → ⊥ = λ x y v. tell_check words x y good.file good.file v good.print w in
       succeeds words source.held good.file source.text good.program (λ x over. check_source words good.file x good.print w over) (subst (λ z. Gives z good.file source.text) source.folder source.gives) source.judged
-      source.arrangeable good.contracts (λ x p h asks. check_chooses words good.file x good.print p w asks) (IsOverSource.to_check good.print w) not_exec (λ y o asked none. not_asked words (Some source.held) not_run not_tell not_exec y o asked) log line status
+      source.arrangeable good.contracts (λ x y p h asks. check_runs words good.file x y good.print p w asks) (IsOverSource.to_check good.print w) not_exec (λ y o asked none. not_asked words (Some source.held) not_run not_tell not_exec y o asked) log line status
       (λ s bad_line asked e. not_system words (Some source.held) not_run not_tell not_exec s asked) (subst (λ z. Outcome words z log line status) source.folder r) f g
 
   pub good_compile : IsGoodCompile words files → Outcome words files log line status → (status ≡ 4 → ⊥) → (status ≡ 5 → ⊥) → (status ≡ 0) ⊎ (status ≡ 6)
@@ -164,7 +154,7 @@ module _ (words : List (List ℕ)) (files : Option Files) (log : List Event) (li
       let not_exec : (x y : List ℕ) → IsExecOf words x y → ⊥ = λ x y v. exec_compile words x y good.file good.out v w in
       let not_tell : (x y : List ℕ) → IsTellOf words x y → ⊥ = λ x y v. tell_compile words x y good.file good.out v w in
       succeeds words source.held good.file source.text good.program (λ x over. compile_source words good.file good.out x w over) (subst (λ z. Gives z good.file source.text) source.folder source.gives) source.judged
-      source.arrangeable good.contracts (compile_chooses words source.held good.file good.out source.text good.program w (subst (λ z. Gives z good.file source.text) source.folder source.gives) source.judged good.uncontrolled) (IsOverSource.to_compile w) not_exec (λ y o asked none. not_asked words (Some source.held) not_run not_tell not_exec y o asked) log line status
+      source.arrangeable good.contracts (λ x y p h asks. compile_runs words good.file good.out x y p w asks) (IsOverSource.to_compile w) not_exec (λ y o asked none. not_asked words (Some source.held) not_run not_tell not_exec y o asked) log line status
       (λ s bad_line asked e. not_system words (Some source.held) not_run not_tell not_exec s asked) (subst (λ z. Outcome words z log line status) source.folder r) f g
 
 -- ---- the inputs of nodes
@@ -300,12 +290,11 @@ module _ (words : List (List ℕ)) (held : Files) (file node text : List ℕ) (p
   not_exec x y v = run_exec words file node x y w v
 
   -- nothing is chosen
-  chooses : (x : List ℕ) (p : List Item) → IsHeld (Some held) x p → AsksToChoose words x p → ⊥
-  chooses x p h (AsksToChoose.to_run {node = y} r some) =
+  chooses : (x y : List ℕ) (p : List Item) → IsHeld (Some held) x p → AsksToRun words x y p → ⊥
+  chooses x y p h (AsksToRun.to_run r some) =
       let same = same_program held file text program holds judged x p (only_file x (IsOverSource.to_run r)) h in
       let both : false ≡ true = sym uncontrolled ∙ ap has_controls same ∙ some in cc
-  chooses x p h (AsksToChoose.to_tell {node = y} r) = tell_run words x y file node r w
-  chooses x p h (AsksToChoose.to_compile {out = y} c some) = run_compile words file node x y w c
+  chooses x y p h (AsksToRun.to_tell r) = tell_run words x y file node r w
 
   clocks_of : (x : List ℕ) (o : Obc) → IsOverSource words x → (compiled : AreCompiled (Some held) x o) → AreWritten IsClocked (replaced program) compiled.held.clocked
   clocks_of x o over compiled =
@@ -324,7 +313,7 @@ module _ (words : List (List ℕ)) (held : Files) (file node text : List ℕ) (p
 
   system_kinds : (s : System) → IsAskedFor words (Some held) s → inputs_of s ≡ input_kinds program node
   system_kinds s (IsAskedFor.a_machine {file = x} {node = y} v others found) = absurd (not_exec x y v)
-  system_kinds s (IsAskedFor.a_chosen_node {file = x} {node = y} n r chosen some named found is) = absurd (chooses x chosen.program chosen.held (AsksToChoose.to_run r some))
+  system_kinds s (IsAskedFor.a_chosen_node {file = x} {node = y} n r chosen some named found is) = absurd (chooses x y chosen.program chosen.held (AsksToRun.to_run r some))
   system_kinds s (IsAskedFor.a_contract {file = x} {node = y} n r chosen named some found is) = absurd (tell_run words x y file node r w)
   system_kinds s (IsAskedFor.no_contract {file = x} {node = y} n r chosen named none found is) = absurd (tell_run words x y file node r w)
   system_kinds s (IsAskedFor.a_node {file = x} {node = y} {o = o} r compiled found) =

@@ -3,7 +3,7 @@ use Rattle.std.proofs.Common.{◌≡◌, ◌<◌, ℕ, suc, ◌⊎◌, inl, inr,
 use Rattle.std.specs.Prelude.{codes, Option, Some}
 use Rattle.hp_arguments.specs.Words.{IsArgument}
 use Rattle.hp_driver.specs.Command.{IsOnTraceBy, IsOnCertBy, IsRunOf, IsTellOf, IsExecOf, IsCheckOf, IsCompileOf, IsPastOf, IsProveOf, IsVerifyOf, IsSegmentOf, IsNoSegment, IsSweepOf, IsOverSource, IsOverContract, ReadsSource, IsOver, Writes}
-use Rattle.hp_driver.specs.Outcome.{AsksToChoose, AsksToRun}
+use Rattle.hp_driver.specs.Outcome.{AsksToRun}
 use Rattle.hp_tree.specs.declared.program.Item.{Item}
 
 same_first : (x y : List ℕ) (xs ys : List (List ℕ)) → x ∷ xs ≡ y ∷ ys → x ≡ y
@@ -284,22 +284,20 @@ module _ (words : List (List ℕ)) (file out : List ℕ) where
 
 -- ---- machines that choose
 
--- they are made of a source text
-pub choosing_source : (words : List (List ℕ)) (file : List ℕ) (program : List Item) → AsksToChoose words file program → IsOverSource words file
-choosing_source words file program (AsksToChoose.to_run w some) = IsOverSource.to_run w
-choosing_source words file program (AsksToChoose.to_tell w) = IsOverSource.to_tell w
-choosing_source words file program (AsksToChoose.to_compile w some) = IsOverSource.to_compile w
+-- machines that are run are made of a source text
+pub running_source : (words : List (List ℕ)) (file node : List ℕ) (program : List Item) → AsksToRun words file node program → IsOverSource words file
+running_source words file node program (AsksToRun.to_run w some) = IsOverSource.to_run w
+running_source words file node program (AsksToRun.to_tell w) = IsOverSource.to_tell w
 
--- also where one is run
-pub running_choosing : (words : List (List ℕ)) (file node : List ℕ) (program : List Item) → AsksToRun words file node program → AsksToChoose words file program
-running_choosing words file node program (AsksToRun.to_run w some) = AsksToChoose.to_run w some
-running_choosing words file node program (AsksToRun.to_tell w) = AsksToChoose.to_tell w
+-- a check runs none
+pub check_runs : (words : List (List ℕ)) (file x node : List ℕ) (print : Bool) (program : List Item) → IsCheckOf words file print → AsksToRun words x node program → ⊥
+check_runs words file x node print program w (AsksToRun.to_run r some) = check_run words file x node print w r
+check_runs words file x node print program w (AsksToRun.to_tell r) = tell_check words x node file file r print w
 
--- and a check makes none
-pub check_chooses : (words : List (List ℕ)) (file x : List ℕ) (print : Bool) (program : List Item) → IsCheckOf words file print → AsksToChoose words x program → ⊥
-check_chooses words file x print program w (AsksToChoose.to_run {node = y} r some) = check_run words file x y print w r
-check_chooses words file x print program w (AsksToChoose.to_tell {node = y} r) = tell_check words x y file file r print w
-check_chooses words file x print program w (AsksToChoose.to_compile {out = y} c some) = check_compile words file x y print w c
+-- nor does `compile`
+pub compile_runs : (words : List (List ℕ)) (file out x node : List ℕ) (program : List Item) → IsCompileOf words file out → AsksToRun words x node program → ⊥
+compile_runs words file out x node program w (AsksToRun.to_run r some) = run_compile words x node file out r w
+compile_runs words file out x node program w (AsksToRun.to_tell r) = tell_compile words x node file out r w
 
 -- ---- the words of a sweep
 

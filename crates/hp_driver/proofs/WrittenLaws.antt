@@ -1,6 +1,6 @@
 -- The text which `compile` writes does what its program does.
-use Rattle.std.proofs.Common.{◌≡◌, ◌⊎◌, ℕ, Bool, true, false, List, [], None, Some, inl, inr, refl, sym, ap, subst, ◌∙◌}
-use Rattle.std.specs.Prelude.{Option, IsTrue}
+use Rattle.std.proofs.Common.{◌≡◌, ℕ, false, List, [], None, Some, sym, ap, subst, ◌∙◌}
+use Rattle.std.specs.Prelude.{Option}
 use Rattle.std.specs.List.{AllByRecursion, flat_map}
 use Rattle.hp_base.specs.Kinds.{AreOfKinds}
 use Rattle.hp_base.specs.declared.value.Value.{Value}
@@ -12,7 +12,7 @@ use Rattle.hp_driver.proofs.OwnLaws.{does_there}
 use Rattle.hp_machines.specs.Machined.{AreMachinesOf}
 use Rattle.hp_obc.specs.Form.{machine_named}
 use Rattle.hp_obc.specs.Kinded.{kinds_in}
-use Rattle.hp_obc.specs.Machines.{Machine, Obc, ObcType}
+use Rattle.hp_obc.specs.Machines.{Machine, Obc}
 use Rattle.hp_obc.specs.Steps.{machine_behaviour, run}
 use Rattle.hp_obctext.proofs.Answering.{same_machines}
 use Rattle.hp_tree.specs.Reaction.{IsRun}
@@ -23,7 +23,7 @@ use Rattle.law_decided.specs.Promised.{RunLaw}
 use Rattle.hp_driver.specs.Agreeing.{AgreesWith, AgreeWithNodes}
 use Rattle.hp_driver.specs.Answers.{IsAnswer}
 use Rattle.hp_driver.specs.Controls.{has_controls}
-use Rattle.hp_driver.specs.Outcome.{AreCompiled, AreWritten, IsHeld}
+use Rattle.hp_driver.specs.Outcome.{IsHeld}
 use Rattle.hp_driver.specs.Systems.{System, of_node, of_machine, inputs_of, outputs_of}
 use Rattle.hp_driver.specs.Values.{inputs_until, first_bad}
 use Rattle.hp_driver.specs.Written.{WrittenLaw}

@@ -3,6 +3,9 @@ use Rattle.std.specs.Prelude.{◌≡◌, ◌↔◌, ℕ, List, Some}
 use Rattle.hp_obc.specs.Form.{machine_named}
 use Rattle.hp_obc.specs.Machines.{Machine, Obc}
 use Rattle.hp_tree.specs.declared.program.Item.{Item}
+use Rattle.hp_tree.specs.Meaning.{node_among}
+use Rattle.hp_tree.specs.Programs.{Node}
+use Rattle.law_history.specs.Streams.Texts.{RunsNode}
 use Rattle.hp_driver.specs.Answers.{IsAnswer}
 use Rattle.hp_driver.specs.Systems.{System, of_node, of_machine, inputs_of}
 use Rattle.hp_driver.specs.Values.{first_bad}
@@ -15,3 +18,7 @@ pub record AgreesWith (machine node : System) : Type 0 where
 -- each of these machines does what the node of its name does
 abbrev pub AgreeWithNodes : List Item → Obc → Type 0
 AgreeWithNodes program o = (node : List ℕ) (m : Machine) → machine_named o.machines node ≡ Some m → AgreesWith (of_machine o node) (of_node program node)
+
+-- each node has a machine among these, of its name, which gives the outputs of its one run
+abbrev pub RunNodes : List Item → Obc → Type 0
+RunNodes ordered o = (f : List ℕ) (n : Node) → node_among ordered f ≡ Some n → (m : Machine) × (machine_named o.machines f ≡ Some m) × RunsNode ordered o f m

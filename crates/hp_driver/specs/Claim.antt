@@ -1,7 +1,7 @@
 -- What a call does over files and an input in memory, a row for each ending. The rows speak of texts, runs and games,
 -- and not of passes of the compiler; their terms stand in `ClaimTerms`.
 -- Source: own; a statement of exit status, output and files in one is that of CakeML's programs.
-use Rattle.std.specs.Prelude.{◌≡◌, ◌≢◌, ◌≤◌, ◌<◌, ◌⊎◌, ℕ, Bool, true, false, List, [], length, Option, None, Some}
+use Rattle.std.specs.Prelude.{◌≡◌, ◌≢◌, ◌≤◌, ◌<◌, ◌⊎◌, ◌*◌, ℕ, Bool, true, false, List, [], length, Option, None, Some}
 use Rattle.std.specs.FinMap as map
 use Rattle.hp_base.specs.Limits.{most}
 use Rattle.hp_base.specs.declared.limit.Limit.{Limit}
@@ -28,17 +28,18 @@ use Rattle.hp_cert.specs.declared.checking.Proved.TheVariants.{Lose}
 use Rattle.hp_verdicts.specs.declared.error.ContractErr.{ContractErr}
 use Rattle.hp_verdicts.specs.declared.error.ContractErr.TheVariants as contract
 use Rattle.law_decided.specs.Laws.{HoldsOf, IsForcedFirst, IsVerdictOf}
-use Rattle.hp_driver.specs.Command.{IsRunOf, IsTellOf, IsCheckOf, IsCompileOf, IsPastOf, IsExecOf, IsProveOf, IsVerifyOf, IsSegmentOf, IsSweepOf, IsSummary, IsOverSource, IsOverContract, ReadsSource, IsNoCommand, usage_line, not_built_line, no_node_line, accepted_text, verdict_text}
+use Rattle.hp_driver.specs.Command.{IsRunOf, IsTellOf, IsCheckOf, IsCompileOf, IsPastOf, IsExecOf, IsProveOf, IsVerifyOf, IsSegmentOf, IsSweepOf, IsOverSource, IsOverContract, ReadsSource, IsNoCommand, usage_line, no_node_line, accepted_text, verdict_text}
 use Rattle.hp_driver.specs.Controls.{has_controls}
 use Rattle.hp_driver.specs.Diagnostics.{checkpoint_line, refusal_line, too_long_line, no_text_line, no_form_line, executor_line, forced_line, contract_line, no_contract_line, certificate_line, certificate_status}
 use Rattle.hp_driver.specs.Lines.{lines_of}
 use Rattle.hp_driver.specs.PastOutcome.{unfolded_text}
+use Rattle.hp_driver.specs.Sweeping.{HasTasks, sweep_text, tasks_text}
 use Rattle.hp_driver.specs.Systems.{System, of_node, of_machine}
 use Rattle.hp_obc.specs.Steps.{Memory}
-use Rattle.hp_driver.specs.Asking.{AsksToChoose, AsksToRun, IsRunFor, run_words}
+use Rattle.hp_driver.specs.Asking.{AsksToRun, IsRunFor, run_words}
 use Rattle.hp_driver.specs.Checkpoints.{IsCheckpointOf, RefusesCheckpoint, memory_past}
 use Rattle.hp_obctext.specs.declared.memory.error.MemErr.{MemErr}
-use Rattle.hp_driver.specs.ClaimTerms.{Program, AllKept, IsFirst, Certifies, IsNoProof, IsUndecidable, IsTrace, DoesTheSame, Choose, IsOwnOf, IsTellerOf, Runs, Starts, IsReadAs, LacksFile}
+use Rattle.hp_driver.specs.ClaimTerms.{Program, AllKept, IsFirst, Certifies, IsNoProof, IsUndecidable, IsTrace, DoesTheSame, Choose, Implement, IsOwnOf, IsTellerOf, Runs, Starts, IsReadAs, LacksFile, RefusesTasks}
 
 -- The call answers with what is said, the line of diagnostics, the files that it leaves, and its status.
 module _ (words : List (List ℕ)) (files : Files) (input : List ℕ) where
@@ -75,9 +76,6 @@ module _ (words : List (List ℕ)) (files : Files) (input : List ℕ) where
     chosen_too_large : {file node name : List ℕ} {o : Obc} (limit : Limit) (p : Program files file) →
         AsksToRun words file node p.program → Choose p o → IsRunFor node name → IsPassed o name limit →
         Does [] (executor_line limit) files 1
-    -- or they are not made. No program has shown it; `run_tool` says why (`hp_driver/specs/Outcome`)
-    not_built : {file : List ℕ} (p : Program files file) → AsksToChoose words file p.program → AllKept p →
-        Does [] not_built_line files 1
     -- 3. The first contract that is refused is lost: in its game the inputs force a violation within so many instants,
     -- and within no fewer. Behind the line stands its certificate, or that this is too long. Or it is undecidable.
     lost : {file behind : List ℕ} (n : Node) (instants : ℕ) (p : Program files file) → IsOverSource words file →
@@ -131,10 +129,14 @@ module _ (words : List (List ℕ)) (files : Files) (input : List ℕ) where
         Does [] (refusal_line cause) files 1
     long_unfolded : {file out text : List ℕ} {program : List Item} → IsPastOf words file out → Holds files file text →
         IsProgramOf text program → most Size < length (unfolded_text program) → Does [] (too_long_line Size) files 1
-    -- the summary of a sweep; that its machines are ever not made is not said here
-    swept : {tasks instants : ℕ} (text : List ℕ) → IsSweepOf words tasks instants → IsSummary tasks text →
-        Does text [] files 0
-    not_swept : {tasks instants : ℕ} → IsSweepOf words tasks instants → Does [] not_built_line files 1
+    -- A sweep says how often each task was active, and how often each started, in a run of the machine of its tasks.
+    -- Their text has a program as though a file held it, and the machines implement it.
+    swept : {tasks instants : ℕ} {file : List ℕ} {o : Obc} (p : Program (map.insert files file (tasks_text tasks)) file) →
+        IsSweepOf words tasks instants → Implement p o → HasTasks (2 * tasks) o →
+        Does (sweep_text o tasks instants) [] files 0
+    -- or it says nothing. No sweep has shown it; `run_tool` says why (`hp_driver/specs/Outcome`)
+    not_swept : {tasks instants : ℕ} {line : List ℕ} → IsSweepOf words tasks instants → RefusesTasks tasks line →
+        Does [] line files 1
 
 -- `save` and `resume` leave a checkpoint; each other call does what is said above, or there was no memory.
 module _ (words : List (List ℕ)) (files : Files) (input : List ℕ) where

@@ -11,8 +11,10 @@ use Rattle.hp_tree.specs.declared.program.Item.TheVariants.{NodeItem}
 use Rattle.hp_tree.specs.Meaning.{node_among}
 use Rattle.hp_tree.specs.Programs.{Node}
 use Rattle.hp_meaning.specs.Contract.Guarantee.{AllSafe}
-use Rattle.hp_compile.specs.Arranged.{IsArranged}
+use Rattle.hp_compile.specs.Arranged.{IsArranged, IsArrangeable}
 use Rattle.hp_compile.specs.Judged.{IsJudged}
+use Rattle.hp_compile.specs.Refusals.{Causes}
+use Rattle.hp_compile.specs.declared.refusal.Refusal.{Refusal}
 use Rattle.hp_obc.specs.Form.{machine_named}
 use Rattle.hp_obc.specs.Machines.{Machine, Obc}
 use Rattle.hp_obctext.specs.Answers.{IsTextOf}
@@ -28,11 +30,13 @@ use Rattle.hp_verdicts.specs.declared.error.ContractErr.{ContractErr}
 use Rattle.hp_verdicts.specs.declared.error.ContractErr.TheVariants as contract
 use Rattle.law_drawing.specs.Mirrors.Assumptions.{AssumesControl}
 use Rattle.law_drawing.specs.Mirrors.Limits.{IsOver as PassesLimit}
-use Rattle.hp_driver.specs.Agreeing.{AgreesWith}
+use Rattle.hp_driver.specs.Agreeing.{AgreesWith, RunNodes}
 use Rattle.hp_driver.specs.Answers.{IsAnswer}
 use Rattle.hp_driver.specs.BadLines.{bad_line_line}
-use Rattle.hp_driver.specs.Command.{IsPastOf, IsExecOf, IsVerifyOf, IsOver, ReadsSource}
+use Rattle.hp_driver.specs.Command.{IsPastOf, IsExecOf, IsVerifyOf, IsOver, ReadsSource, not_built_line}
 use Rattle.hp_driver.specs.Controls.{has_controls}
+use Rattle.hp_driver.specs.Diagnostics.{contract_line, refusal_line}
+use Rattle.hp_driver.specs.Sweeping.{tasks_text}
 use Rattle.hp_driver.specs.Systems.{System, of_node, of_machine, that_tells, from_memory, inputs_of}
 use Rattle.hp_driver.specs.Values.{first_bad}
 use Rattle.hp_driver.specs.declared.trace_limits.BadLine.{BadLine}
@@ -94,10 +98,16 @@ DoesTheSame text program =
 
 -- Machines of a program whose contracts are kept. What they say over inputs of its kinds the program allows; where nothing
 -- is free in a node but its inputs, and comparisons of integers and outputs of calls that equations of the outermost block
--- give names to, it has the greatest permitted values; so it keeps its contract, if it calls nothing.
+-- give names to, it has the greatest permitted values; so it keeps its contract while the nodes that it calls keep theirs.
 pub record Choose {files : Files} {file : List ℕ} (p : Program files file) (o : Obc) : Type 0 where
   pub kept : AllKept p
   pub says : AllSayGreatest p.clocked o
+
+-- Machines implement a program whose contracts are kept: they run its nodes, or choose where it has controllable
+-- variables.
+pub data Implement {files : Files} {file : List ℕ} (p : Program files file) (o : Obc) : Type 0 where
+  the_nodes : has_controls p.program ≡ false → AllKept p → RunNodes p.clocked o → Implement p o
+  that_choose : has_controls p.program ≡ true → Choose p o → Implement p o
 
 -- Of machines that choose, what is run for a node: its own machine, which takes its inputs and gives its outputs;
 pub data IsOwnOf (program : List Item) (o : Obc) (node : List ℕ) : System → Type 0 where
@@ -135,3 +145,11 @@ pub data IsReadAs (words : List (List ℕ)) (file : List ℕ) : What → Type 0 
 -- a file that is to be read is not there
 abbrev pub LacksFile : List (List ℕ) → Files → Type 0
 LacksFile words files = (file : List ℕ) × IsOver words file × (map.get files file ≡ None)
+
+-- The line tells why a sweep says nothing: the program of its tasks is refused, or its contract is, or its machine cannot
+-- be run.
+pub data RefusesTasks (tasks : ℕ) : List ℕ → Type 0 where
+  refused : (cause : Refusal) → ((program : List Item) → IsJudged (tasks_text tasks) program → IsArrangeable program → ⊥) →
+      Causes (tasks_text tasks) cause → RefusesTasks tasks (refusal_line cause)
+  contract_refused : (cause : ContractErr) → RefusesTasks tasks (contract_line cause)
+  not_run : RefusesTasks tasks not_built_line

@@ -163,14 +163,6 @@ pub data Writes (words : List (List ℕ)) (out : List ℕ) : Type 0 where
   a_certificate : {file node : List ℕ} → IsProveOf words file node out → Writes words out
   a_checkpoint : {file node : List ℕ} {from : Option (List ℕ)} → IsSegmentOf words file node from out → Writes words out
 
--- the summary of so many tasks
-pub record IsSummary (tasks : ℕ) (text : List ℕ) : Type 0 where
-  pub active : List ℕ
-  pub started : List ℕ
-  pub as_active : length active ≡ tasks
-  pub as_started : length started ≡ tasks
-  pub spelled : text ≡ summary_text active started
-
 -- the words are of no command over all of a program
 abbrev pub IsNoSourceCommand : List (List ℕ) → Type 0
 IsNoSourceCommand words = (file : List ℕ) → IsOverSource words file → ⊥

@@ -1,8 +1,6 @@
 -- Errors of each step as why a text is not compiled.
 use Rattle.hp_compile.specs.declared.refusal.Refusal.{Refusal}
 use Rattle.hp_compile.specs.declared.refusal.Refusal.TheVariants as refusal
-use Rattle.hp_controlled.specs.declared.error.ControlledErr.{ControlledErr}
-use Rattle.hp_controlled.specs.declared.error.ControlledErr.TheVariants as controlled
 use Rattle.hp_verdicts.specs.declared.error.ContractErr.{ContractErr}
 use Rattle.hp_verdicts.specs.declared.error.ContractErr.TheVariants as contract
 use Rattle.hp_driver.specs.declared.compile_error.CompileErr.{CompileErr}
@@ -15,7 +13,3 @@ of_refusal r = compile.Refused r
 abbrev pub of_contract : ContractErr → CompileErr
 of_contract contract.OutOfMemory = compile.OutOfMemory
 of_contract e = compile.Contract e
-
-abbrev pub of_controlled : ControlledErr → CompileErr
-of_controlled controlled.NotBuilt = compile.NotBuilt
-of_controlled controlled.OutOfMemory = compile.OutOfMemory

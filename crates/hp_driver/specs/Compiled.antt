@@ -1,29 +1,24 @@
 -- What a text is compiled to, and why it is not.
 -- Source: own.
-use Rattle.std.specs.Prelude.{◌≡◌, ◌≢◌, ◌⊎◌, ⊤, ℕ, true, false, List, Some}
+use Rattle.std.specs.Prelude.{◌≡◌, ◌≢◌, ◌⊎◌, ⊤, ℕ, true, false, List}
 use Rattle.hp_tree.specs.declared.program.Item.{Item}
-use Rattle.hp_tree.specs.Meaning.{node_among}
-use Rattle.hp_tree.specs.Programs.{Node}
 use Rattle.hp_compile.specs.Arranged.{IsArranged}
 use Rattle.hp_compile.specs.Judged.{IsJudged}
 use Rattle.hp_compile.specs.Refusals.{Causes}
 use Rattle.hp_compile.specs.declared.refusal.Refusal.{Refusal}
 use Rattle.hp_controlled.specs.Chosen.{AreControlledMachines}
 use Rattle.hp_controlled.specs.Joining.{AreWithContracts}
-use Rattle.hp_controlled.specs.Lacking.{HasNoChosenMachines}
 use Rattle.hp_machines.specs.Machined.{AreMachinesOf}
-use Rattle.hp_obc.specs.Form.{machine_named}
-use Rattle.hp_obc.specs.Machines.{Machine, Obc}
+use Rattle.hp_obc.specs.Machines.{Obc}
 use Rattle.hp_verdicts.specs.declared.error.ContractErr.{ContractErr}
 use Rattle.hp_verdicts.specs.declared.error.ContractErr.TheVariants as contract
 use Rattle.law_controlled.specs.Greatest.{AllSayGreatest}
-use Rattle.law_controlled.specs.Remaining.{Remaining}
 use Rattle.law_decided.specs.Outcomes.{AreKeptInGames, RefusesInGames}
-use Rattle.law_history.specs.Streams.Texts.{RunsNode}
+use Rattle.hp_driver.specs.Agreeing.{RunNodes}
 use Rattle.hp_driver.specs.Controls.{has_controls}
 use Rattle.hp_driver.specs.Texts.{HasNoProgram, IsOnly}
 use Rattle.hp_driver.specs.declared.compile_error.CompileErr.{CompileErr}
-use Rattle.hp_driver.specs.declared.compile_error.CompileErr.TheVariants.{Refused, Contract, NotBuilt, OutOfMemory}
+use Rattle.hp_driver.specs.declared.compile_error.CompileErr.TheVariants.{Refused, Contract, OutOfMemory}
 
 -- the one program of a text, which breaks no rule: as it stands there, and once it is arranged
 pub record IsFound (text : List ℕ) (program ordered : List Item) : Type 0 where
@@ -37,10 +32,6 @@ pub data AreMachinesFor (program ordered : List Item) (o : Obc) : Type 0 where
   of_nodes : {own : Obc} → has_controls program ≡ false → AreMachinesOf ordered own → (o ≡ own) ⊎ AreWithContracts ordered own o → AreMachinesFor program ordered o
   that_choose : has_controls program ≡ true → AreControlledMachines ordered o → AreMachinesFor program ordered o
 
--- each node has a machine among these, of its name, which gives the outputs of its one run
-abbrev pub RunNodes : List Item → Obc → Type 0
-RunNodes ordered o = (f : List ℕ) (n : Node) → node_among ordered f ≡ Some n → (m : Machine) × (machine_named o.machines f ≡ Some m) × RunsNode ordered o f m
-
 -- What a text is compiled to. It has one program, which breaks no rule and of which each contract is kept. Its machines run its nodes; those of a program with controllable variables say what it allows, with the greatest permitted values as far as `AllSayGreatest` has it.
 pub record IsCompiled (text : List ℕ) (o : Obc) : Type 0 where
   pub program : List Item
@@ -51,16 +42,10 @@ pub record IsCompiled (text : List ℕ) (o : Obc) : Type 0 where
   pub runs : has_controls program ≡ false → RunNodes ordered o
   pub says : has_controls program ≡ true → AllSayGreatest ordered o
 
--- Machines that choose are not made of an arranged program, and this is why: an early bit of a node depends at an instant on a controllable variable, which is chosen when the early bits are known.
-pub record IsNotBuilt (ordered : List Item) : Type 0 where
-  pub lacks : HasNoChosenMachines ordered
-  pub remaining : Remaining ordered
-
--- Why it is not: it has no such program, for the first rule that it breaks; or a contract is refused, the first that is; or each contract is kept, and machines that choose are not made. No program has shown the last.
+-- Why it is not: it has no such program, for the first rule that it breaks; or a contract is refused, the first that is.
 pub data IsNotCompiled (text : List ℕ) : CompileErr → Type 0 where
   refused : {cause : Refusal} → Causes text cause → HasNoProgram text → IsNotCompiled text (Refused cause)
   contract_refused : {cause : ContractErr} {program ordered : List Item} → IsFound text program ordered → cause ≢ contract.OutOfMemory → RefusesInGames ordered cause → IsNotCompiled text (Contract cause)
-  not_built : {program ordered : List Item} → IsFound text program ordered → AreKeptInGames ordered → has_controls program ≡ true → IsNotBuilt ordered → IsNotCompiled text NotBuilt
   out_of_memory : IsNotCompiled text OutOfMemory
 
 -- A contract is not refused because its circuit is not built.

@@ -73,7 +73,7 @@ pub record IsGoodCheck (words : List (List ℕ)) (files : Option Files) : Type 0
   pub source : IsGoodFile files file program
   pub contracts : AreGoodContracts program
 
--- or to write the machines of such a program, which has no controllable variables,
+-- or to write the machines of such a program,
 pub record IsGoodCompile (words : List (List ℕ)) (files : Option Files) : Type 0 where
   pub file : List ℕ
   pub out : List ℕ
@@ -81,9 +81,8 @@ pub record IsGoodCompile (words : List (List ℕ)) (files : Option Files) : Type
   pub program : List Item
   pub source : IsGoodFile files file program
   pub contracts : AreGoodContracts program
-  pub uncontrolled : has_controls program ≡ false
 
--- or to run a node that the program has, and the console tells an input of which no line has a fault.
+-- or to run a node that the program has, which has no controllable variables, and the console tells an input of which no line has a fault.
 pub record IsGoodRun (words : List (List ℕ)) (files : Option Files) (left : Option (List ℕ)) : Type 0 where
   pub file : List ℕ
   pub node : List ℕ

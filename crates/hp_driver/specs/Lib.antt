@@ -20,6 +20,9 @@ pub mod Commanded
 pub mod Diagnostics
 pub mod Given
 pub mod PastOutcome
+pub mod Sweeping
+pub mod Swept
+pub mod Stopping
 pub mod Outcome
 pub mod Checkpoints
 pub mod Asking

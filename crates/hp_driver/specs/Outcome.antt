@@ -42,13 +42,13 @@ use Rattle.hp_verdicts.specs.declared.error.ContractErr.{ContractErr}
 use Rattle.hp_verdicts.specs.declared.error.ContractErr.TheVariants.{OutOfMemory}
 use Rattle.hp_driver.specs.Diagnostics.{refusal_line, too_long_line, no_text_line, no_form_line, executor_line, contract_line, no_contract_line, certificate_line, certificate_status}
 use Rattle.hp_driver.specs.BadLines.{bad_line_line}
-use Rattle.hp_driver.specs.Compiled.{IsNotBuilt}
 use Rattle.hp_driver.specs.Controls.{has_controls}
-use Rattle.hp_driver.specs.Command.{IsRunOf, IsTellOf, IsCheckOf, IsCompileOf, IsPastOf, IsExecOf, IsProveOf, IsVerifyOf, IsSweepOf, IsSummary, IsOverSource, IsOverContract, ReadsSource, ReadsFirst, IsNoCommand, usage_line, not_built_line, no_node_line, accepted_text, verdict_text}
-pub use Rattle.hp_driver.specs.Asking.{AsksToChoose, AsksToRun, IsRunFor}
+use Rattle.hp_driver.specs.Command.{IsRunOf, IsTellOf, IsCheckOf, IsCompileOf, IsPastOf, IsExecOf, IsProveOf, IsVerifyOf, IsSweepOf, IsOverSource, IsOverContract, ReadsSource, ReadsFirst, IsNoCommand, usage_line, no_node_line, accepted_text, verdict_text}
+pub use Rattle.hp_driver.specs.Asking.{AsksToRun, IsRunFor}
 pub use Rattle.hp_driver.specs.Given.{Gives, GivesMoreThan}
 pub use Rattle.hp_driver.specs.Texts.{IsOnly, HasNoProgram}
 use Rattle.hp_driver.specs.PastOutcome.{PastOutcome}
+use Rattle.hp_driver.specs.Swept.{IsSwept, IsNotSwept}
 use Rattle.hp_driver.specs.declared.trace_limits.BadLine.{BadLine}
 
 -- the program that the file holds, which breaks no rule
@@ -90,7 +90,7 @@ pub record AreWritten (files : Option Files) (file : List ℕ) (o : Obc) : Type 
   pub compiled : AreCompiled files file own
   pub others : (o ≡ own) ⊎ AreWithContracts compiled.held.clocked own o
 
--- machines of the program that the file holds, of which each contract is kept; some node of it chooses the values of its controllable variables, or it is asked what contracts assume and enforce. What the machines of nodes say, the program allows; and where nothing is free in a node but its inputs, and comparisons of integers and outputs of calls that equations of the outermost block give names to, these variables have the greatest permitted values, so a node that calls nothing keeps its contract
+-- machines of the program that the file holds, of which each contract is kept; some node of it chooses the values of its controllable variables, or it is asked what contracts assume and enforce. What the machines of nodes say, the program allows; and where nothing is free in a node but its inputs, and comparisons of integers and outputs of calls that equations of the outermost block give names to, these variables have the greatest permitted values, so the node keeps its contract while the nodes that it calls keep theirs
 pub record AreChosen (files : Option Files) (file : List ℕ) (o : Obc) : Type 0 where
   pub program : List Item
   pub held : IsHeld files file program
@@ -149,9 +149,6 @@ module _ (words : List (List ℕ)) (files : Option Files) where
     -- In the games of the contracts before it no violation is ever forced, and what the cause says is so of its node
     contract_refused : {file : List ℕ} {program : List Item} (cause : ContractErr) → IsOverSource words file → (held : IsHeld files file program) → has_contract program ≡ true →
         cause ≢ OutOfMemory → RefusesInGames held.clocked cause → Outcome [] (contract_line cause) 1
-    -- each contract is kept, in its game too, and machines that choose were not made, for an early bit of a node waits for the choice. No program has shown this; that none does is not said here
-    not_built : {file : List ℕ} {program : List Item} → AsksToChoose words file program → (held : IsHeld files file program) → AreKeptInGames held.clocked → IsNotBuilt held.clocked →
-        Outcome [] not_built_line 1
     -- the program has no node of this name to be run
     no_node_to_run : {file name : List ℕ} {program : List Item} → AsksToRun words file name program → (held : IsHeld files file program) → AreKeptInGames held.clocked →
         node_among held.clocked name ≡ None → Outcome [] (no_node_line name) 1
@@ -214,11 +211,11 @@ module _ (words : List (List ℕ)) (files : Option Files) where
     chosen_not_written : {file out : List ℕ} {o : Obc} → IsCompileOf words file out → (chosen : AreChosen files file o) → has_controls chosen.program ≡ true → Outcome [] [] 5
     -- the program of a source text was written without the formulas of its contracts, or was not
     past : {file out line : List ℕ} {status : ℕ} → IsPastOf words file out → PastOutcome files file line status → Outcome [] line status
-    -- the summary of a sweep, a number for each task in each line, or the first bytes of it, where a put failed
-    swept : {tasks instants : ℕ} (text : List ℕ) → IsSweepOf words tasks instants → IsSummary tasks text → Outcome (put_events text) [] 0
-    swept_in_part : {tasks instants : ℕ} (text out rest : List ℕ) → IsSweepOf words tasks instants → IsSummary tasks text → out ++ rest ≡ text → Outcome (put_events out) [] 5
-    -- the machines of its program were not made. No sweep has shown this; that none does is not said here
-    not_swept : {tasks instants : ℕ} → IsSweepOf words tasks instants → Outcome [] not_built_line 1
+    -- the summary of a sweep, or the first bytes of it, where a put failed
+    swept : {tasks instants : ℕ} (text : List ℕ) → IsSweepOf words tasks instants → IsSwept tasks instants text → Outcome (put_events text) [] 0
+    swept_in_part : {tasks instants : ℕ} (text out rest : List ℕ) → IsSweepOf words tasks instants → IsSwept tasks instants text → out ++ rest ≡ text → Outcome (put_events out) [] 5
+    -- its program is not compiled, or its machine cannot be run; the line tells which. No sweep has shown this; that none does is not said here
+    not_swept : {tasks instants : ℕ} {line : List ℕ} → IsSweepOf words tasks instants → IsNotSwept tasks line → Outcome [] line 1
     -- the input was read to its end, and each line answered
     done : {s : System} {log : List Event} → IsAskedFor words files s → InLockstep s log → has_ended log ≡ true → IsAnswer s (lines_of true (heard log)) (said log) →
         first_bad (inputs_of s) 1 (lines_of true (heard log)) ≡ None → Outcome log [] 0

@@ -5,32 +5,30 @@ ghost use Rattle.hp_controlled.specs.Chosen.{IsChosen, IsToldBy};
 ghost use Rattle.hp_exec.specs.declared.error.ExecErr.TheVariants.{NoNode};
 ghost use Rattle.hp_io.specs.Told.{Grows};
 ghost use Rattle.hp_obc.specs.Form.{TypesForm, machine_named};
+ghost use Rattle.hp_tree.specs.declared.program.Item.{Item};
+ghost use Rattle.hp_verdicts.specs.Decided.{AreKept};
 ghost use Rattle.hp_driver.specs.Faults.{TakeFaults, PutFaults, BothPutFaults};
-ghost use Rattle.hp_driver.specs.Follows.{ChoosingRun, ChoosingTell, ChosenOutcome, NodeRun, NodeTold, RefusedChosen};
+ghost use Rattle.hp_driver.specs.Follows.{IsArrangedText, ChoosingRun, ChoosingTell, ChosenOutcome, NodeRun, NodeTold, RefusedChosen};
 ghost use Rattle.hp_driver.specs.Happened.{Happened};
 ghost use Rattle.hp_driver.specs.Status.{code_of};
 ghost use Rattle.hp_driver.specs.Systems.{of_machine, that_tells};
 ghost use Rattle.hp_driver.specs.declared.telling.Ending.TheVariants.{Told};
 
 use crate::certificate::node_named;
-use crate::diagnostic::NOT_BUILT;
+use crate::compiling::chosen_machines;
 use crate::execution::Execution;
 use crate::machines::report_large;
 use crate::refuse::report_no_node;
-use crate::report::report;
 use crate::resources::Resources;
 use crate::run::run_trace;
 use crate::status::Status;
 use crate::telling::{Ending, Telling};
-use hp_controlled::{ControlledErr, controlled_machines};
 use hp_exec::ExecErr;
 use hp_io::{Console, Sink};
 use hp_native::{Answers, NativeExec};
 use hp_obc::Obc;
 use hp_tree::{Node, Program};
-use law_controlled::{
-    few_causes_are_left, machines_of_texts_choose_the_greatest, nodes_have_their_machines,
-};
+use law_controlled::{machines_of_texts_choose_the_greatest, nodes_have_their_machines};
 use std::alloc::{AllocError, Global};
 
 /// The name of the machine that also tells what the contract of a node assumes and enforces.
@@ -136,6 +134,8 @@ pub(crate) fn run_choosing<N: Answers, C: Console, E: Sink>(
     console: &mut C,
     diag: &mut E,
 ) -> Status
+    requires arranged { (program : List Item) × IsArrangedText program ordered.now }
+    requires kept { AreKept ordered.now ordered.now }
     ensures outcome { Happened (C.events console.old) (C.events console.new) (C.left console.old) (C.left console.new) (E.took diag.old) (E.took diag.new)
         (λ log line. ChoosingRun node.now ordered.now log line (code_of result)) }
     ensures takes { TakeFaults (code_of result) (C.take_faults console.old) (C.take_faults console.new) }
@@ -144,14 +144,12 @@ pub(crate) fn run_choosing<N: Answers, C: Console, E: Sink>(
     let Some(found) = node_named(ordered, node) else {
         return report_no_node(resources.alloc, diag, node);
     };
-    // Laws: each line that the machines say is one that the program allows; where nothing is free but inputs, and comparisons of integers and outputs of calls that equations of the outermost block give names to, with the greatest permitted values. The node has a machine of its name. And where no machines are made, an early bit waits for the choice.
+    // Laws: each line that the machines say is one that the program allows; where nothing is free but inputs, and comparisons of integers and outputs of calls that equations of the outermost block give names to, with the greatest permitted values. And the node has a machine of its name.
     machines_of_texts_choose_the_greatest();
     nodes_have_their_machines();
-    few_causes_are_left();
-    match controlled_machines(resources.alloc, ordered) {
+    match chosen_machines(resources.alloc, ordered) {
         Ok(machines) => run_node(resources, &machines, found, node, console, diag),
-        Err(ControlledErr::NotBuilt) => report(diag, NOT_BUILT, Status::Refused),
-        Err(ControlledErr::OutOfMemory) => Status::NoMemory,
+        Err(_) => Status::NoMemory,
     }
 }
 
@@ -214,6 +212,8 @@ pub(crate) fn tell_choosing<N: Answers, C: Console, E: Sink>(
     console: &mut C,
     diag: &mut E,
 ) -> Status
+    requires arranged { (program : List Item) × IsArrangedText program ordered.now }
+    requires kept { AreKept ordered.now ordered.now }
     ensures outcome { Happened (C.events console.old) (C.events console.new) (C.left console.old) (C.left console.new) (E.took diag.old) (E.took diag.new)
         (λ log line. ChoosingTell name.now ordered.now log line (code_of result)) }
     ensures takes { TakeFaults (code_of result) (C.take_faults console.old) (C.take_faults console.new) }
@@ -222,13 +222,11 @@ pub(crate) fn tell_choosing<N: Answers, C: Console, E: Sink>(
     let Some(node) = node_named(ordered, name) else {
         return report_no_node(resources.alloc, diag, name);
     };
-    // Laws: each line that the machines say is one that the program allows; where nothing is free but inputs, and comparisons of integers and outputs of calls that equations of the outermost block give names to, with the greatest permitted values. The node has a machine of its name, as has its contract. And where no machines are made, an early bit waits for the choice.
+    // Laws: each line that the machines say is one that the program allows; where nothing is free but inputs, and comparisons of integers and outputs of calls that equations of the outermost block give names to, with the greatest permitted values. And the node has a machine of its name, as has its contract.
     machines_of_texts_choose_the_greatest();
     nodes_have_their_machines();
-    few_causes_are_left();
-    match controlled_machines(resources.alloc, ordered) {
+    match chosen_machines(resources.alloc, ordered) {
         Ok(machines) => tell_node(resources, &machines, node, name, console, diag),
-        Err(ControlledErr::NotBuilt) => report(diag, NOT_BUILT, Status::Refused),
-        Err(ControlledErr::OutOfMemory) => Status::NoMemory,
+        Err(_) => Status::NoMemory,
     }
 }

@@ -1,9 +1,9 @@
-ghost use Rattle.hp_driver.specs.CompileErrors.{of_refusal, of_contract, of_controlled};
+ghost use Rattle.hp_driver.specs.CompileErrors.{of_refusal, of_contract};
 ghost use Rattle.std.specs.Prelude.{◌≡◌};
 
 use hp_compile::Refusal;
-use hp_controlled::ControlledErr;
 use hp_verdicts::ContractErr;
+use std::alloc::AllocError;
 use thiserror::Error;
 
 /// Why a text is not compiled.
@@ -15,9 +15,6 @@ pub enum CompileErr {
     /// A contract is refused, the first that is. It is no want of memory.
     #[error("{0}")]
     Contract(ContractErr),
-    /// Machines that choose were not made. No program whose contracts are kept has shown it; that none does is not proved yet.
-    #[error("not built")]
-    NotBuilt,
     #[error("out of memory")]
     OutOfMemory,
 }
@@ -50,16 +47,13 @@ impl From<ContractErr> for CompileErr {
     }
 }
 
-impl From<ControlledErr> for CompileErr {
+impl From<AllocError> for CompileErr {
     ghost use Rattle.std.specs.Prelude.{◌≡◌};
-    ghost use Rattle.hp_driver.specs.CompileErrors.{of_controlled};
+    ghost use Rattle.hp_driver.specs.declared.compile_error.CompileErr.TheVariants.{OutOfMemory};
 
-    ghost from_gives = { λ error e. e ≡ of_controlled error };
+    ghost from_gives = { λ _ e. e ≡ OutOfMemory };
 
-    fn from(error: ControlledErr) -> CompileErr {
-        match error {
-            ControlledErr::NotBuilt => CompileErr::NotBuilt,
-            ControlledErr::OutOfMemory => CompileErr::OutOfMemory,
-        }
+    fn from(_error: AllocError) -> CompileErr {
+        CompileErr::OutOfMemory
     }
 }

@@ -1,13 +1,13 @@
-ghost use Rattle.std.specs.Prelude.{◌≡◌, ◌⊎◌, ℕ, true, List, IfOk, IfErr, MatchResult};
+ghost use Rattle.std.specs.Prelude.{◌≡◌, ◌⊎◌, ℕ, List, IfOk, IfErr, MatchResult};
 ghost use Rattle.hp_compile.specs.Judged.{IsJudged};
+ghost use Rattle.hp_controlled.specs.Chosen.{AreControlledMachines};
 ghost use Rattle.hp_controlled.specs.Joining.{AreWithContracts};
-ghost use Rattle.hp_controlled.specs.Lacking.{HasNoChosenMachines};
-ghost use Rattle.hp_controlled.specs.declared.error.ControlledErr.TheVariants.{NotBuilt};
 ghost use Rattle.hp_machines.specs.Machined.{AreMachinesOf};
 ghost use Rattle.hp_obc.specs.Machines.{Obc as ObcSeen};
+ghost use Rattle.hp_tree.specs.declared.program.Item.{Item};
+ghost use Rattle.hp_verdicts.specs.Decided.{AreKept};
 ghost use Rattle.hp_driver.specs.Compiled.{AreMachinesFor, HasCircuit, IsCompiled, IsFound, IsNotCompiled};
 ghost use Rattle.hp_driver.specs.Texts.{IsArrangedText, IsOnly, IsPlainText};
-ghost use Rattle.hp_driver.specs.Controls.{has_controls};
 
 use crate::compile_error::CompileErr;
 use crate::controls::{has_contract, has_controls};
@@ -21,7 +21,7 @@ use hp_machines::{MachineErr, machines};
 use hp_obc::Obc;
 use hp_tree::Program;
 use hp_verdicts::decide;
-use law_controlled::{few_causes_are_left, machines_of_texts_choose_the_greatest};
+use law_controlled::{machines_of_texts_choose_the_greatest, machines_that_choose_are_built};
 use law_decided::outcomes_are_so;
 use law_history::streams::{machines_of_texts_are_built, machines_run_the_nodes_of_texts};
 use std::alloc::{AllocError, Global};
@@ -63,17 +63,31 @@ fn plain_machines(alloc: Global, ordered: Ordered) -> Result<Obc, AllocError>
     own_machines(alloc, ordered)
 }
 
-/// The machines of an arranged program whose contracts are kept. Only those of a program with controllable variables may be not built, where something is in the way of them.
-fn machines_of(alloc: Global, program: &Program, ordered: Ordered) -> Result<Obc, ControlledErr>
-    requires { IsArrangedText program.now ordered.program }
-    ensures machines { IfOk result (AreMachinesFor program.now ordered.program) }
-    ensures not_built { IfErr result (λ e. e ≡ NotBuilt → (has_controls program.now ≡ true) × HasNoChosenMachines ordered.program) }
+/// The machines of an arranged program whose contracts are kept, in which nodes choose the values of their controllable variables.
+pub(crate) fn chosen_machines(alloc: Global, ordered: &Program) -> Result<Obc, AllocError>
+    requires arranged { (program : List Item) × IsArrangedText program ordered.now }
+    requires kept { AreKept ordered.now ordered.now }
+    ensures { IfOk result (AreControlledMachines ordered.now) }
+{
+    // A law: nothing is in the way of the machines.
+    machines_that_choose_are_built();
+    match controlled_machines(alloc, ordered) {
+        Ok(machines) => Ok(machines),
+        Err(ControlledErr::NotBuilt) => unreachable!(),
+        Err(ControlledErr::OutOfMemory) => Err(AllocError),
+    }
+}
+
+/// The machines of an arranged program whose contracts are kept.
+fn machines_of(alloc: Global, program: &Program, ordered: Ordered) -> Result<Obc, AllocError>
+    requires arranged { IsArrangedText program.now ordered.program }
+    requires kept { AreKept ordered.program ordered.program }
+    ensures { IfOk result (AreMachinesFor program.now ordered.program) }
 {
     if has_controls(program) {
-        return controlled_machines(alloc, &ordered.program);
+        return chosen_machines(alloc, &ordered.program);
     }
-    let machines = plain_machines(alloc, ordered)?;
-    Ok(machines)
+    plain_machines(alloc, ordered)
 }
 
 /// The machines of an arranged program, if its contracts are kept.
@@ -82,14 +96,13 @@ fn compile_ordered(alloc: Global, program: &Program, ordered: Ordered) -> Result
     ensures compiled { (text : List ℕ) → IsFound text program.now ordered.program → MatchResult result (IsCompiled text) (IsNotCompiled text) }
     ensures circuits { IfErr result HasCircuit }
 {
-    // Laws: what is found of contracts says so of their games; machines do what nodes do, also among those of contracts; what machines say that choose, the program allows; and where none are made that choose, an early bit waits for the choice.
+    // Laws: what is found of contracts says so of their games; machines do what nodes do, also among those of contracts; and what machines say that choose, the program allows.
     outcomes_are_so();
     machines_of_texts_are_built();
     machines_run_the_nodes_of_texts();
     machines_do_the_same_among_others();
     own_machines_do_the_same();
     machines_of_texts_choose_the_greatest();
-    few_causes_are_left();
     decide(alloc, &ordered.program)?;
     let machines = machines_of(alloc, program, ordered)?;
     Ok(machines)
@@ -108,7 +121,8 @@ pub fn compile_program(alloc: Global, program: &Program) -> Result<Obc, CompileE
 /// The machines of a source text, or why it has none. For each node there is a machine of its name, and for each with a contract one of its controller, before it, and one that also tells what the contract
 /// assumes and enforces, behind it (`f$ctl`, `f`, `f$contract`); `hp_exec::Exec` runs them, and has their signatures.
 pub fn compile(alloc: Global, text: &[u8]) -> Result<Obc, CompileErr>
-    ensures { MatchResult result (IsCompiled text.now) (IsNotCompiled text.now) }
+    ensures compiled { MatchResult result (IsCompiled text.now) (IsNotCompiled text.now) }
+    ensures circuits { IfErr result HasCircuit }
 {
     let program = judge(alloc, text)?;
     compile_program(alloc, &program)

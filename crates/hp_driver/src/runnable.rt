@@ -8,6 +8,8 @@ ghost use Rattle.hp_machines.specs.Machined.{AreMachinesOf};
 ghost use Rattle.hp_obc.specs.Form.{TypesForm};
 ghost use Rattle.hp_tree.specs.Meaning.{node_among};
 ghost use Rattle.hp_tree.specs.Programs as programs;
+ghost use Rattle.hp_tree.specs.declared.program.Item.{Item};
+ghost use Rattle.hp_verdicts.specs.Decided.{AreKept};
 ghost use Rattle.hp_driver.specs.Faults.{PutFaults};
 ghost use Rattle.hp_driver.specs.Follows.{ChoosingRun, DecidedOutcome, IsArrangedText, IsPlainText, NodeRun, OrderedRun, OutcomeOf, ProgramOutcome};
 ghost use Rattle.hp_driver.specs.Restoring.{Ends, RunDecided, RunProgram, RunText, ending};
@@ -16,24 +18,20 @@ ghost use Rattle.hp_driver.specs.declared.words.Task.TheVariants as Task;
 
 use crate::certificate::node_named;
 use crate::choosing::report_choosing;
+use crate::compiling::chosen_machines;
 use crate::controls::has_controls;
-use crate::diagnostic::NOT_BUILT;
 use crate::machines::report_machine;
 use crate::refuse::{report_contract, report_no_node, report_refusal};
-use crate::report::report;
 use crate::status::Status;
 use hp_cause::Ordered;
 use hp_compile::{arrange, judge};
-use hp_controlled::{ControlledErr, controlled_machines};
 use hp_exec::Exec;
 use hp_io::Sink;
 use hp_machines::{MachineErr, machines};
 use hp_obc::Obc;
 use hp_tree::{Node, Program};
 use hp_verdicts::decide;
-use law_controlled::{
-    few_causes_are_left, machines_of_texts_choose_the_greatest, nodes_have_their_machines,
-};
+use law_controlled::{machines_of_texts_choose_the_greatest, nodes_have_their_machines};
 use law_decided::{machines_keep_contracts, outcomes_are_so};
 use law_history::streams::{machines_of_texts_are_built, machines_run_the_nodes_of_texts};
 use std::alloc::Global;
@@ -105,6 +103,8 @@ fn choosing_runnable<E: Sink>(
     node: &str,
     diag: &mut E,
 ) -> Result<Runnable, Status>
+    requires arranged { (program : List Item) × IsArrangedText program ordered.now }
+    requires kept { AreKept ordered.now ordered.now }
     ensures runs { IfOk result (λ r. Executes r.machines node.now r.exec) }
     ensures machines { IfOk result (λ r. AreControlledMachines ordered.now r.machines) }
     ensures chosen { IfOk result (λ r. (n : programs.Node) × (node_among ordered.now node.now ≡ Some n) × IsChosen node.now r.machines n) }
@@ -116,14 +116,12 @@ fn choosing_runnable<E: Sink>(
     let Some(found) = node_named(ordered, node) else {
         return Err(report_no_node(alloc, diag, node));
     };
-    // Laws: each line that the machines say is one that the program allows; where nothing is free but inputs, and comparisons of integers and outputs of calls that equations of the outermost block give names to, with the greatest permitted values. The node has a machine of its name. And where no machines are made, an early bit waits for the choice.
+    // Laws: each line that the machines say is one that the program allows; where nothing is free but inputs, and comparisons of integers and outputs of calls that equations of the outermost block give names to, with the greatest permitted values. And the node has a machine of its name.
     machines_of_texts_choose_the_greatest();
     nodes_have_their_machines();
-    few_causes_are_left();
-    match controlled_machines(alloc, ordered) {
+    match chosen_machines(alloc, ordered) {
         Ok(machines) => chosen_runnable(alloc, machines, found, node, diag),
-        Err(ControlledErr::NotBuilt) => Err(report(diag, NOT_BUILT, Status::Refused)),
-        Err(ControlledErr::OutOfMemory) => Err(Status::NoMemory),
+        Err(_) => Err(Status::NoMemory),
     }
 }
 

@@ -18,11 +18,9 @@ use crate::choosing::{run_choosing, tell_choosing};
 use crate::compile_error::CompileErr;
 use crate::compiling::compile_program;
 use crate::controls::has_controls;
-use crate::diagnostic::NOT_BUILT;
 use crate::follow::say;
 use crate::machines::run_machines;
 use crate::refuse::{report_contract, report_refusal};
-use crate::report::report;
 use crate::resources::Resources;
 use crate::status::Status;
 use crate::words::Task;
@@ -275,7 +273,6 @@ fn report_uncompiled<E: Sink>(alloc: Global, diag: &mut E, error: &CompileErr) -
     match error {
         CompileErr::Refused(refusal) => report_refusal(alloc, diag, refusal),
         CompileErr::Contract(cause) => report_contract(alloc, diag, cause),
-        CompileErr::NotBuilt => report(diag, NOT_BUILT, Status::Refused),
         CompileErr::OutOfMemory => Status::NoMemory,
     }
 }

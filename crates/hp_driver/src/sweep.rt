@@ -1,24 +1,31 @@
 //! The command `sweep`: a program of some tasks of which one may be active at a time is made, compiled and run on a trace that is made too, and what was true is counted.
-ghost use Rattle.std.specs.Prelude.{◌≡◌, ◌≢◌, ◌≤◌, ◌++◌, ℕ, length, take, drop, codes, decimal, IfOk, OnOk};
+ghost use Rattle.std.specs.Prelude.{◌≡◌, ◌≢◌, ◌≤◌, ◌++◌, ◌+◌, ◌*◌, ℕ, true, false, List, [], length, take, drop, replicate, codes, decimal, IfOk, MatchResult, OnOk};
+ghost use Rattle.hp_exec.specs.Executors.{Runs, kept};
 ghost use Rattle.hp_io.specs.Faults.{Same};
-ghost use Rattle.hp_driver.specs.Command.{IsSummary, counted_line, spaced_numbers, summary_text};
-ghost use Rattle.hp_driver.specs.Faults.{BothPutFaults};
+ghost use Rattle.hp_io.specs.Told.{Grows};
+ghost use Rattle.hp_obc.specs.Steps.{Behaviour};
+ghost use Rattle.hp_driver.specs.Command.{counted_line, spaced_numbers, summary_text};
+ghost use Rattle.hp_driver.specs.Compiled.{HasCircuit, IsCompiled, IsNotCompiled};
+ghost use Rattle.hp_driver.specs.Faults.{BothPutFaults, PutFaults};
 ghost use Rattle.hp_driver.specs.Follows.{SweepOutcome};
 ghost use Rattle.hp_driver.specs.Happened.{Happened};
 ghost use Rattle.hp_driver.specs.Status.{code_of};
+ghost use Rattle.hp_driver.specs.Stopping.{AreCounts, HasMany, HasOthers, IsOfTasks, Stops, StopsAt};
+ghost use Rattle.hp_driver.specs.Sweeping.{row, numbered, names_text, inputs_text, pair_text, apart_text, guarantee_text, results_text, call_text, task_text, outputs_text, heading_text, contract_text, body_text, tasks_text};
+ghost use Rattle.hp_driver.specs.Sweeping.{is_input, inputs_at, one_more, counted, counts_behind, sweep_text, HasTasks};
+ghost use Rattle.hp_driver.specs.Swept.{IsSwept};
 
+use crate::compile_error::CompileErr;
+use crate::compiling::compile;
 use crate::diagnostic::NOT_BUILT;
+use crate::refuse::{report_contract, report_refusal};
 use crate::report::report;
 use crate::source::say_all;
 use crate::status::Status;
 use hp_base::Value;
-use hp_compile::{Refusal, front};
-use hp_controlled::{ControlledErr, controlled_machines};
 use hp_exec::{Exec, ExecErr};
 use hp_io::{Console, Sink};
 use hp_obc::Obc;
-use hp_tree::Program;
-use hp_verdicts::{ContractErr, decide};
 use itoa::Buffer;
 use std::alloc::{AllocError, Global};
 
@@ -47,8 +54,12 @@ tel
 const TASKS: &str = "tasks";
 
 /// Why a sweep says nothing.
-enum Stop {
-    NotBuilt,
+#[derive(Drop)]
+pub(crate) enum Stop {
+    /// The program of the tasks is not compiled.
+    NotCompiled(CompileErr),
+    /// The machine of the tasks cannot be run.
+    NotRun,
     OutOfMemory,
 }
 
@@ -60,6 +71,32 @@ impl From<AllocError> for Stop {
 
     fn from(_error: AllocError) -> Stop {
         Stop::OutOfMemory
+    }
+}
+
+impl From<ExecErr> for Stop {
+    ghost use Rattle.std.specs.Prelude.{◌≡◌};
+    ghost use Rattle.hp_driver.specs.Stopping.{of_exec};
+
+    ghost from_gives = { λ error e. e ≡ of_exec error };
+
+    fn from(error: ExecErr) -> Stop {
+        match error {
+            ExecErr::NoNode => Stop::NotRun,
+            ExecErr::Limit(_) => Stop::NotRun,
+            ExecErr::OutOfMemory => Stop::OutOfMemory,
+        }
+    }
+}
+
+impl From<CompileErr> for Stop {
+    ghost use Rattle.std.specs.Prelude.{◌≡◌};
+    ghost use Rattle.hp_driver.specs.declared.sweep.Stop.TheVariants.{NotCompiled};
+
+    ghost from_gives = { λ cause e. e ≡ NotCompiled cause };
+
+    fn from(cause: CompileErr) -> Stop {
+        Stop::NotCompiled(cause)
     }
 }
 
@@ -76,166 +113,236 @@ fn add_number(text: &mut Vec<u8>, number: u64) -> Result<(), AllocError>
     text.extend_from_slice(buffer.format(number).as_bytes())
 }
 
-/// Adds what stands between two parts.
-fn add_between(text: &mut Vec<u8>, is_first: bool, between: &[u8]) -> Result<(), AllocError> {
-    if is_first {
-        return Ok(());
-    }
-    add(text, between)
-}
-
 /// Adds a name with a number.
 fn add_name(text: &mut Vec<u8>, name: &[u8], task: u64) -> Result<(), AllocError>
-    ensures { OnOk result (text.new.items ≡ text.old.items ++ (name.now ++ decimal task)) }
+    ensures { OnOk result (text.new.items ≡ text.old.items ++ numbered name.now task) }
 {
     add(text, name)?;
     add_number(text, task)
 }
 
 /// Adds this name with the number of each task, with a comma between.
-fn add_names(text: &mut Vec<u8>, name: &[u8], tasks: u64) -> Result<(), AllocError> {
-    for i in 0..tasks {
-        add_between(text, i == 0, b", ")?;
+fn add_names(text: &mut Vec<u8>, name: &[u8], tasks: u64) -> Result<(), AllocError>
+    requires { 1 ≤ tasks }
+    ensures { OnOk result (text.new.items ≡ text.old.items ++ names_text name.now tasks) }
+{
+    add_name(text, name, 1)?;
+    for i in 1..tasks {
+        add(text, b", ")?;
         add_name(text, name, i + 1)?;
     }
     Ok(())
 }
 
+/// Adds the request and the end of a task.
+fn add_pair_of_inputs(text: &mut Vec<u8>, task: u64) -> Result<(), AllocError>
+    ensures { OnOk result (text.new.items ≡ text.old.items ++ inputs_text task) }
+{
+    add_name(text, b"r", task)?;
+    add_name(text, b", e", task)
+}
+
 /// Adds the inputs: the request and the end of each task.
-fn add_inputs(text: &mut Vec<u8>, tasks: u64) -> Result<(), AllocError> {
-    for i in 0..tasks {
-        add_between(text, i == 0, b", ")?;
-        add_name(text, b"r", i + 1)?;
-        add_name(text, b", e", i + 1)?;
+fn add_inputs(text: &mut Vec<u8>, tasks: u64) -> Result<(), AllocError>
+    requires { 1 ≤ tasks }
+    ensures { OnOk result (text.new.items ≡ text.old.items ++ row (codes ", ") inputs_text tasks) }
+{
+    add_pair_of_inputs(text, 1)?;
+    for i in 1..tasks {
+        add(text, b", ")?;
+        add_pair_of_inputs(text, i + 1)?;
     }
     Ok(())
 }
 
 /// Adds that two tasks are not active at once.
-fn add_pair(text: &mut Vec<u8>, one: u64, other: u64) -> Result<(), AllocError> {
-    add_name(text, b"not (a", one)?;
-    add_name(text, b" & a", other)?;
+fn add_pair(text: &mut Vec<u8>, other: u64, task: u64) -> Result<(), AllocError>
+    ensures { OnOk result (text.new.items ≡ text.old.items ++ pair_text other task) }
+{
+    add_name(text, b"not (a", other)?;
+    add_name(text, b" & a", task)?;
     add(text, b")")
 }
 
-/// Adds that no two tasks are active at once.
-fn add_guarantee(text: &mut Vec<u8>, tasks: u64) -> Result<(), AllocError> {
-    if tasks < 2 {
-        return add(text, b"true");
-    }
-    for i in 0..tasks {
-        for j in i + 1..tasks {
-            add_between(text, i == 0 && j == 1, b" & ")?;
-            add_pair(text, i + 1, j + 1)?;
-        }
+/// Adds that the task behind so many others is active at once with none of them.
+fn add_apart(text: &mut Vec<u8>, others: u64) -> Result<(), AllocError>
+    requires some { 1 ≤ others }
+    requires few { others ≤ 8 }
+    ensures { OnOk result (text.new.items ≡ text.old.items ++ apart_text others) }
+{
+    add_pair(text, 1, others + 1)?;
+    for i in 1..others {
+        add(text, b" & ")?;
+        add_pair(text, i + 1, others + 1)?;
     }
     Ok(())
 }
 
-/// Adds the equation of a task.
-fn add_task(text: &mut Vec<u8>, task: u64) -> Result<(), AllocError> {
+/// Adds that no two tasks are active at once.
+fn add_guarantee(text: &mut Vec<u8>, tasks: u64) -> Result<(), AllocError>
+    requires some { 1 ≤ tasks }
+    requires few { tasks ≤ 8 }
+    ensures { OnOk result (text.new.items ≡ text.old.items ++ guarantee_text tasks) }
+{
+    if tasks < 2 {
+        return add(text, b"true");
+    }
+    add_apart(text, 1)?;
+    for i in 1..tasks - 1 {
+        add(text, b" & ")?;
+        add_apart(text, i + 1)?;
+    }
+    Ok(())
+}
+
+/// Adds what a task gives.
+fn add_results(text: &mut Vec<u8>, task: u64) -> Result<(), AllocError>
+    ensures { OnOk result (text.new.items ≡ text.old.items ++ results_text task) }
+{
     add_name(text, b"  (a", task)?;
     add_name(text, b", s", task)?;
-    add_name(text, b") = inlined delayable(r", task)?;
+    add(text, b") = ")
+}
+
+/// Adds what a task takes.
+fn add_call(text: &mut Vec<u8>, task: u64) -> Result<(), AllocError>
+    ensures { OnOk result (text.new.items ≡ text.old.items ++ call_text task) }
+{
+    add_name(text, b"inlined delayable(r", task)?;
     add_name(text, b", c", task)?;
     add_name(text, b", e", task)?;
     add(text, b")")
 }
 
-/// Adds the equations of the tasks.
-fn add_tasks(text: &mut Vec<u8>, tasks: u64) -> Result<(), AllocError> {
-    for i in 0..tasks {
-        add_between(text, i == 0, b";\n")?;
+/// Adds what a task does.
+fn add_task(text: &mut Vec<u8>, task: u64) -> Result<(), AllocError>
+    ensures { OnOk result (text.new.items ≡ text.old.items ++ task_text task) }
+{
+    add_results(text, task)?;
+    add_call(text, task)
+}
+
+/// Adds what the tasks do.
+fn add_tasks(text: &mut Vec<u8>, tasks: u64) -> Result<(), AllocError>
+    requires { 1 ≤ tasks }
+    ensures { OnOk result (text.new.items ≡ text.old.items ++ row (codes ";\n") task_text tasks) }
+{
+    add_task(text, 1)?;
+    for i in 1..tasks {
+        add(text, b";\n")?;
         add_task(text, i + 1)?;
     }
     Ok(())
 }
 
+/// Adds the outputs of the tasks: whether each is active, and whether each starts.
+fn add_outputs(text: &mut Vec<u8>, tasks: u64) -> Result<(), AllocError>
+    requires { 1 ≤ tasks }
+    ensures { OnOk result (text.new.items ≡ text.old.items ++ outputs_text tasks) }
+{
+    add(text, b" : bool) returns (")?;
+    add_names(text, b"a", tasks)?;
+    add(text, b", ")?;
+    add_names(text, b"s", tasks)?;
+    add(text, b" : bool)\n")
+}
+
+/// Adds the inputs and outputs of the tasks.
+fn add_heading(text: &mut Vec<u8>, tasks: u64) -> Result<(), AllocError>
+    requires { 1 ≤ tasks }
+    ensures { OnOk result (text.new.items ≡ text.old.items ++ heading_text tasks) }
+{
+    add(text, b"node tasks(")?;
+    add_inputs(text, tasks)?;
+    add_outputs(text, tasks)
+}
+
+/// Adds what is enforced, and by which variables.
+fn add_contract(text: &mut Vec<u8>, tasks: u64) -> Result<(), AllocError>
+    requires some { 1 ≤ tasks }
+    requires few { tasks ≤ 8 }
+    ensures { OnOk result (text.new.items ≡ text.old.items ++ contract_text tasks) }
+{
+    add(text, b"contract enforce ")?;
+    add_guarantee(text, tasks)?;
+    add(text, b" with (")?;
+    add_names(text, b"c", tasks)?;
+    add(text, b" : bool)\n")
+}
+
+/// Adds what all tasks do.
+fn add_body(text: &mut Vec<u8>, tasks: u64) -> Result<(), AllocError>
+    requires { 1 ≤ tasks }
+    ensures { OnOk result (text.new.items ≡ text.old.items ++ body_text tasks) }
+{
+    add(text, b"let\n")?;
+    add_tasks(text, tasks)?;
+    add(text, b"\ntel\n")
+}
+
+/// Adds the program of so many tasks.
+fn add_program(text: &mut Vec<u8>, tasks: u64) -> Result<(), AllocError>
+    requires some { 1 ≤ tasks }
+    requires few { tasks ≤ 8 }
+    ensures { OnOk result (text.new.items ≡ text.old.items ++ tasks_text tasks) }
+{
+    add(text, TASK)?;
+    add_heading(text, tasks)?;
+    add_contract(text, tasks)?;
+    add_body(text, tasks)
+}
+
 /// The program of so many tasks.
-fn program_of(alloc: Global, tasks: u64) -> Result<Vec<u8>, AllocError> {
-    let mut text = Vec::from_slice(alloc, TASK)?;
-    add(&mut text, b"node tasks(")?;
-    add_inputs(&mut text, tasks)?;
-    add(&mut text, b" : bool) returns (")?;
-    add_names(&mut text, b"a", tasks)?;
-    add(&mut text, b", ")?;
-    add_names(&mut text, b"s", tasks)?;
-    add(&mut text, b" : bool)\ncontract enforce ")?;
-    add_guarantee(&mut text, tasks)?;
-    add(&mut text, b" with (")?;
-    add_names(&mut text, b"c", tasks)?;
-    add(&mut text, b" : bool)\nlet\n")?;
-    add_tasks(&mut text, tasks)?;
-    add(&mut text, b"\ntel\n")?;
+fn program_of(alloc: Global, tasks: u64) -> Result<Vec<u8>, AllocError>
+    requires some { 1 ≤ tasks }
+    requires few { tasks ≤ 8 }
+    ensures { IfOk result (λ text. text.items ≡ tasks_text tasks) }
+{
+    let mut text = Vec::new(alloc);
+    add_program(&mut text, tasks)?;
     Ok(text)
 }
 
-/// Why a sweep stops at a refusal of its program, which is never refused but for want of memory.
-fn of_refusal(refusal: &Refusal) -> Stop {
-    match refusal {
-        Refusal::OutOfMemory => Stop::OutOfMemory,
-        _ => Stop::NotBuilt,
-    }
-}
-
-fn of_contract(error: &ContractErr) -> Stop {
-    match error {
-        ContractErr::OutOfMemory => Stop::OutOfMemory,
-        _ => Stop::NotBuilt,
-    }
-}
-
-fn of_machines(error: ControlledErr) -> Stop {
-    match error {
-        ControlledErr::OutOfMemory => Stop::OutOfMemory,
-        ControlledErr::NotBuilt => Stop::NotBuilt,
-    }
-}
-
-/// The machines of a program, if its contracts are kept.
-fn machines_of(alloc: Global, program: &Program) -> Result<Obc, Stop> {
-    if let Err(error) = decide(alloc, program) {
-        return Err(of_contract(&error));
-    }
-    match controlled_machines(alloc, program) {
-        Ok(machines) => Ok(machines),
-        Err(error) => Err(of_machines(error)),
-    }
-}
-
-/// The machines of the program of so many tasks, made as `compile` makes them.
-fn machines_of_tasks(alloc: Global, tasks: u64) -> Result<Obc, Stop> {
-    let text = program_of(alloc, tasks)?;
-    match front(alloc, &text) {
-        Ok(ordered) => machines_of(alloc, &ordered.program),
-        Err(refusal) => Err(of_refusal(&refusal)),
-    }
-}
-
 /// Whether a task is requested at an instant, or ends: every third, or every fourth instant.
-fn is_input(place: usize, instant: u64) -> bool {
+fn is_input(place: usize, instant: u64) -> bool
+    requires place { place ≤ 16 }
+    requires instant { instant ≤ 1000000 }
+    ensures { result ≡ is_input place instant }
+{
     let task = (place / 2) as u64 + 1;
     let every = if place % 2 == 0 { 3 } else { 4 };
-    instant.wrapping_add(task) % every == 0
+    (instant + task) % every == 0
 }
 
 /// Fills in the inputs of an instant.
 fn fill(instant: u64, inputs: &mut [Value])
-    ensures { length inputs.new ≡ length inputs.old }
+    requires places { length inputs.old ≤ 16 }
+    requires instant { instant ≤ 1000000 }
+    ensures { inputs.new ≡ inputs_at instant (length inputs.old) }
 {
     for i in 0..inputs.len() {
         inputs[i] = Value::B(is_input(i, instant));
     }
 }
 
+/// How often an output was true, behind one instant more.
+fn one_more(count: u64, output: Value) -> u64
+    ensures { result ≡ one_more count output }
+{
+    match output {
+        Value::B(true) => count.saturating_add(1),
+        _ => count,
+    }
+}
+
 /// Counts which outputs are true.
+#[tactic(auto, using(crate::proofs::SweepLaws::count_next))]
 fn count(outputs: &[Value], counts: &mut [u64])
-    ensures { length counts.new ≡ length counts.old }
+    requires { length counts.old ≡ length outputs.now }
+    ensures { counts.new ≡ counted counts.old outputs.now }
 {
     for i in 0..counts.len() {
-        if outputs.get(i) == Some(&Value::B(true)) {
-            counts[i] = counts[i].saturating_add(1);
-        }
+        counts[i] = one_more(counts[i], outputs[i]);
     }
 }
 
@@ -252,7 +359,7 @@ impl Room {
     fn new(alloc: Global, many: usize) -> Result<Room, AllocError>
         ensures inputs { IfOk result (λ room. length room.inputs.items ≡ many) }
         ensures outputs { IfOk result (λ room. length room.outputs.items ≡ many) }
-        ensures counts { IfOk result (λ room. length room.counts.items ≡ many) }
+        ensures counts { IfOk result (λ room. room.counts.items ≡ replicate many 0) }
     {
         Ok(Room {
             inputs: vec![in alloc; Value::B(false); many]?,
@@ -265,10 +372,17 @@ impl Room {
     fn step(&mut self, exec: &mut Exec, instant: u64)
         requires inputs { length self.old.inputs.items ≡ length exec.old.signature.inputs }
         requires outputs { length self.old.outputs.items ≡ length exec.old.signature.outputs }
+        requires counts { length self.old.counts.items ≡ length self.old.outputs.items }
+        requires places { length self.old.inputs.items ≤ 16 }
+        requires instant { instant ≤ 1000000 }
         ensures inputs { length self.new.inputs.items ≡ length self.old.inputs.items }
         ensures outputs { length self.new.outputs.items ≡ length self.old.outputs.items }
         ensures counts { length self.new.counts.items ≡ length self.old.counts.items }
         ensures signature { exec.new.signature ≡ exec.old.signature }
+        ensures counted { (b : Behaviour) → Runs exec.old b
+            → self.new.counts.items ≡ counted self.old.counts.items (b.step (kept exec.old) (inputs_at instant (length self.old.inputs.items))).outputs }
+        ensures kept { (b : Behaviour) → Runs exec.old b → kept exec.new ≡ (b.step (kept exec.old) (inputs_at instant (length self.old.inputs.items))).kept }
+        ensures runs { (b : Behaviour) → Runs exec.old b → Runs exec.new b }
     {
         fill(instant, &mut self.inputs);
         exec.step(&self.inputs, &mut self.outputs);
@@ -280,7 +394,12 @@ impl Room {
 fn run_instants(exec: &mut Exec, instants: u64, room: &mut Room)
     requires inputs { length room.old.inputs.items ≡ length exec.old.signature.inputs }
     requires outputs { length room.old.outputs.items ≡ length exec.old.signature.outputs }
-    ensures { length room.new.counts.items ≡ length room.old.counts.items }
+    requires counts { length room.old.counts.items ≡ length room.old.outputs.items }
+    requires places { length room.old.inputs.items ≤ 16 }
+    requires instants { instants ≤ 1000000 }
+    ensures long { length room.new.counts.items ≡ length room.old.counts.items }
+    ensures counted { (b : Behaviour) → Runs exec.old b → kept exec.old ≡ b.reset → room.old.counts.items ≡ replicate (length room.old.inputs.items) 0
+        → room.new.counts.items ≡ counts_behind b (length room.old.inputs.items) instants }
 {
     for i in 0..instants {
         room.step(exec, i + 1);
@@ -296,27 +415,42 @@ fn counts_by(
 ) -> Result<Vec<u64>, AllocError>
     requires inputs { many ≡ length exec.old.signature.inputs }
     requires outputs { many ≡ length exec.old.signature.outputs }
-    ensures { IfOk result (λ counts. length counts.items ≡ many) }
+    requires places { many ≤ 16 }
+    requires instants { instants ≤ 1000000 }
+    ensures long { IfOk result (λ counts. length counts.items ≡ many) }
+    ensures counted { (b : Behaviour) → Runs exec.old b → kept exec.old ≡ b.reset → IfOk result (λ counts. counts.items ≡ counts_behind b many instants) }
 {
     let mut room = Room::new(alloc, many)?;
     run_instants(exec, instants, &mut room);
     Ok(room.counts)
 }
 
-/// How often each output of so many tasks was true.
-fn counts_of(alloc: Global, sweep: Sweep, many: usize) -> Result<Vec<u64>, Stop>
-    ensures { IfOk result (λ counts. length counts.items ≡ many) }
+/// Whether a machine has so many inputs and as many outputs.
+fn has_many(exec: &Exec, many: usize) -> bool
+    ensures yes { result ≡ true → HasMany many exec.now.signature }
+    ensures no { result ≡ false → HasOthers many exec.now.signature }
 {
-    let machines = machines_of_tasks(alloc, sweep.tasks)?;
-    let mut exec = match Exec::new(alloc, &machines, TASKS) {
-        Ok(exec) => exec,
-        Err(ExecErr::OutOfMemory) => return Err(Stop::OutOfMemory),
-        Err(_) => return Err(Stop::NotBuilt),
-    };
-    if exec.signature().inputs.len() != many || exec.signature().outputs.len() != many {
-        return Err(Stop::NotBuilt);
-    }
-    let counts = counts_by(alloc, &mut exec, many, sweep.instants)?;
+    let signature = exec.signature();
+    signature.inputs.len() == many && signature.outputs.len() == many
+}
+
+/// An executor of the machine of the tasks, if it has so many inputs and as many outputs.
+fn exec_of(alloc: Global, machines: &Obc, many: usize) -> Result<Exec, Stop>
+    ensures { MatchResult result (IsOfTasks many machines.now) (StopsAt many machines.now) }
+{
+    let exec = Exec::new(alloc, machines, TASKS)?;
+    let has = has_many(&exec, many);
+    if has { Ok(exec) } else { Err(Stop::NotRun) }
+}
+
+/// How often each output of the machine of the tasks was true.
+fn counts_of(alloc: Global, machines: &Obc, many: usize, instants: u64) -> Result<Vec<u64>, Stop>
+    requires places { many ≤ 16 }
+    requires instants { instants ≤ 1000000 }
+    ensures { MatchResult result (λ counts. AreCounts many instants machines.now counts.items) (StopsAt many machines.now) }
+{
+    let mut exec = exec_of(alloc, machines, many)?;
+    let counts = counts_by(alloc, &mut exec, many, instants)?;
     Ok(counts)
 }
 
@@ -350,15 +484,68 @@ fn text_of(alloc: Global, counts: &[u64], tasks: usize) -> Result<Vec<u8>, Alloc
     Ok(text)
 }
 
-/// The summary: how often each task was active, and how often each started.
-fn summary_of(alloc: Global, sweep: Sweep) -> Result<Vec<u8>, Stop>
-    requires { sweep.tasks ≤ 8 }
-    ensures { IfOk result (λ text. IsSummary sweep.tasks text.items) }
+/// The machines of the program of so many tasks.
+fn machines_of_tasks(alloc: Global, tasks: u64) -> Result<Obc, Stop>
+    requires some { 1 ≤ tasks }
+    requires few { tasks ≤ 8 }
+    ensures { MatchResult result (IsCompiled (tasks_text tasks)) (Stops tasks) }
+{
+    let text = program_of(alloc, tasks)?;
+    let machines = compile(alloc, &text)?;
+    Ok(machines)
+}
+
+/// The summary of a run of these machines: how often each task was active, and how often each started.
+fn summary_by(alloc: Global, sweep: Sweep, machines: &Obc) -> Result<Vec<u8>, Stop>
+    requires tasks { sweep.tasks ≤ 8 }
+    requires instants { sweep.instants ≤ 1000000 }
+    ensures { MatchResult result (λ text. HasTasks (2 * sweep.tasks) machines.now × (text.items ≡ sweep_text machines.now sweep.tasks sweep.instants)) (StopsAt (2 * sweep.tasks) machines.now) }
 {
     let tasks = sweep.tasks as usize;
-    let counts = counts_of(alloc, sweep, 2 * tasks)?;
+    let counts = counts_of(alloc, machines, 2 * tasks, sweep.instants)?;
     let text = text_of(alloc, &counts, tasks)?;
     Ok(text)
+}
+
+/// The summary of a run of the program of so many tasks.
+fn summary_of(alloc: Global, sweep: Sweep) -> Result<Vec<u8>, Stop>
+    requires some { 1 ≤ sweep.tasks }
+    requires few { sweep.tasks ≤ 8 }
+    requires instants { sweep.instants ≤ 1000000 }
+    ensures { MatchResult result (λ text. IsSwept sweep.tasks sweep.instants text.items) (Stops sweep.tasks) }
+{
+    let machines = machines_of_tasks(alloc, sweep.tasks)?;
+    summary_by(alloc, sweep, &machines)
+}
+
+/// Reports why the program of the tasks is not compiled, or that there is no memory.
+fn report_cause<E: Sink>(alloc: Global, diag: &mut E, error: &CompileErr) -> Status
+    requires { HasCircuit error.now }
+    ensures told { (line : List ℕ) × Grows (E.took diag.old) (E.took diag.new) line
+        × ((tasks instants : ℕ) → IsNotCompiled (tasks_text tasks) error.now → SweepOutcome tasks instants [] line (code_of result)) }
+    ensures status { code_of result ≢ 4 }
+    ensures faults { PutFaults (code_of result) (E.faults diag.old) (E.faults diag.new) }
+{
+    match error {
+        CompileErr::Refused(refusal) => report_refusal(alloc, diag, refusal),
+        CompileErr::Contract(cause) => report_contract(alloc, diag, cause),
+        CompileErr::OutOfMemory => Status::NoMemory,
+    }
+}
+
+/// Reports why a sweep says nothing, or that there is no memory.
+fn report_stop<E: Sink>(alloc: Global, diag: &mut E, stop: &Stop) -> Status
+    requires { (tasks : ℕ) × Stops tasks stop.now }
+    ensures told { (line : List ℕ) × Grows (E.took diag.old) (E.took diag.new) line
+        × ((tasks instants : ℕ) → Stops tasks stop.now → SweepOutcome tasks instants [] line (code_of result)) }
+    ensures status { code_of result ≢ 4 }
+    ensures faults { PutFaults (code_of result) (E.faults diag.old) (E.faults diag.new) }
+{
+    match stop {
+        Stop::NotCompiled(cause) => report_cause(alloc, diag, cause),
+        Stop::NotRun => report(diag, NOT_BUILT, Status::Refused),
+        Stop::OutOfMemory => Status::NoMemory,
+    }
 }
 
 /// Says the summary of a sweep. No input is asked for, and no file is read or written.
@@ -368,7 +555,9 @@ pub(crate) fn run_sweep<C: Console, E: Sink>(
     console: &mut C,
     diag: &mut E,
 ) -> Status
-    requires { sweep.tasks ≤ 8 }
+    requires some { 1 ≤ sweep.tasks }
+    requires few { sweep.tasks ≤ 8 }
+    requires instants { sweep.instants ≤ 1000000 }
     ensures outcome { Happened (C.events console.old) (C.events console.new) (C.left console.old) (C.left console.new) (E.took diag.old) (E.took diag.new)
         (λ log line. SweepOutcome sweep.tasks sweep.instants log line (code_of result)) }
     ensures status { code_of result ≢ 4 }
@@ -377,7 +566,6 @@ pub(crate) fn run_sweep<C: Console, E: Sink>(
 {
     match summary_of(alloc, sweep) {
         Ok(text) => say_all(console, &text),
-        Err(Stop::NotBuilt) => report(diag, NOT_BUILT, Status::Refused),
-        Err(Stop::OutOfMemory) => Status::NoMemory,
+        Err(stop) => report_stop(alloc, diag, &stop),
     }
 }

@@ -196,10 +196,10 @@ pub fn run_tool<F: Folder, C: Console, E: Sink>(
     // A program that breaks no rule and of which no contract is refused is accepted, where nothing fails and there is memory.
     ensures complete_check { IsGoodCheck (map string_bytes words.now) (F.files files.old) → result ≢ 4 → result ≢ 5 → (result ≡ 0) ⊎ (result ≡ 6) }
 
-    // Where it has no controllable variables, its machines are written,
+    // Its machines are written,
     ensures complete_compile { IsGoodCompile (map string_bytes words.now) (F.files files.old) → result ≢ 4 → result ≢ 5 → (result ≡ 0) ⊎ (result ≡ 6) }
 
-    // and each of its nodes is run over an input of good lines to its end.
+    // and where it has no controllable variables, each of its nodes is run over an input of good lines to its end.
     ensures complete_run { IsGoodRun (map string_bytes words.now) (F.files files.old) (C.left console.old) → result ≢ 4 → result ≢ 5 → (result ≡ 0) ⊎ (result ≡ 6) }
 
     // A run that leaves a checkpoint does so, too, behind the end of such an input: from the memory after a reset,

@@ -6,6 +6,7 @@ pub mod AskedLaws
 pub mod AskingLaws
 pub mod BareLaws
 pub mod BroughtLaws
+pub mod BuiltLaws
 pub mod CircleLaws
 pub mod ClearLaws
 pub mod ControlLaws
@@ -39,7 +40,6 @@ pub mod PartLaws
 pub mod PartShapeLaws
 pub mod PlantLaws
 pub mod RegularPartLaws
-pub mod RemainingLaws
 pub mod RisingLaws
 pub mod RunLaws
 pub mod SaidLaws

@@ -14,7 +14,6 @@ pub mod Observers
 pub mod One
 pub mod Parts
 pub mod Program
-pub mod Remaining
 pub mod Saying
 pub mod Said
 pub mod Telling

@@ -14,7 +14,6 @@ ghost use Rattle.law_controlled.specs.Names.{NamesLaw, PlantNamesLaw};
 ghost use Rattle.law_controlled.specs.Observers.{ObserversSuitLaw};
 ghost use Rattle.law_controlled.specs.One.{OneListLaw, OneTextListLaw};
 ghost use Rattle.law_controlled.specs.Parts.{MadePartLaw};
-ghost use Rattle.law_controlled.specs.Remaining.{RemainingLaw};
 ghost use Rattle.law_controlled.specs.Said.{GreatestSaidLaw, SaidLaw};
 ghost use Rattle.law_controlled.specs.Program.{ChoosingNamesLaw, MadeNamesLaw, MadeNodesLaw};
 ghost use Rattle.law_controlled.specs.Worked.{CoolerLaw, HeaterLaw, HouseLaw, PumpLaw, StoreLaw, ValveLaw};
@@ -276,13 +275,6 @@ pub fn machines_that_choose_are_built()
     variables_of_outputs_and_inputs();
     labels_name_targets();
     comparisons_and_calls_have_places();
-}
-
-/// So no cause is left for which the compiler would have no machines of such a program.
-pub fn few_causes_are_left()
-    ensures { RemainingLaw }
-{
-    machines_that_choose_are_built();
 }
 
 /// Of a heater with three modes, one of which is chosen, nothing is free but the inputs.

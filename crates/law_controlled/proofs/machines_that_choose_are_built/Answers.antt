@@ -1,4 +1,4 @@
-use Rattle.law_controlled.proofs.RemainingLaws.{chosen_built_law}
+use Rattle.law_controlled.proofs.BuiltLaws.{chosen_built_law}
 use Rattle.law_controlled.proofs.machines_that_choose_are_built.Goals as goal
 
 pub returns : goal.returns

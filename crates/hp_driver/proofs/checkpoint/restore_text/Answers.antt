@@ -1,4 +1,4 @@
-use Rattle.std.proofs.Common.{[], sym, ap, subst, rules, ◌≡◌, ◌∙◌}
+use Rattle.std.proofs.Common.{[], sym, ap, subst, ◌≡◌, ◌∙◌}
 use Rattle.std.proofs.lemmas.List.{with_items_is}
 use Rattle.hp_base.specs.Kinds.{AreOfKinds}
 use Rattle.hp_exec.specs.Executors.{Executor}

@@ -9,7 +9,7 @@ use Rattle.hp_driver.specs.Executing.{executing}
 use Rattle.hp_driver.specs.Lines.{lines_of}
 use Rattle.hp_driver.specs.Log.{heard, said}
 use Rattle.hp_driver.specs.Ran.{Ran}
-use Rattle.hp_driver.specs.Restoring.{KeepsRun, StandsFor}
+use Rattle.hp_driver.specs.Restoring.{KeepsRun}
 use Rattle.hp_driver.specs.Status.{code_of}
 use Rattle.hp_driver.proofs.RanLaws.{done_line, heard_nothing}
 use Rattle.hp_driver.proofs.SegmentLaws.{few_to_read, is_checkpoint, kinds_are, of_types, stands_behind}

@@ -1,4 +1,4 @@
-use Rattle.std.proofs.Common.{[], inl, inr, sym, subst, rules, arith, refl}
+use Rattle.std.proofs.Common.{[], inl, inr, sym, subst, rules, arith}
 use Rattle.std.specs.Option.{option_copied}
 use Rattle.hp_base.specs.Limits.{most}
 use Rattle.hp_base.specs.declared.limit.What.TheVariants.{Size}

@@ -1,11 +1,11 @@
 use Rattle.std.proofs.Common.{[]}
 use Rattle.std.proofs.lemmas.Option.{MatchOption-at_none, MatchOption-at_some}
 use Rattle.hp_io.proofs.ToldLaws.{Grows-nil}
-use Rattle.hp_driver.specs.Command.{not_built_line, no_node_line}
+use Rattle.hp_driver.specs.Command.{no_node_line}
 use Rattle.hp_driver.specs.Follows.{ChoosingRun}
 use Rattle.hp_driver.specs.Status.{code_of}
-use Rattle.hp_driver.proofs.ChoosingLaws.{its_machine, run_failed, run_memory, run_not_built, run_no_node, choosing_ran}
-use Rattle.hp_driver.proofs.OutcomeLaws.{told_of, told_or_not}
+use Rattle.hp_driver.proofs.ChoosingLaws.{its_machine, run_failed, run_memory, run_no_node, choosing_ran}
+use Rattle.hp_driver.proofs.OutcomeLaws.{told_or_not}
 use Rattle.hp_driver.proofs.RanLaws.{heard_nothing}
 use Rattle.hp_driver.proofs.choosing.run_choosing.Goals as goal
 
@@ -37,15 +37,8 @@ returns-in-Ok-clause-outcome g c =
       choosing_ran c.args.node.now c.args.ordered.now c.machines_of_texts_choose_the_greatest.ensures c.in-Ok.machines c.in-Ok.ensures node.now (MatchOption-at_some _ _ node c.in-Some.is c.node_named.ensures) ran.0 ran.1 (code_of c.run_node.result) ran.5,
     )
 
-pub returns-in-Err-NotBuilt-clause-outcome : goal.returns-in-Err-NotBuilt-clause-outcome
-returns-in-Err-NotBuilt-clause-outcome g c =
-    let name = c.args.node.now in
-    let ordered = c.args.ordered.now in
-    let told = told_of (ChoosingRun name ordered []) (run_failed name ordered []) (g.E.Sink.took c.args.diag.now) (g.E.Sink.took c.report.new.diag) not_built_line 1 (code_of c.report.result) c.report.ensures.reports (run_not_built name ordered c.few_causes_are_left.ensures (c.in-Err-NotBuilt.ensures c.in-Err-NotBuilt.field-0-is)) in
-    ([], told.0, Grows-nil (g.C.Console.events c.args.console.now), heard_nothing (g.C.Console.left c.args.console.now), told.1, told.2)
-
-pub returns-in-Err-OutOfMemory-clause-outcome : goal.returns-in-Err-OutOfMemory-clause-outcome
-returns-in-Err-OutOfMemory-clause-outcome g c = (
+pub returns-in-Err-clause-outcome : goal.returns-in-Err-clause-outcome
+returns-in-Err-clause-outcome g c = (
   [],
   [],
   Grows-nil (g.C.Console.events c.args.console.now),

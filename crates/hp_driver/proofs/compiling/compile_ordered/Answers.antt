@@ -1,6 +1,7 @@
 use Rattle.hp_driver.specs.Compiled.{HasCircuit, IsCompiled, IsNotCompiled}
-use Rattle.hp_driver.specs.CompileErrors.{of_contract, of_controlled}
-use Rattle.hp_driver.proofs.CompilingLaws.{compiled_by, contract_refused_by, has_circuit, not_built_by}
+use Rattle.hp_driver.specs.declared.compile_error.CompileErr.TheVariants.{OutOfMemory}
+use Rattle.hp_driver.specs.CompileErrors.{of_contract}
+use Rattle.hp_driver.proofs.CompilingLaws.{compiled_by, contract_refused_by, has_circuit}
 use Rattle.hp_driver.proofs.HandedLaws.{handed, handed_match}
 use Rattle.hp_driver.proofs.compiling.compile_ordered.Goals as goal
 
@@ -15,13 +16,14 @@ returns-in_err-decide-clause-circuits c =
     let cause = c.in_err-decide.field-0.0 in
     handed HasCircuit c.from_residual.result (of_contract cause) c.from_residual.ensures.1 (has_circuit c.outcomes_are_so.ensures c.args.program.now c.args.ordered.program c.requires cause c.in_err-decide.ensures.refused)
 
+pub machines_of-requires-clause-kept : goal.machines_of-requires-clause-kept
+machines_of-requires-clause-kept c = c.in_ok-decide.ensures.kept
+
 pub returns-in_err-machines-clause-compiled : goal.returns-in_err-machines-clause-compiled
 returns-in_err-machines-clause-compiled c = λ text found.
-    let error = c.in_err-machines.field-0.0 in
-    handed_match (IsCompiled text) (IsNotCompiled text) c.from_residual-in_err-machines.result (of_controlled error) c.from_residual-in_err-machines.ensures.1
-    (not_built_by text c.args.program.now c.args.ordered.program found c.outcomes_are_so.ensures c.few_causes_are_left.ensures c.in_ok-decide.ensures.kept error c.in_err-machines.ensures.not_built)
+    handed_match (IsCompiled text) (IsNotCompiled text) c.from_residual-in_err-machines.result OutOfMemory c.from_residual-in_err-machines.ensures.1 IsNotCompiled.out_of_memory
 
 pub returns-clause-compiled : goal.returns-clause-compiled
 returns-clause-compiled c = λ text found.
     compiled_by text c.args.program.now c.args.ordered.program found c.outcomes_are_so.ensures c.in_ok-decide.ensures.kept c.machines_run_the_nodes_of_texts.ensures c.machines_of_texts_are_built.ensures
-    c.machines_do_the_same_among_others.ensures.form c.own_machines_do_the_same.ensures c.machines_of_texts_choose_the_greatest.ensures c.in_ok-machines.machines c.in_ok-machines.ensures.machines
+    c.machines_do_the_same_among_others.ensures.form c.own_machines_do_the_same.ensures c.machines_of_texts_choose_the_greatest.ensures c.in_ok-machines.machines c.in_ok-machines.ensures

@@ -1,18 +1,18 @@
 use Rattle.std.proofs.Common.{◌≡◌, false, true, rules}
-use Rattle.hp_controlled.specs.Chosen.{AreControlledMachines}
-use Rattle.hp_controlled.specs.Lacking.{HasNoChosenMachines}
+use Rattle.std.proofs.lemmas.Result.{IfOk-weaker}
 use Rattle.hp_driver.specs.Compiled.{AreMachinesFor}
 use Rattle.hp_driver.specs.Controls.{has_controls}
-use Rattle.hp_driver.proofs.CompilingLaws.{says_where}
 use Rattle.hp_driver.proofs.compiling.machines_of.Goals as goal
 
-pub returns-clause-machines : goal.returns-clause-machines
-returns-clause-machines c =
-    let none : has_controls c.args.program.now ≡ false = search rules in
-    let made = c.in_ok-machines.ensures in
-    AreMachinesFor.of_nodes none made.1 made.2
+pub chosen_machines-requires-clause-arranged : goal.chosen_machines-requires-clause-arranged
+chosen_machines-requires-clause-arranged c = (c.args.program.now, c.requires.arranged)
 
-pub returns-then-has_controls-clause-not_built : goal.returns-then-has_controls-clause-not_built
-returns-then-has_controls-clause-not_built c =
+pub returns-then-has_controls : goal.returns-then-has_controls
+returns-then-has_controls c =
     let some : has_controls c.args.program.now ≡ true = search rules in
-    says_where (AreControlledMachines c.args.ordered.program) (has_controls c.args.program.now ≡ true) (HasNoChosenMachines c.args.ordered.program) c.controlled_machines.result some c.controlled_machines.ensures
+    IfOk-weaker c.chosen_machines.result _ _ (λ o are. AreMachinesFor.that_choose some are) c.chosen_machines.ensures
+
+pub returns : goal.returns
+returns c =
+    let none : has_controls c.args.program.now ≡ false = search rules in
+    IfOk-weaker c.plain_machines.result _ _ (λ o made. AreMachinesFor.of_nodes none made.1 made.2) c.plain_machines.ensures

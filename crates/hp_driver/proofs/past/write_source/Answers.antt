@@ -1,4 +1,4 @@
-use Rattle.std.proofs.Common.{[], inl, inr, refl, rules, arith}
+use Rattle.std.proofs.Common.{[], inl, inr, refl, rules}
 use Rattle.hp_base.specs.declared.limit.What.TheVariants.{Size}
 use Rattle.hp_io.proofs.ToldLaws.{Grows-nil}
 use Rattle.hp_driver.specs.Diagnostics.{too_long_line}

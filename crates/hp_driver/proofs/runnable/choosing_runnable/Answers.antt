@@ -1,11 +1,11 @@
 use Rattle.std.proofs.Common.{[]}
 use Rattle.std.proofs.lemmas.Option.{MatchOption-at_none, MatchOption-at_some}
 use Rattle.hp_io.proofs.ToldLaws.{Grows-nil}
-use Rattle.hp_driver.specs.Command.{not_built_line, no_node_line}
+use Rattle.hp_driver.specs.Command.{no_node_line}
 use Rattle.hp_driver.specs.Follows.{ChoosingRun, NodeRun}
 use Rattle.hp_driver.specs.Status.{code_of}
-use Rattle.hp_driver.proofs.ChoosingLaws.{its_machine, run_failed, run_memory, run_not_built, run_no_node, choosing_ran}
-use Rattle.hp_driver.proofs.OutcomeLaws.{told_of, told_or_not}
+use Rattle.hp_driver.proofs.ChoosingLaws.{its_machine, run_failed, run_memory, run_no_node, choosing_ran}
+use Rattle.hp_driver.proofs.OutcomeLaws.{told_or_not}
 use Rattle.hp_driver.proofs.RunnableLaws.{ends_map, has_chosen}
 use Rattle.hp_driver.proofs.runnable.choosing_runnable.Goals as goal
 
@@ -39,11 +39,5 @@ returns-in-Ok-clause-chosen g c =
     let node = c.in-Some.found in
     has_chosen c.args.ordered.now c.args.node.now node.now (MatchOption-at_some _ _ node c.in-Some.is c.node_named.ensures) c.in-Ok.machines c.chosen_runnable.result c.chosen_runnable.ensures.machines c.chosen_runnable.ensures.chosen
 
-pub returns-in-Err-NotBuilt-clause-told : goal.returns-in-Err-NotBuilt-clause-told
-returns-in-Err-NotBuilt-clause-told g c =
-    let name = c.args.node.now in
-    let ordered = c.args.ordered.now in
-    told_of (ChoosingRun name ordered []) (run_failed name ordered []) (g.E.Sink.took c.args.diag.now) (g.E.Sink.took c.report.new.diag) not_built_line 1 (code_of c.report.result) c.report.ensures.reports (run_not_built name ordered c.few_causes_are_left.ensures (c.in-Err-NotBuilt.ensures c.in-Err-NotBuilt.field-0-is))
-
-pub returns-in-Err-OutOfMemory-clause-told : goal.returns-in-Err-OutOfMemory-clause-told
-returns-in-Err-OutOfMemory-clause-told g c = ([], Grows-nil (g.E.Sink.took c.args.diag.now), run_memory c.args.node.now c.args.ordered.now)
+pub returns-in-Err-clause-told : goal.returns-in-Err-clause-told
+returns-in-Err-clause-told g c = ([], Grows-nil (g.E.Sink.took c.args.diag.now), run_memory c.args.node.now c.args.ordered.now)

@@ -56,3 +56,9 @@ pub plain_runnable-requires : goal.plain_runnable-requires
 plain_runnable-requires g c =
     let none : has_controls c.args.program.now ≡ false = search rules in
     (c.args.program.now, c.requires, none)
+
+pub choosing_runnable-requires-clause-arranged : goal.choosing_runnable-requires-clause-arranged
+choosing_runnable-requires-clause-arranged g c = (c.args.program.now, c.requires)
+
+pub choosing_runnable-requires-clause-kept : goal.choosing_runnable-requires-clause-kept
+choosing_runnable-requires-clause-kept g c = c.in_default.ensures.kept

@@ -1,11 +1,10 @@
 use Rattle.std.proofs.Common.{◌≡◌, [], rules, sym, subst}
 use Rattle.hp_io.proofs.ToldLaws.{Grows-nil}
-use Rattle.hp_driver.specs.declared.compile_error.CompileErr.TheVariants.{Refused, Contract, NotBuilt, OutOfMemory}
-use Rattle.hp_driver.specs.Command.{not_built_line}
+use Rattle.hp_driver.specs.declared.compile_error.CompileErr.TheVariants.{Refused, Contract, OutOfMemory}
 use Rattle.hp_driver.specs.Diagnostics.{contract_line, refusal_line}
 use Rattle.hp_driver.specs.Status.{code_of}
-use Rattle.hp_driver.proofs.CompileLaws.{Told, Uncompiled, contract_refused, not_built, text_refused, uncompiled_failed, uncompiled_memory}
-use Rattle.hp_driver.proofs.OutcomeLaws.{told_of, told_or_not}
+use Rattle.hp_driver.proofs.CompileLaws.{Told, Uncompiled, contract_refused, text_refused, uncompiled_failed, uncompiled_memory}
+use Rattle.hp_driver.proofs.OutcomeLaws.{told_or_not}
 use Rattle.hp_driver.proofs.source.report_uncompiled.Goals as goal
 
 pub returns-in-Refused-clause-told : goal.returns-in-Refused-clause-told
@@ -23,12 +22,6 @@ returns-in-Contract-clause-told g c =
     subst (λ error. Told (g.E.Sink.took c.args.diag.now) (g.E.Sink.took c.report_contract.new.diag) error (code_of c.report_contract.result)) (sym same)
     (told_or_not (Uncompiled (Contract cause)) (uncompiled_failed (Contract cause)) (uncompiled_memory (Contract cause)) (g.E.Sink.took c.args.diag.now) (g.E.Sink.took c.report_contract.new.diag) (contract_line cause) 1
     (code_of c.report_contract.result) c.report_contract.ensures.reports (contract_refused cause))
-
-pub returns-in-NotBuilt-clause-told : goal.returns-in-NotBuilt-clause-told
-returns-in-NotBuilt-clause-told g c =
-    let same : c.args.error.now ≡ NotBuilt = search rules in
-    subst (λ error. Told (g.E.Sink.took c.args.diag.now) (g.E.Sink.took c.report.new.diag) error (code_of c.report.result)) (sym same)
-    (told_of (Uncompiled NotBuilt) (uncompiled_failed NotBuilt) (g.E.Sink.took c.args.diag.now) (g.E.Sink.took c.report.new.diag) not_built_line 1 (code_of c.report.result) c.report.ensures.reports not_built)
 
 pub returns-in-OutOfMemory-clause-told : goal.returns-in-OutOfMemory-clause-told
 returns-in-OutOfMemory-clause-told g c =

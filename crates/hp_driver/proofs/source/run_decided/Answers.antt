@@ -35,3 +35,9 @@ pub run_ordered-requires : goal.run_ordered-requires
 run_ordered-requires g c =
     let none : has_controls c.args.program.now ≡ false = search rules in
     (c.args.program.now, c.requires, none)
+
+pub run_choosing-requires-clause-arranged : goal.run_choosing-requires-clause-arranged
+run_choosing-requires-clause-arranged g c = (c.args.program.now, c.requires)
+
+pub run_choosing-requires-clause-kept : goal.run_choosing-requires-clause-kept
+run_choosing-requires-clause-kept g c = c.in_default.ensures.kept

@@ -20,3 +20,9 @@ returns-clause-outcome g c =
 
 pub report_contract-requires : goal.report_contract-requires
 report_contract-requires g c = contracts_are_built c.outcomes_are_so.ensures c.args.program.now c.args.ordered.now c.requires c.in-Err.error c.in-Err.ensures.refused
+
+pub tell_choosing-requires-clause-arranged : goal.tell_choosing-requires-clause-arranged
+tell_choosing-requires-clause-arranged g c = (c.args.program.now, c.requires)
+
+pub tell_choosing-requires-clause-kept : goal.tell_choosing-requires-clause-kept
+tell_choosing-requires-clause-kept g c = c.in_default.ensures.kept

@@ -32,3 +32,18 @@ returns-in-Some g c =
         λ h. (AllSame-refl (g.F.Folder.write_faults c.args.files.now), (faults.1 h).0, (faults.1 h).1),
       );
     }
+
+pub run_sweep-requires-clause-some : goal.run_sweep-requires-clause-some
+run_sweep-requires-clause-some g c =
+    let w : IsSweepOf (map string_bytes c.args.words.now) c.in-Some.sweep.tasks c.in-Some.sweep.instants = MatchOption-at_some _ _ c.in-Some.sweep c.in-Some.is c.in-Ok.ensures in
+    w.some_tasks
+
+pub run_sweep-requires-clause-few : goal.run_sweep-requires-clause-few
+run_sweep-requires-clause-few g c =
+    let w : IsSweepOf (map string_bytes c.args.words.now) c.in-Some.sweep.tasks c.in-Some.sweep.instants = MatchOption-at_some _ _ c.in-Some.sweep c.in-Some.is c.in-Ok.ensures in
+    w.few_tasks
+
+pub run_sweep-requires-clause-instants : goal.run_sweep-requires-clause-instants
+run_sweep-requires-clause-instants g c =
+    let w : IsSweepOf (map string_bytes c.args.words.now) c.in-Some.sweep.tasks c.in-Some.sweep.instants = MatchOption-at_some _ _ c.in-Some.sweep c.in-Some.is c.in-Ok.ensures in
+    w.few_instants

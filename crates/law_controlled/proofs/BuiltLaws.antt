@@ -89,7 +89,6 @@ use Rattle.hp_controlled.specs.Lacking.OneLacksMachines.{none_left, here, behind
 use Rattle.law_controlled.specs.Built.{ChosenBuiltLaw}
 use Rattle.law_controlled.specs.Early.{CanAsk, CircleLaw, WaitsForChoice}
 use Rattle.law_controlled.specs.Program.{MadeNodesLaw}
-use Rattle.law_controlled.specs.Remaining.{RemainingLaw}
 use Rattle.law_controlled.proofs.AskedLaws.{can_ask}
 use Rattle.law_controlled.proofs.BroughtLaws.{survey-in, survey-types}
 use Rattle.law_controlled.proofs.CircleLaws.{no_circle}
@@ -104,7 +103,7 @@ use Rattle.law_controlled.proofs.WaitingLaws.{never_waits, WaitingLaws}
 use Rattle.law_controlled.proofs.WellMadeLaws.{all as said_with, chosen_well}
 
 -- the laws that are joined here
-pub record RemainingLaws : Type 0 where
+pub record BuiltLaws : Type 0 where
   pub all_ranks : AllRanksLaw
   pub ranks : RanksLaw
   pub no_circle : NoCircleLaw
@@ -282,7 +281,7 @@ module _ (after : List Item) (k : Known) (enums : Enumerations) (places : List �
         let s = surveyed seen own (length l.node.inputs) (walked l.node l.plant) l.plant in
         (types_in s.node s.free ≡ map (flat_type places) (free_types (slots_of_node after l.node))) × AreIn s.node s.free
 
-  module _ (laws : RemainingLaws) (program : List Item) (ranks : List (List ℕ)) (order : IsInOrder program after ranks) (form : TypesForm types) (are : (x : List ℕ) → places x ≡ numbered 0 (map (λ (d : TypeDecl). d.name) decls) x)
+  module _ (laws : BuiltLaws) (program : List Item) (ranks : List (List ℕ)) (order : IsInOrder program after ranks) (form : TypesForm types) (are : (x : List ℕ) → places x ≡ numbered 0 (map (λ (d : TypeDecl). d.name) decls) x)
       (same : types_of after ≡ decls) (seen_are : AreObserved after seen) (l : Lacking)
       (wells :
       (c : Contracted) → IsContracted types seen l.node c → (names : List (List ℕ)) → IsTurned types k names (lowered_node enums l.node) c.plant → IsMadeOf k (lowered_node enums l.node) c.plant → IsReadyMade types (calls_of types k) c.plant
@@ -420,7 +419,7 @@ record IsBuildable (program after : List Item) (ranks : List (List ℕ)) : Type 
   unsigned : EachNode (λ (n : Node). is_new n.name ≡ false) after
   spelled : IsSpelled after
 
-module _ (laws : RemainingLaws) (program after : List Item) (ranks : List (List ℕ)) (b : IsBuildable program after ranks) where
+module _ (laws : BuiltLaws) (program after : List Item) (ranks : List (List ℕ)) (b : IsBuildable program after ranks) where
   abbrev low : List Item
   low = lowered_program after
 
@@ -521,7 +520,7 @@ module _ (laws : RemainingLaws) (program after : List Item) (ranks : List (List 
       let made = laws.nodes after (obc_types_of after) are.observers (known_of low) (enumerations [] after) after are.plants have.nodes e.made have.are in
       none (has_form laws.formed program after q b.unsigned can_be b.spelled form ms are made)
 
-pub chosen_built_law : RemainingLaws → ChosenBuiltLaw
+pub chosen_built_law : BuiltLaws → ChosenBuiltLaw
 chosen_built_law laws text tokens program after ranks a p named typed defined formed initialised clocks fall kept none =
     let q = when_accepted text tokens program after a p named typed defined formed initialised clocks in
     let form = q.form in
@@ -545,7 +544,3 @@ chosen_built_law laws text tokens program after ranks a p named typed defined fo
       };
     } in
     are_built laws program after ranks b none
-
--- so nothing remains
-pub remaining_law : ChosenBuiltLaw → RemainingLaw
-remaining_law law text tokens program after ranks a p named typed defined formed initialised clocks fall kept none = absurd (law text tokens program after ranks a p named typed defined formed initialised clocks fall kept none)
