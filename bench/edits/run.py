@@ -167,8 +167,9 @@ def shown(text):
     told = text.partition('refused, as it must be')[2]
     if 'proof file names' in told:
         return 'a proof file names a fact that is gone'
-    goal = re.search(r'`([^`]+)`', told)
-    return f'`{goal[1]}`' if goal else re.sub(r'^: (note: )?(\S+:\d+:\d+: )?', '', told)
+    # a long name is cut where the line is
+    goal = re.search(r'`([^`]+)(`|$)', told)
+    return f"`{goal[1]}{'' if goal[2] else '..'}`" if goal else re.sub(r'^: (note: )?(\S+:\d+:\d+: )?', '', told)
 
 
 def write(results, crates):
