@@ -299,10 +299,12 @@ module _ (types : List TypeDecl) (u : Value → Value) (N N' : Nodes) (stands : 
       weak_met =
           let cs = choices into f Weak k (length until) (stays f k) 0 until in
           row_by types u N' decls' names' last_in' eqns (at Equations g') (λ j. EqnsStand stands (f.depth + 1) es (part Equations now) (part Tail (behind until j))) BothStand
-          (λ j l p. (p,
-          choices_stand types f Weak k all names last_in stay u N' decls' into names' last_in' target same lasts_same_in (λ i q. new_clock (of_transition Weak k i) (room, q)) (length until) (stays f k) tt refl N stands
-          (own_next f k Weak (length until) (stays f k) ∷ body_made) 0 until (omega arith) (omega (arith, few)) transitions until_given (at Equations g') until_now j until_is
-          (subst (λ es'. j ≡ equations types (reading u) N' decls' (eqns_of es') names' last_in' (at Equations g') j) (append_assoc cs (own_next f k Weak (length until) (stays f k) ∷ []) body_made) l)))
+          (λ j l p. (
+            p,
+            choices_stand types f Weak k all names last_in stay u N' decls' into names' last_in' target same lasts_same_in (λ i q. new_clock (of_transition Weak k i) (room, q)) (length until) (stays f k) tt refl N stands
+                (own_next f k Weak (length until) (stays f k) ∷ body_made) 0 until (omega arith) (omega (arith, few)) transitions until_given (at Equations g') until_now j until_is
+                (subst (λ es'. j ≡ equations types (reading u) N' decls' (eqns_of es') names' last_in' (at Equations g') j) (append_assoc cs (own_next f k Weak (length until) (stays f k) ∷ []) body_made) l),
+          ))
           all_met
 
       pub body_by : BodyMet types u N' stands enums tys to f k (block ds es) until fresh out' last last' g' now until_now w

@@ -138,8 +138,10 @@ module _ (types : List TypeDecl) (u : Value → Value) (N' : Nodes) (stands : Li
               (more_arms False other f.at no_arm)) v last (part ArmsOf sw) y) on
               ∙ ap (λ t. if (t && true) then arm_made.0 (Named y ∷ []) else last y) mine
               ∙ arm_made.4 y mine),
-          (inr (arm_made.3, inr (met.was_fresh ∙ sym met.is_fresh ∙ ap (λ i. i (Fresh ∷ [])) (sym arm_made.2.0), subst (BodyStands stands (f.depth + 1) until b body_now) (sym arm_made.2.0) met.so)),
-              λ t. subst (λ i. RowStands stands until until_now (part Equations i)) (sym arm_made.2.0) met.weak),
+          (
+            inr (arm_made.3, inr (met.was_fresh ∙ sym met.is_fresh ∙ ap (λ i. i (Fresh ∷ [])) (sym arm_made.2.0), subst (BodyStands stands (f.depth + 1) until b body_now) (sym arm_made.2.0) met.so)),
+            λ t. subst (λ i. RowStands stands until until_now (part Equations i)) (sym arm_made.2.0) met.weak,
+          ),
         )
 
   -- ---- where it is not
