@@ -1,6 +1,6 @@
 -- A node that sees by names sees in its body.
-use Rattle.std.proofs.Common.{◌≡◌, ℕ, ◌+◌, ◌≤◌, Bool, true, false, ◌&&◌, List, [], ◌∷◌, ◌++◌, length, reverse, refl, sym, ap, ap₂, subst, ◌∙◌, arith, if◌then◌else◌}
-use Rattle.std.specs.Prelude.{Option, None, Some}
+use Rattle.std.proofs.Common.{◌≡◌, ℕ, ◌+◌, ◌≤◌, Bool, true, false, ◌&&◌, List, [], ◌∷◌, ◌++◌, length, reverse, refl, sym, ap, ap₂, ◌∙◌, arith, if◌then◌else◌}
+use Rattle.std.specs.Prelude.{None, Some}
 use Rattle.std.proofs.lemmas.List.{append-nil, append_cancel_left, length-append}
 use Rattle.hp_base.specs.declared.span.Span.{Span}
 use Rattle.hp_base.specs.declared.ty.Ty.{Ty}
@@ -21,7 +21,7 @@ use Rattle.law_equations.specs.Flattened.Flatten.{Prefix, below}
 use Rattle.law_choices.specs.Flat.Names.{is_body_name}
 use Rattle.law_choices.specs.Places.Groups.{compared_groups, free_outputs, groups, groups_of_all, groups_of_arms, groups_of_block, groups_of_conditions, groups_of_equation, groups_of_equations, groups_of_parts, groups_of_states, in_a_row}
 use Rattle.law_choices.specs.Playing.Inputs.{placed, places_in_row}
-use Rattle.law_choices.specs.Seeing.ByName.{Naming, SeesByName, are_named, is_integer, named_by, named_in, named_in_body, of_call, of_comparison, outputs_in, places_named, places_of_outputs, types_around}
+use Rattle.law_choices.specs.Seeing.ByName.{SeesByName, are_named, named_by, named_in, named_in_body, of_call, of_comparison, outputs_in, places_named, places_of_outputs, types_around}
 use Rattle.law_choices.specs.Seeing.InBody.{SeesInBody, free_in_body, no_slots}
 use Rattle.law_choices.proofs.PlacesLemmas.Grouped.{block-row, lasts-none}
 use Rattle.law_choices.proofs.PlacesLemmas.Relating.{along-both}
