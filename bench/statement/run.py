@@ -27,7 +27,7 @@ CLAIMS = {
     '5 `prove` and `verify`': ('contracts', 'hp_cert hp_quant'),
     '6 a stopped run goes on': ('checkpoints resumed', 'hp_exec hp_obctext'),
     'each status has its cause': ('words faults system', 'hp_io hp_driver'),
-    'values that are chosen (proved of nodes that compare integers and call outside of transitions and contracts, tested of others)': ('controlled worked', 'hp_control hp_watch hp_controlled'),
+    'values that are chosen (proved where no contract compares integers, tested of others)': ('controlled worked', 'hp_control hp_watch hp_controlled'),
 }
 LAST_PART = '\n## For proofs alone'
 START = 'crates/hp_driver/src/tool.rt', 'run_tool'

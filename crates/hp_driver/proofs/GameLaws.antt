@@ -29,7 +29,7 @@ mirrored law files file name c has =
     let held = c.held in
     law held.text held.judged.program_of.tokens c.program held.clocked held.ranks (accepted_by held.text c.program held.clocked held.ranks held.judged held.arranged) name c.node c.named has.machine has.is_machine
 
--- what machines say that choose, the program allows, with the greatest permitted values where nothing is free but the inputs, and comparisons of integers and outputs of calls in the body, outside of transitions
+-- what machines say that choose, the program allows, with the greatest permitted values where nothing is free but the inputs, and comparisons of integers and outputs of calls in the body
 pub all_greatest : GreatestSaidLaw → (files : Option Files) (file : List ℕ) (program : List Item) (held : IsHeld files file program) (o : Obc) → AllSafe held.clocked (reverse held.clocked) → AreControlledMachines held.clocked o
     → AllSayGreatest held.clocked o
 all_greatest law files file program held o safe machines =

@@ -144,7 +144,7 @@ pub(crate) fn run_choosing<N: Answers, C: Console, E: Sink>(
     let Some(found) = node_named(ordered, node) else {
         return report_no_node(resources.alloc, diag, node);
     };
-    // Laws: each line that the machines say is one that the program allows; where nothing is free but inputs, and comparisons of integers and outputs of calls in bodies, outside of transitions, with the greatest permitted values. And the node has a machine of its name.
+    // Laws: each line that the machines say is one that the program allows; where nothing is free but inputs, and comparisons of integers and outputs of calls in bodies, with the greatest permitted values. And the node has a machine of its name.
     machines_of_texts_choose_the_greatest();
     nodes_have_their_machines();
     match chosen_machines(resources.alloc, ordered) {
@@ -222,7 +222,7 @@ pub(crate) fn tell_choosing<N: Answers, C: Console, E: Sink>(
     let Some(node) = node_named(ordered, name) else {
         return report_no_node(resources.alloc, diag, name);
     };
-    // Laws: each line that the machines say is one that the program allows; where nothing is free but inputs, and comparisons of integers and outputs of calls in bodies, outside of transitions, with the greatest permitted values. And the node has a machine of its name, as has its contract.
+    // Laws: each line that the machines say is one that the program allows; where nothing is free but inputs, and comparisons of integers and outputs of calls in bodies, with the greatest permitted values. And the node has a machine of its name, as has its contract.
     machines_of_texts_choose_the_greatest();
     nodes_have_their_machines();
     match chosen_machines(resources.alloc, ordered) {

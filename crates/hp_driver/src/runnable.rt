@@ -116,7 +116,7 @@ fn choosing_runnable<E: Sink>(
     let Some(found) = node_named(ordered, node) else {
         return Err(report_no_node(alloc, diag, node));
     };
-    // Laws: each line that the machines say is one that the program allows; where nothing is free but inputs, and comparisons of integers and outputs of calls in bodies, outside of transitions, with the greatest permitted values. And the node has a machine of its name.
+    // Laws: each line that the machines say is one that the program allows; where nothing is free but inputs, and comparisons of integers and outputs of calls in bodies, with the greatest permitted values. And the node has a machine of its name.
     machines_of_texts_choose_the_greatest();
     nodes_have_their_machines();
     match chosen_machines(alloc, ordered) {
@@ -143,7 +143,7 @@ fn decided_runnable<E: Sink>(
     ensures status { IfErr result (λ status. code_of status ≢ 4) }
     ensures faults { PutFaults (ending result) (E.faults diag.old) (E.faults diag.new) }
 {
-    // Laws: what is found of contracts says so of their games; machines do what nodes do; and each line that machines say which choose is one that the program allows, where nothing is free but inputs, and comparisons of integers and outputs of calls in bodies, outside of transitions, with the greatest permitted values.
+    // Laws: what is found of contracts says so of their games; machines do what nodes do; and each line that machines say which choose is one that the program allows, where nothing is free but inputs, and comparisons of integers and outputs of calls in bodies, with the greatest permitted values.
     outcomes_are_so();
     machines_run_the_nodes_of_texts();
     machines_keep_contracts();

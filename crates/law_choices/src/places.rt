@@ -26,7 +26,7 @@ pub fn free_places_are_found()
     ensures { SlotsLaw }
 {}
 
-/// Where an instant without automata stands for one of the program, what the walk finds outside of transitions has the same values in both, wherever it is there.
+/// Where an instant without automata stands for one of the program, what the walk finds has the same values in both, wherever it is there.
 pub fn found_places_keep_values()
     ensures { ValuesLaw }
 {}

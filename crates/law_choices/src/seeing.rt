@@ -49,7 +49,7 @@ pub fn machines_that_see_values_choose()
     machines_go_along();
 }
 
-/// Outside of transitions, what a walk over a node finds has its value in the filled form of the program without automata too, wherever it is there and not Nil: in the one reaction with chosen values.
+/// What a walk over a node finds has its value in the filled form of the program without automata too, wherever it is there and not Nil: in the one reaction with chosen values.
 pub fn found_places_keep_their_values()
     ensures { FilledFoundLaw }
 {}
@@ -145,7 +145,7 @@ pub fn named_places_are_seen()
     machine_choices_are_kept();
 }
 
-/// So they do if nothing is free in a node but its inputs, and comparisons of integers and outputs of calls in its body, wherever these stand outside of transitions: the equations hold values of the free places: of their types, and the reaction's own wherever an instant looks at them.
+/// So they do if nothing is free in a node but its inputs, and comparisons of integers and outputs of calls in its body, wherever these stand: the equations hold values of the free places: of their types, and the reaction's own wherever an instant looks at them.
 pub fn places_of_bodies_are_seen()
     ensures { SeenInBodyLaw }
 {

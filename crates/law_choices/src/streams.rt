@@ -56,7 +56,7 @@ pub fn meanings_give_the_chosen_reactions()
     equations_keep_names_under_each_choice();
 }
 
-/// In it the variables of what compares or calls stand for places of the program without automata, and outside of transitions they have the values that the comparisons and calls of the node have, wherever these are there and not Nil.
+/// In it the variables of what compares or calls stand for places of the program without automata, and they have the values that the comparisons and calls of the node have, wherever these are there and not Nil.
 pub fn meanings_keep_places()
     ensures { PlacesLaw }
 {

@@ -28,7 +28,7 @@ InEach P (NodeItem n ∷ earlier) f past now =
     (P n past now × All (λ (k : Placed). IsTrue (is_there (instance_at k now (Fresh ∷ []))) → InEach P earlier k.point.name (own_past (k.place ++ (Instance ∷ [])) past now) (instance_at k now)) (calls_of n))
     (InEach P earlier f past now)
 
--- Nothing is free in a node but its inputs, or but these and comparisons of integers and outputs of calls that stand in the body, outside of transitions.
+-- Nothing is free in a node but its inputs, or but these and comparisons of integers and outputs of calls that stand in the body.
 abbrev pub IsSeen : List Item → Node → Type 0
 IsSeen program n = HasInputsAlone program n ⊎ SeesInBody program n
 

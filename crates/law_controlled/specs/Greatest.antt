@@ -1,4 +1,4 @@
--- Machines that say runs of the greatest permitted values: so does that of each node of which nothing is free but the inputs, and comparisons of integers and outputs of calls in the body, outside of transitions; and it keeps its contract, if it calls nothing.
+-- Machines that say runs of the greatest permitted values: so does that of each node of which nothing is free but the inputs, and comparisons of integers and outputs of calls in the body; and it keeps its contract, if it calls nothing.
 -- Source: own; the controller of Delaval, Marchand and Rutten (LCTES 2010).
 use Rattle.std.specs.Prelude.{◌≡◌, codes, ℕ, IsTrue, List, [], ◌∷◌, ◌++◌, reverse, Some}
 use Rattle.std.specs.List.{AllByRecursion}
@@ -35,7 +35,7 @@ pub record IsGreatest (program : List Item) (n : Node) (past : Past) : Type 0 wh
   pub duty : HasContract n → KeepsDuty n past
   pub contract : HasContract n → calls_of n ≡ [] → KeepsContract past
 
--- What is said over inputs, newest first, is a run that the program allows. If nothing is free in the node but its inputs, and comparisons of integers and outputs of calls in the body, outside of transitions, the values in this run are the greatest permitted ones; so, if it calls nothing, it is the run of chosen values, and what is told beside, newest first, are the assumption and the guarantee of its contract in this run. Whatever the node is, each instance in the run, at every depth, has the greatest permitted values if nothing is free in its node but inputs, and such comparisons and outputs.
+-- What is said over inputs, newest first, is a run that the program allows. If nothing is free in the node but its inputs, and comparisons of integers and outputs of calls in the body, the values in this run are the greatest permitted ones; so, if it calls nothing, it is the run of chosen values, and what is told beside, newest first, are the assumption and the guarantee of its contract in this run. Whatever the node is, each instance in the run, at every depth, has the greatest permitted values if nothing is free in its node but inputs, and such comparisons and outputs.
 pub record IsSteeredRun (program : List Item) (f : List ℕ) (n : Node) (inputs said told : List (List Value)) : Type 0 where
   pub allowed : IsAllowedRun program f inputs said
   pub greatest : SeesAll program n → IsGreatest program n allowed.past

@@ -1,16 +1,17 @@
--- Nodes with a controllable variable of which nothing is free but the inputs, comparisons of integers, and outputs of calls. A heater has three modes, one of which is chosen: it is off where it is hot, and never goes from full to off at once, if a warning comes before it gets hot. A house calls it. A cooler is told a temperature, and is off where that is low. A store calls it, and tells it less than is measured. A pump calls a latch with a contract, which tells whether the level was ever high, and does not run then. A valve compares a sum inside an `if`, and names it nowhere.
+-- Nodes with a controllable variable of which nothing is free but the inputs, comparisons of integers, and outputs of calls. A heater has three modes, one of which is chosen: it is off where it is hot, and never goes from full to off at once, if a warning comes before it gets hot. A house calls it. A cooler is told a temperature, and is off where that is low. A store calls it, and tells it less than is measured. A pump calls a latch with a contract, which tells whether the level was ever high, and does not run then. A valve compares a sum inside an `if`, and names it nowhere. A tap compares sums in its transitions.
 -- Source: own.
 use Rattle.std.specs.Prelude.{◌≡◌, codes, true, false, ℕ, pos, IsTrue, List, [], ◌∷◌, ◌++◌, None, Some, map, reverse}
 use Rattle.hp_base.specs.declared.span.Span.{Span}
 use Rattle.hp_base.specs.declared.ty.Const.TheVariants as const
 use Rattle.hp_base.specs.declared.ty.Ty.{Ty}
 use Rattle.hp_base.specs.declared.ty.Ty.TheVariants as ty
+use Rattle.hp_tree.specs.declared.block.Trans.{Trans}
 use Rattle.hp_tree.specs.declared.decl.Cons.TheVariants.{True}
 use Rattle.hp_tree.specs.declared.expr.Op1.TheVariants.{Not}
 use Rattle.hp_tree.specs.declared.expr.Op2.TheVariants.{Add, And, Eq, Gt, Imp, Lt, Or, Sub}
 use Rattle.hp_tree.specs.declared.program.Item.{Item}
 use Rattle.hp_tree.specs.declared.program.Item.TheVariants.{NodeItem, TypeItem}
-use Rattle.hp_tree.specs.Blocks.{Block, Decl, Eqn, block, define, eqns_of}
+use Rattle.hp_tree.specs.Blocks.{Block, Decl, Eqn, States, automaton, block, define, eqns_of, more_states, no_state}
 use Rattle.hp_tree.specs.Expressions.{Expr, call, choose, constant, fby, more_exprs, no_expr, one, two, variable, when_is}
 use Rattle.hp_tree.specs.Instant.{Body, Equations, Fresh, Head, Instance, Instant, Past, Right}
 use Rattle.hp_tree.specs.Operators.{is_there}
@@ -266,3 +267,37 @@ abbrev pub ValveLaw : Type 0
 ValveLaw =
     HasContract valve × (SeesByName valving valve → ⊥) × SeesInBody valving valve
     × ((past : Past) (now : Instant) → InEach (IsGreatestIfSeen valving) (reverse valving) valve.name past now → IsGreatestAt valving valve past now)
+
+-- ---- a tap that compares in its transitions
+
+-- where less than one flows it is free again
+abbrev little : Expr
+little = two somewhere Lt (two somewhere Add (read (codes "in")) (read (codes "out"))) (constant somewhere (const.I (pos 1)))
+
+abbrev going : Expr → List ℕ → Trans
+going e q = record { cond = e; restart = true; target = q; span = somewhere }
+
+-- it is closed as it is told until much flows, and then it stays closed unless little flows
+abbrev its_states : States
+its_states =
+    more_states (codes "Free") (block [] (eqns_of (equals (codes "closed") (read (codes "told")) ∷ []))) (going much (codes "Stopped") ∷ []) [] somewhere
+    (more_states (codes "Stopped") (block [] (eqns_of (equals (codes "closed") (constant somewhere (const.B true)) ∷ []))) [] (going little (codes "Free") ∷ []) somewhere no_state)
+
+abbrev pub tap : Node
+tap = record {
+  name = codes "tap";
+  inputs = valve.inputs;
+  outputs = valve.outputs;
+  contract = Some shut_promise;
+  body = block [] (eqns_of (automaton somewhere its_states ∷ equals (codes "open") (read (codes "on")) ∷ []));
+  span = somewhere;
+}
+
+abbrev pub tapping : List Item
+tapping = NodeItem tap ∷ []
+
+-- It has a contract, and its comparisons stand in a weak and in a strong transition. It sees in its body, so where each instance that sees all has the greatest permitted values, the tap has them in each of its runs.
+abbrev pub TapLaw : Type 0
+TapLaw =
+    HasContract tap × SeesInBody tapping tap
+    × ((past : Past) (now : Instant) → InEach (IsGreatestIfSeen tapping) (reverse tapping) tap.name past now → IsGreatestAt tapping tap past now)

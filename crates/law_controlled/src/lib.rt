@@ -16,7 +16,7 @@ ghost use Rattle.law_controlled.specs.One.{OneListLaw, OneTextListLaw};
 ghost use Rattle.law_controlled.specs.Parts.{MadePartLaw};
 ghost use Rattle.law_controlled.specs.Said.{GreatestSaidLaw, SaidLaw};
 ghost use Rattle.law_controlled.specs.Program.{ChoosingNamesLaw, MadeNamesLaw, MadeNodesLaw};
-ghost use Rattle.law_controlled.specs.Worked.{CoolerLaw, HeaterLaw, HouseLaw, PumpLaw, StoreLaw, ValveLaw};
+ghost use Rattle.law_controlled.specs.Worked.{CoolerLaw, HeaterLaw, HouseLaw, PumpLaw, StoreLaw, TapLaw, ValveLaw};
 
 use hp_abstract::nodes_have_one_abstraction;
 use hp_form::regular::regular_equations_have_form;
@@ -155,7 +155,7 @@ pub fn machines_of_texts_say_what_is_allowed()
     contracts_of_texts_can_be_observed();
 }
 
-/// And if nothing is free in such a node but its inputs, and comparisons of integers and outputs of calls in its body, outside of transitions, the controllable variables have the greatest permitted values in that reaction; so it keeps its contract. So it is of each instance in the reaction, at every depth, if nothing is free in its node but inputs and such comparisons and outputs. The machine of a contract says what the machine of its node says, with two truth values behind; if the node is such a node, and it calls nothing, these are the values of the assumption and of the guarantee in that reaction.
+/// And if nothing is free in such a node but its inputs, and comparisons of integers and outputs of calls in its body, the controllable variables have the greatest permitted values in that reaction; so it keeps its contract. So it is of each instance in the reaction, at every depth, if nothing is free in its node but inputs and such comparisons and outputs. The machine of a contract says what the machine of its node says, with two truth values behind; if the node is such a node, and it calls nothing, these are the values of the assumption and of the guarantee in that reaction.
 pub fn machines_of_texts_choose_the_greatest()
     ensures { GreatestSaidLaw }
 {
@@ -305,4 +305,9 @@ pub fn a_worked_pump()
 /// In a valve that is told two flows, and compares their sum inside an `if`, nothing is free but the inputs and that comparison, which has no name. So it has the greatest permitted values.
 pub fn a_worked_valve()
     ensures { ValveLaw }
+{}
+
+/// In a tap that is told two flows, and compares their sum in a weak and in a strong transition, nothing is free but the inputs and these comparisons. So it has the greatest permitted values.
+pub fn a_worked_tap()
+    ensures { TapLaw }
 {}

@@ -9,8 +9,8 @@ use Rattle.hp_tree.specs.Expressions.{Expr}
 use Rattle.std.proofs.lemmas.List.{append_assoc}
 use Rattle.hp_tree.specs.Blocks.{Decl, Block, block, Eqns, Eqn, States, eqns_of}
 use Rattle.hp_tree.specs.Programs.{TypeDecl}
-use Rattle.hp_tree.specs.Instant.{Named, Fresh, Equations, Head, Tail, Instant, Given, at, part, parts}
-use Rattle.hp_tree.specs.Meaning.{Names, Nodes, Jump, defined, scope, inside, from_block, lasts, declares, some_defines, block_defines, defines, number_of, clock_in, written}
+use Rattle.hp_tree.specs.Instant.{Named, Fresh, Equations, Head, Tail, Instant, Given, at, part, parts, in_row}
+use Rattle.hp_tree.specs.Meaning.{Names, Nodes, Jump, conditions, equations, defined, scope, inside, from_block, lasts, declares, some_defines, block_defines, defines, number_of, clock_in, written}
 use Rattle.hp_automata.specs.declared.new_names.Word.{Word}
 use Rattle.hp_automata.specs.declared.new_names.Word.TheVariants.{Next, Weak}
 use Rattle.hp_automata.specs.NewNames.{state_word, transition_word, value_name}
@@ -20,7 +20,7 @@ use Rattle.hp_automata.specs.Renaming.{renamed_decls}
 use Rattle.hp_automata.specs.Lowering.{Types, Enumerations, declaring, Frame, inner, all_kept, transition_locals, choices, chosen, stays, own_next, weak_eqns, lowered_body}
 use Rattle.law_automata.specs.Lowered.OldNames.{IsOld}
 use Rattle.law_automata.specs.Lowered.Removable.{Known, and_defined, TransitionsOk, most, deepest}
-use Rattle.law_automata.specs.Lowered.Standing.{Relation, Along, BodyStands, EqnsStand, behind, code_of}
+use Rattle.law_automata.specs.Lowered.Standing.{Relation, Along, BodyStands, EqnsStand, RowStands, behind, code_of}
 use Rattle.law_automata.specs.Lowered.Giving.{BodyGiven, EqnsGiven}
 use Rattle.law_automata.specs.Lowered.Deciding.{Property, EqnsDecided}
 use Rattle.law_automata.proofs.LoweredLemmas.Pasts.{along_map, along_right}
@@ -32,12 +32,12 @@ use Rattle.law_automata.proofs.LoweredLemmas.Renaming.{Renames, to_apart, local,
 use Rattle.law_automata.proofs.LoweredLemmas.Lookups.{choices_declared}
 use Rattle.law_automata.proofs.LoweredLemmas.Defined.{outward}
 use Rattle.law_automata.proofs.LoweredLemmas.Expressions.{reading}
-use Rattle.law_automata.proofs.LoweredLemmas.Rows.{RowMet, EachMet, Anyhow, behind_given, along_behind, behind_free, plain_met, row_so, row_more, row_append}
+use Rattle.law_automata.proofs.LoweredLemmas.Rows.{RowMet, EachMet, Anyhow, behind_given, along_behind, behind_free, plain_met, row_by, row_so, row_more, row_append}
 use Rattle.law_automata.proofs.LoweredLemmas.BlockMaking.{value_of, block_made, NoLast, OnBase, ClocksSame, clock_kept, clock_old, base_clock}
 use Rattle.law_automata.proofs.LoweredLemmas.Around.{Undone, Around, EqnsStep}
 use Rattle.law_automata.proofs.LoweredLemmas.BlockSteps.{AroundBlock, made, made_complete, same_read, left_out, lasts_in, lasts_out, kept_each}
 use Rattle.law_automata.proofs.LoweredLemmas.Jumps.{first_pure, AllDecided}
-use Rattle.law_automata.proofs.LoweredLemmas.Chains.{KnowsChoices, with_choices, passes_choices, choices_known, chosen_value, choices_met, plain_link}
+use Rattle.law_automata.proofs.LoweredLemmas.Chains.{KnowsChoices, with_choices, passes_choices, choices_known, chosen_value, choices_met, choices_stand, plain_link}
 
 -- ---- which name it is, in a state
 
@@ -112,10 +112,11 @@ behind_choices to f w k n end j (t ∷ ts) i = behind_choices to f w k n end (j 
 
 -- an instant of what stands for the body of a state
 pub record BodyMet (types : List TypeDecl) (u : Value → Value) (N' : Nodes) (stands : List ℕ → Relation) (enums : Enumerations) (tys : Types) (to : List ℕ → List ℕ) (f : Frame) (k : ℕ) (b : Block) (until : List Trans) (fresh : Bool)
-    (out' last last' : Names) (g' : Given) (now : Instant) (w : Jump) : Type 0 where
+    (out' last last' : Names) (g' : Given) (now until_now : Instant) (w : Jump) : Type 0 where
   pub instant : Instant
   pub meets : instant ≡ scope types (reading u) N' (lowered_body enums to tys f k b until) fresh out' last' g' instant
   pub so : BodyStands stands (f.depth + 1) until b now instant
+  pub weak : RowStands stands until until_now (part Equations instant)
   pub was_fresh : now (Fresh ∷ []) ≡ B fresh
   pub is_fresh : instant (Fresh ∷ []) ≡ B fresh
   pub next : instant (Named (state_word Next f.depth k) ∷ []) ≡ I (pos (code_of w))
@@ -289,20 +290,38 @@ module _ (types : List TypeDecl) (u : Value → Value) (N N' : Nodes) (stands : 
     value_by result h x q true e = given_name result h x (old x q) (inr q) ∙ ap (λ t. if t then now (Named x ∷ []) else out x) (and_first (some_defines es x) _ e)
     value_by result h x q false e = given_name result h x (old x q) (inr q) ∙ left_out types enums f.at a now x q e
 
-    pub body_by : BodyMet types u N' stands enums tys to f k (block ds es) until fresh out' last last' g' now w
-    body_by =
-        let result = block_made types u N' decls' eqns names' out' last' g' fresh outside (λ j. EqnsStand stands (f.depth + 1) es (part Equations now) (part Tail (behind until j))) all_met in
-        record {
-          instant = result.0;
-          meets = result.1;
-          so = (
-            (λ x h.
-                let l = local (and_defined e outer) es ds a.ok.0 x h in
-                sym (given_name result.0 result.4 x l.old (inl l.defined) ∙ ap (λ t. if t then now (Named x ∷ []) else out x) l.defined) ∙ ap (λ z. result.0 (Named z ∷ [])) (local_kept a.renames es ds a.ok.0 x h)),
-            result.2,
-          );
-          was_fresh = ap (λ i. i (Fresh ∷ [])) m;
-          is_fresh = result.3;
-          next = result.4 (state_word Next f.depth k) next_defined ∙ next_word;
-          values = λ x q. ap (λ z. result.0 (Named z ∷ [])) (sym (ap (λ t. if t then value_name f.depth k x else to x) q)) ∙ value_by result.0 result.4 x q (block_defines (block ds es) x) refl;
-        }
+    module _ (until_given : Given) (until_now : Instant) (until_is : until_now ≡ in_row (conditions types (reading u) N until names last_in until_given until_now)) where
+      abbrev BothStand : Property
+      BothStand j = EqnsStand stands (f.depth + 1) es (part Equations now) (part Tail (behind until j)) × RowStands stands until until_now j
+
+      -- the conditions of the weak transitions stand in the first equations
+      weak_met : RowMet types u N' decls' names' last_in' eqns (at Equations g') BothStand
+      weak_met =
+          let cs = choices into f Weak k (length until) (stays f k) 0 until in
+          row_by types u N' decls' names' last_in' eqns (at Equations g') (λ j. EqnsStand stands (f.depth + 1) es (part Equations now) (part Tail (behind until j))) BothStand
+          (λ j l p. (
+            p,
+            choices_stand types f Weak k all names last_in stay u N' decls' into names' last_in' target same lasts_same_in (λ i q. new_clock (of_transition Weak k i) (room, q)) (length until) (stays f k) tt refl N stands
+                (own_next f k Weak (length until) (stays f k) ∷ body_made) 0 until (omega arith) (omega (arith, few)) transitions until_given (at Equations g') until_now j until_is
+                (subst (λ es'. j ≡ equations types (reading u) N' decls' (eqns_of es') names' last_in' (at Equations g') j) (append_assoc cs (own_next f k Weak (length until) (stays f k) ∷ []) body_made) l),
+          ))
+          all_met
+
+      pub body_by : BodyMet types u N' stands enums tys to f k (block ds es) until fresh out' last last' g' now until_now w
+      body_by =
+          let result = block_made types u N' decls' eqns names' out' last' g' fresh outside BothStand weak_met in
+          record {
+            instant = result.0;
+            meets = result.1;
+            so = (
+              (λ x h.
+                  let l = local (and_defined e outer) es ds a.ok.0 x h in
+                  sym (given_name result.0 result.4 x l.old (inl l.defined) ∙ ap (λ t. if t then now (Named x ∷ []) else out x) l.defined) ∙ ap (λ z. result.0 (Named z ∷ [])) (local_kept a.renames es ds a.ok.0 x h)),
+              result.2.0,
+            );
+            weak = result.2.1;
+            was_fresh = ap (λ i. i (Fresh ∷ [])) m;
+            is_fresh = result.3;
+            next = result.4 (state_word Next f.depth k) next_defined ∙ next_word;
+            values = λ x q. ap (λ z. result.0 (Named z ∷ [])) (sym (ap (λ t. if t then value_name f.depth k x else to x) q)) ∙ value_by result.0 result.4 x q (block_defines (block ds es) x) refl;
+          }

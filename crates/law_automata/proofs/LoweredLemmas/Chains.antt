@@ -1,5 +1,5 @@
 -- The words of transitions: each has the jump that the transitions from it on choose.
-use Rattle.std.proofs.Common.{◌≡◌, ℕ, ◌+◌, ◌<◌, ◌≤◌, nat_lt, length, Bool, true, false, List, [], ◌∷◌, refl, sym, ap, ◌∙◌, arith}
+use Rattle.std.proofs.Common.{◌≡◌, ℕ, ◌+◌, ◌<◌, ◌≤◌, nat_lt, length, Bool, true, false, List, [], ◌∷◌, ◌++◌, refl, sym, ap, ◌∙◌, arith}
 use Rattle.std.specs.Prelude.{pos, ⊤, if◌then◌else◌}
 use Rattle.std.specs.Str.{bytes_eq}
 use Rattle.std.proofs.lemmas.Bool.Decides.{nat_tests}
@@ -8,22 +8,23 @@ use Rattle.hp_base.specs.declared.value.Value.{Value}
 use Rattle.hp_base.specs.declared.value.Value.TheVariants.{B, I}
 use Rattle.hp_tree.specs.declared.block.Trans.{Trans}
 use Rattle.hp_tree.specs.Expressions.{Expr, variable, choose}
-use Rattle.hp_tree.specs.Blocks.{Decl, States}
+use Rattle.hp_tree.specs.Blocks.{Decl, Eqn, States, eqns_of}
 use Rattle.hp_tree.specs.Programs.{TypeDecl}
 use Rattle.hp_tree.specs.Operators.{is_true, if_of}
-use Rattle.hp_tree.specs.Meaning.{Names, Nodes, Jump, number_of, clock_in, declares}
+use Rattle.hp_tree.specs.Instant.{Head, Tail, Right, First, Instant, Given, at, part, in_row}
+use Rattle.hp_tree.specs.Meaning.{Names, Nodes, Jump, expr, equations, conditions, number_of, clock_in, declares}
 use Rattle.hp_automata.specs.declared.new_names.Word.{Word}
 use Rattle.hp_automata.specs.NewNames.{transition_word}
 use Rattle.hp_automata.specs.Renaming.{renamed}
 use Rattle.hp_automata.specs.Lowering.{Frame, code, link, chosen, choices, number, transition_locals}
 use Rattle.law_automata.specs.Lowered.OldNames.{IsOld}
 use Rattle.law_automata.specs.Lowered.Removable.{Plain, TransitionsOk, most}
-use Rattle.law_automata.specs.Lowered.Standing.{code_of}
+use Rattle.law_automata.specs.Lowered.Standing.{Relation, RowStands, code_of}
 use Rattle.law_automata.proofs.LoweredLemmas.Spelling.{New, of_transition}
 use Rattle.law_automata.proofs.LoweredLemmas.Apart.{told, bytes_same, bytes_differ}
 use Rattle.law_automata.proofs.LoweredLemmas.Tests.{or_left, or_right}
-use Rattle.law_automata.proofs.LoweredLemmas.Expressions.{ap₃}
-use Rattle.law_automata.proofs.LoweredLemmas.Plain.{pure, pure_renamed, plain_renamed}
+use Rattle.law_automata.proofs.LoweredLemmas.Expressions.{ap₃, reading}
+use Rattle.law_automata.proofs.LoweredLemmas.Plain.{pure, pure_renamed, plain_renamed, plain_stands}
 use Rattle.law_automata.proofs.LoweredLemmas.Rows.{EachMet, plain_met}
 use Rattle.law_automata.proofs.LoweredLemmas.Jumps.{first_pure, AllDecided, if_jump}
 
@@ -104,6 +105,16 @@ module _ (types : List TypeDecl) where
           ap₃ if_of (c ∙ d.1) (ap (λ q. I (pos (code q t.restart))) (target t.target)) e
           ∙ if_jump d.0 jump rest
           ∙ ap (λ b. I (pos (code_of (if is_true b then jump else rest)))) (sym d.1)
+
+      -- Where such equations hold, with any behind them, the conditions in them stand for those of the transitions.
+      pub choices_stand : (N₀ : Nodes) (stands : List ℕ → Relation) (more : List Eqn) (j : ℕ) (ts : List Trans) → j + length ts ≡ n → n ≤ most → TransitionsOk all ts → (g g' : Given) (now low : Instant)
+          → now ≡ in_row (conditions types (reading u) N₀ ts names last g now) → low ≡ equations types (reading u) N ds (eqns_of (choices to f w k n end j ts ++ more)) names' last' g' low → RowStands stands ts now low
+      choices_stand N₀ stands more j [] e room ok g g' now low m l = tt
+      choices_stand N₀ stands more j (t ∷ ts) e room ok g g' now low m l = (
+        plain_stands types u N₀ N stands to names' names last' last same lasts t.cond ok.0.1 ok.0.0 (at Head g) (at First (at Right (at Head g'))) (part Head now) (part First (part Right (part Head low))) (ap (part Head) m)
+            (ap (λ i. part First (part Right (part Head i))) l ∙ ap (λ ck. expr types (reading u) N (renamed to t.cond) ck names' last' (at First (at Right (at Head g'))) (part First (part Right (part Head low)))) (clock j (omega arith))),
+        choices_stand N₀ stands more (j + 1) ts (omega arith) room ok.1 (at Tail g) (at Tail g') (part Tail now) (part Tail low) (ap (part Tail) m) (ap (part Tail) l),
+      )
 
       pub choices_met : (j : ℕ) (ts : List Trans) → j + length ts ≡ n → n ≤ most → TransitionsOk all ts → AllDecided types ts names last → KnowsChoices names' j ts → EachMet types u N ds names' last' (choices to f w k n end j ts)
       choices_met j [] e room ok dec h = tt

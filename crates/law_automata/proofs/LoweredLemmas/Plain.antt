@@ -1,5 +1,5 @@
 -- The value of an expression that remembers nothing, by the values of names alone.
-use Rattle.std.proofs.Common.{◌≡◌, ℕ, List, [], refl, ap, ap₂}
+use Rattle.std.proofs.Common.{◌≡◌, ℕ, List, [], refl, sym, ap, ap₂, ◌∙◌}
 use Rattle.hp_base.specs.declared.span.Span.{Span}
 use Rattle.hp_base.specs.declared.value.Value.{Value}
 use Rattle.hp_base.specs.declared.value.Value.TheVariants.{Absent}
@@ -11,6 +11,7 @@ use Rattle.hp_tree.specs.Meaning.{Names, Nodes, expr, right}
 use Rattle.hp_automata.specs.Renaming.{renamed}
 use Rattle.law_automata.specs.Lowered.OldNames.{IsOld, OldExpr}
 use Rattle.law_automata.specs.Lowered.Removable.{Plain}
+use Rattle.law_automata.specs.Lowered.Standing.{Relation, ExprStands}
 use Rattle.law_automata.proofs.LoweredLemmas.Expressions.{ap₃, reading}
 
 module _ (types : List TypeDecl) where
@@ -101,3 +102,33 @@ plain_renamed to (arrow s a b) q = absurd q
 plain_renamed to (when_is s a c x) q = absurd q
 plain_renamed to (merge s x ps) q = absurd q
 plain_renamed to (call s f i es) q = absurd q
+
+-- Instants of it and of what it becomes with replaced names have the same values in all places.
+module _ (types : List TypeDecl) (u : Value → Value) (N N' : Nodes) (stands : List ℕ → Relation) (to : List ℕ → List ℕ) (names' names last' last : Names) (same : (x : List ℕ) → IsOld x → names' (to x) ≡ names x)
+    (lasts : (x : List ℕ) → IsOld x → last' x ≡ last x) where
+  tops_same : (e : Expr) → Plain e → OldExpr e → (g h : Given) (i j : Instant) → i ≡ expr types (reading u) N e [] names last g i → j ≡ expr types (reading u) N' (renamed to e) [] names' last' h j → top i ≡ top j
+  tops_same e q o g h i j m l =
+      ap top m ∙ plain_top types u N e q names last g i ∙ sym (pure_renamed types to names' names last' last same lasts e q o) ∙ sym (plain_top types u N' (renamed to e) (plain_renamed to e q) names' last' h j) ∙ sym (ap top l)
+
+  pub plain_stands : (e : Expr) → Plain e → OldExpr e → (g h : Given) (i j : Instant) → i ≡ expr types (reading u) N e [] names last g i → j ≡ expr types (reading u) N' (renamed to e) [] names' last' h j → ExprStands stands e i j
+  plain_stands (constant s c) q o g h i j m l = tops_same (constant s c) q o g h i j m l
+  plain_stands (variable s x) q o g h i j m l = tops_same (variable s x) q o g h i j m l
+  plain_stands (last_of s x) q o g h i j m l = tops_same (last_of s x) q o g h i j m l
+  plain_stands (one s op a) q o g h i j m l = (tops_same (one s op a) q o g h i j m l, plain_stands a q o (at First g) (at First h) (part First i) (part First j) (ap (part First) m) (ap (part First) l))
+  plain_stands (two s op a b) q o g h i j m l = (
+    tops_same (two s op a b) q o g h i j m l,
+    plain_stands a q.0 o.0 (at First g) (at First h) (part First i) (part First j) (ap (part First) m) (ap (part First) l),
+    plain_stands b q.1 o.1 (at Second g) (at Second h) (part Second i) (part Second j) (ap (part Second) m) (ap (part Second) l),
+  )
+  plain_stands (choose s a b c) q o g h i j m l = (
+    tops_same (choose s a b c) q o g h i j m l,
+    plain_stands a q.0 o.0 (at First g) (at First h) (part First i) (part First j) (ap (part First) m) (ap (part First) l),
+    plain_stands b q.1 o.1 (at Second g) (at Second h) (part Second i) (part Second j) (ap (part Second) m) (ap (part Second) l),
+    plain_stands c q.2 o.2 (at Third g) (at Third h) (part Third i) (part Third j) (ap (part Third) m) (ap (part Third) l),
+  )
+  plain_stands (pre s a) q o g h i j m l = absurd q
+  plain_stands (fby s a b) q o g h i j m l = absurd q
+  plain_stands (arrow s a b) q o g h i j m l = absurd q
+  plain_stands (when_is s a c x) q o g h i j m l = absurd q
+  plain_stands (merge s x ps) q o g h i j m l = absurd q
+  plain_stands (call s f inlined es) q o g h i j m l = absurd q

@@ -58,6 +58,10 @@ module _ (types : List TypeDecl) (u : Value → Value) (N : Nodes) (ds : List De
   pub row_so : (es : List Eqn) (g : Given) (P Q : Property) → ((i : Instant) → P i → Q i) → RowMet es g P → RowMet es g Q
   row_so es g P Q f m = (m.0, m.1, m.2, f m.0 m.3)
 
+  -- by what the equations say
+  pub row_by : (es : List Eqn) (g : Given) (P Q : Property) → ((i : Instant) → i ≡ equations types (reading u) N ds (eqns_of es) names last g i → P i → Q i) → RowMet es g P → RowMet es g Q
+  row_by es g P Q f m = (m.0, m.1, m.2, f m.0 m.1 m.3)
+
   row_gives : (e : Eqn) (es : List Eqn) (g : Given) (i j : Instant) → ((y : List ℕ) → defines e y ≡ true → gives types (reading u) N ds e names last (at Head g) i y ≡ names y)
       → ((y : List ℕ) → some_defines (eqns_of es) y ≡ true → defined types (reading u) N ds (eqns_of es) names last (at Tail g) j y ≡ names y)
       → (y : List ℕ) (t : Bool) → defines e y ≡ t → (t || some_defines (eqns_of es) y) ≡ true

@@ -9,18 +9,18 @@ use Rattle.hp_base.specs.declared.value.Value.{Value}
 use Rattle.hp_base.specs.declared.value.Value.TheVariants.{Absent, B, I}
 use Rattle.hp_tree.specs.declared.block.Trans.{Trans}
 use Rattle.hp_tree.specs.Expressions.{choose}
-use Rattle.hp_tree.specs.Blocks.{Decl, Block, block, Eqns, Eqn, States, no_state, more_states}
+use Rattle.hp_tree.specs.Blocks.{Decl, Block, block, Eqns, Eqn, States, no_state, more_states, eqns_of}
 use Rattle.hp_tree.specs.Programs.{TypeDecl}
 use Rattle.hp_tree.specs.Operators.{constant_of, is_there, if_of}
 use Rattle.hp_tree.specs.Instant.{Body, Fresh, Equations, Head, Tail, Until, Unless, Arms as ArmsOf, Instant, Given, at, part, parts, top, own, since, nothing, in_row}
-use Rattle.hp_tree.specs.Meaning.{Names, Nodes, Jump, scope, states, weak, weak_in, first_true, number_of, within, inside, lasts, from_block, from_state, defines, block_defines, clock_in, conditions}
+use Rattle.hp_tree.specs.Meaning.{Names, Nodes, Jump, equations, scope, states, weak, weak_in, first_true, number_of, within, inside, lasts, from_block, from_state, defines, block_defines, clock_in, conditions}
 use Rattle.hp_automata.specs.declared.new_names.Word.TheVariants.{Jump as JumpWord, Next, From, On, Strong}
 use Rattle.hp_automata.specs.NewNames.{word_name, state_word, transition_word, value_name}
 use Rattle.hp_automata.specs.Names.{is_name}
 use Rattle.hp_automata.specs.Lowering.{Types, Enumerations, Frame, inner, count_of, number, goes_to, jump_of, pending_of, chosen, choices, handed, value_handed, some_constant, type_of, from_eqn, on_word, afresh, state_switch, idle, lowered_body, lowered_states}
 use Rattle.law_automata.specs.Lowered.OldNames.{IsOld}
 use Rattle.law_automata.specs.Lowered.Removable.{Known, and_defined, StatesOk, most, deepest}
-use Rattle.law_automata.specs.Lowered.Standing.{Relation, Along, InArm, BodyStands, StatesStand, arm_in, body_in, behind, code_of}
+use Rattle.law_automata.specs.Lowered.Standing.{Relation, Along, InArm, BodyStands, StatesStand, RowStands, WeakStand, arm_in, body_in, behind, code_of}
 use Rattle.law_automata.specs.Lowered.Giving.{StatesGiven, BodyGiven}
 use Rattle.law_automata.specs.Lowered.Deciding.{Property, StatesDecided}
 use Rattle.law_automata.proofs.LoweredLemmas.Callees.{Callees}
@@ -33,12 +33,12 @@ use Rattle.law_automata.proofs.LoweredLemmas.Defined.{body_hands}
 use Rattle.law_automata.proofs.LoweredLemmas.Expressions.{reading, ap₃}
 use Rattle.law_automata.proofs.LoweredLemmas.Plain.{pure}
 use Rattle.law_automata.proofs.LoweredLemmas.Pasts.{along_map, along_right, body_parts, arms_along}
-use Rattle.law_automata.proofs.LoweredLemmas.Rows.{EqnMet, RowMet, EachMet, Anyhow, behind_given, along_behind, behind_free, plain_met, row_so, row_more, row_append}
+use Rattle.law_automata.proofs.LoweredLemmas.Rows.{EqnMet, RowMet, EachMet, Anyhow, behind_given, along_behind, behind_free, plain_met, row_by, row_more, row_append}
 use Rattle.law_automata.proofs.LoweredLemmas.BlockMaking.{value_of}
 use Rattle.law_automata.proofs.LoweredLemmas.Around.{Undone, EqnsStep}
 use Rattle.law_automata.proofs.LoweredLemmas.BlockSteps.{AroundBlock}
 use Rattle.law_automata.proofs.LoweredLemmas.Jumps.{first_pure, strong_pure, AllDecided, goes_value, if_jump, first_same, decided_pure}
-use Rattle.law_automata.proofs.LoweredLemmas.Chains.{chosen_value, choices_met, plain_link, link_word, link_end}
+use Rattle.law_automata.proofs.LoweredLemmas.Chains.{chosen_value, choices_met, choices_stand, plain_link, link_word, link_end}
 use Rattle.law_automata.proofs.LoweredLemmas.StateWords.{stands_from, KnowsStates, next_here, value_here}
 use Rattle.law_automata.proofs.LoweredLemmas.BodySteps.{inner_undone, BodyMet, behind_choices}
 use Rattle.law_automata.proofs.LoweredLemmas.BodySteps as body_steps
@@ -161,8 +161,15 @@ module _ (types : List TypeDecl) (u : Value → Value) (N N' : Nodes) (stands : 
     switch_at : (i : Instant) → behind strong_choices i ≡ behind unless i
     switch_at i = behind_choices to f Strong k (length unless) (pending_of f) 0 unless i
 
+    abbrev until_now : Instant
+    until_now = part Until (part Head now)
+
     abbrev InBody : Relation
     InBody = BodyStands stands (f.depth + 1) until b
+
+    -- the body and the weak transitions in the `switch` that stands for the state
+    abbrev InSwitch : Property
+    InSwitch i = InArm InBody body_now (arm_in i) × WeakStand stands until body_now until_now (arm_in i)
 
     -- what is given to the states behind it
     pub later_free : (given : List ℕ → Relation) → StatesGiven u given these g.free g'.free → StatesGiven u given ss (part Tail g.free) later_given.free
@@ -200,7 +207,7 @@ module _ (types : List TypeDecl) (u : Value → Value) (N N' : Nodes) (stands : 
           (next : stands_from k these j.state ≡ true → w ≡ weak types (reading u) N all these k j body_names last g now)
           (gives : stands_from k these j.state ≡ true → (x : List ℕ) → is_name f.names x ≡ true → names x ≡ from_state these k j.state last now x) where
         abbrev Switched : Type 0
-        Switched = EqnMet types u N' ds' names' last' (state_switch f k body (idle enums tys f k)) switch_given (InState types u N' stands enums tys to f ds' names' last' k b until body_defines switch_given body_now)
+        Switched = EqnMet types u N' ds' names' last' (state_switch f k body (idle enums tys f k)) switch_given (InState types u N' stands enums tys to f ds' names' last' k b until body_defines switch_given body_now until_now)
 
         -- ---- where the state is active
         module _ (here : nat_eq k j.state ≡ true) where
@@ -254,14 +261,14 @@ module _ (types : List TypeDecl) (u : Value → Value) (N N' : Nodes) (stands : 
           row = body_steps.body_row types u N N' stands enums tys f all c.renames c.undone c.deep e c.names_of c.old c.target k small ds es until ok.0.1.1 ok.0.1.0 around_block j.restart own_given (since j.restart body_given) body_now (body_past j.restart) body_is w
               given decided C ih body_free (dec.0.2 there)
 
-          body_met : BodyMet types u N' stands enums tys to f k b until j.restart read_outside last last' (since j.restart body_given) body_now w
+          body_met : BodyMet types u N' stands enums tys to f k b until j.restart read_outside last last' (since j.restart body_given) body_now until_now w
           body_met =
               body_steps.body_by types u N N' stands enums tys f all c.renames c.undone c.deep e c.names_of c.old c.target k small ds es until ok.0.1.1 ok.0.1.0 around_block j.restart own_given (since j.restart body_given) body_now (body_past j.restart) body_is w
-              weak_decided next_is row
+              weak_decided next_is row (at Until (at Head g)) until_now until_is
 
           switch_active : Switched
           switch_active =
-              active_met types u N' stands enums tys to f ds' names' last' k b until body_defines switch_given body_now (known.1 ∙ ap B here) j this c.jump w last body_met
+              active_met types u N' stands enums tys to f ds' names' last' k b until body_defines switch_given body_now until_now (known.1 ∙ ap B here) j this c.jump w last body_met
               (known.2 ∙ ap (next_here types f all names last sel j w (no_value types enums tys)) stands_here)
               (λ x h. known.3 x h ∙ ap (λ t. value_here types f all names last sel j w (no_value types enums tys) t x) stands_here ∙ gives stands_here x h
               ∙ ap (λ t. if t then from_block b last body_now x else from_state ss (suc k) j.state last (part Tail now) x) here)
@@ -281,7 +288,7 @@ module _ (types : List TypeDecl) (u : Value → Value) (N N' : Nodes) (stands : 
 
           switch_idle : Switched
           switch_idle =
-              idle_met types u N' stands enums tys to f ds' names' last' k b until body_defines switch_given body_now (known.1 ∙ ap B away) gone
+              idle_met types u N' stands enums tys to f ds' names' last' k b until body_defines switch_given body_now until_now (known.1 ∙ ap B away) gone
               (known.2 ∙ ap (next_here types f all names last sel j w (no_value types enums tys)) stands_later ∙ sym (next_handed (k + 1) ss later_room known.5))
               (λ x h. known.3 x h ∙ ap (λ t. value_here types f all names last sel j w (no_value types enums tys) t x) stands_later ∙ sym (values_handed (k + 1) ss later_room known.5 x h))
 
@@ -326,30 +333,37 @@ module _ (types : List TypeDecl) (u : Value → Value) (N N' : Nodes) (stands : 
           three = from_eqn f k Strong (length unless) (pending_of f) ∷ (on_word f k ∷ (state_switch f k body (idle enums tys f k) ∷ lowered_states enums to tys f (k + 1) ss))
 
           three_met : RowMet types u N' ds' names' last' three (behind_given strong_choices g')
-              (λ i. ⊤ × (⊤ × (InArm InBody body_now (arm_in (part Head (part Tail (part Tail i)))) × StatesStand stands (f.depth + 1) ss (part Tail now) (part Tail (part Tail (part Tail i))))))
+              (λ i. ⊤ × (⊤ × (InSwitch (part Head (part Tail (part Tail i))) × StatesStand stands (f.depth + 1) ss (part Tail now) (part Tail (part Tail (part Tail i))))))
           three_met =
               let G : Given = behind_given strong_choices g' in
               row_more types u N' ds' names' last' (from_eqn f k Strong (length unless) (pending_of f)) (on_word f k ∷ (state_switch f k body (idle enums tys f k) ∷ lowered_states enums to tys f (k + 1) ss)) G Anyhow
-              (λ i. ⊤ × (InArm InBody body_now (arm_in (part Head (part Tail i))) × StatesStand stands (f.depth + 1) ss (part Tail now) (part Tail (part Tail i))))
+              (λ i. ⊤ × (InSwitch (part Head (part Tail i)) × StatesStand stands (f.depth + 1) ss (part Tail now) (part Tail (part Tail i))))
               (from_met (at Head G))
               (row_more types u N' ds' names' last' (on_word f k) (state_switch f k body (idle enums tys f k) ∷ lowered_states enums to tys f (k + 1) ss) (at Tail G) Anyhow
-              (λ i. InArm InBody body_now (arm_in (part Head i)) × StatesStand stands (f.depth + 1) ss (part Tail now) (part Tail i))
+              (λ i. InSwitch (part Head i) × StatesStand stands (f.depth + 1) ss (part Tail now) (part Tail i))
               (on_met (at Head (at Tail G)))
-              (row_more types u N' ds' names' last' (state_switch f k body (idle enums tys f k)) (lowered_states enums to tys f (k + 1) ss) (at Tail (at Tail G)) (λ i. InArm InBody body_now (arm_in i)) (StatesStand stands (f.depth + 1) ss (part Tail now))
+              (row_more types u N' ds' names' last' (state_switch f k body (idle enums tys f k)) (lowered_states enums to tys f (k + 1) ss) (at Tail (at Tail G)) InSwitch (StatesStand stands (f.depth + 1) ss (part Tail now))
               (switch_by (nat_eq k j.state) refl) rest))
 
           parts_of_state : (cs : List Eqn) (x y z : Eqn) (more : List Eqn) → (((cs ++ x ∷ []) ++ y ∷ []) ++ z ∷ []) ++ more ≡ cs ++ (x ∷ (y ∷ (z ∷ more)))
           parts_of_state cs x y z more =
               append_assoc ((cs ++ x ∷ []) ++ y ∷ []) (z ∷ []) more ∙ append_assoc (cs ++ x ∷ []) (y ∷ []) (z ∷ more) ∙ append_assoc cs (x ∷ []) (y ∷ (z ∷ more))
 
+          strong_stand : (i : Instant) → i ≡ equations types (reading u) N' ds' (eqns_of (strong_choices ++ three)) names' last' g' i → RowStands stands unless (part Unless (part Head now)) i
+          strong_stand i l =
+              choices_stand types f Strong k all names last sel u N' ds' to names' last' c.target c.same c.lasts (λ q h. c.clock (transition_word Strong f.depth k q)) (length unless) (pending_of f) tt c.pending N stands three
+              0 unless (omega arith) (omega (arith, ok.0.2.1)) ok.0.2.0 (at Unless (at Head g)) g' (part Unless (part Head now)) i unless_is l
+
           pub state_by : RowMet types u N' ds' names' last' (lowered_states enums to tys f k these) g' (StatesStand stands (f.depth + 1) these now)
           state_by =
               subst (λ es'. RowMet types u N' ds' names' last' es' g' (StatesStand stands (f.depth + 1) these now))
               (sym (parts_of_state strong_choices (from_eqn f k Strong (length unless) (pending_of f)) (on_word f k) (state_switch f k body (idle enums tys f k)) (lowered_states enums to tys f (k + 1) ss)))
-              (row_so types u N' ds' names' last' (strong_choices ++ three) g'
-              (λ i. ⊤ × (⊤ × (InArm InBody body_now (arm_in (part Head (part Tail (part Tail (behind strong_choices i))))) × StatesStand stands (f.depth + 1) ss (part Tail now) (part Tail (part Tail (part Tail (behind strong_choices i)))))))
+              (row_by types u N' ds' names' last' (strong_choices ++ three) g'
+              (λ i. ⊤ × (⊤ × (InSwitch (part Head (part Tail (part Tail (behind strong_choices i)))) × StatesStand stands (f.depth + 1) ss (part Tail now) (part Tail (part Tail (part Tail (behind strong_choices i)))))))
               (StatesStand stands (f.depth + 1) these now)
-              (λ i p. subst (λ l. InArm InBody body_now (arm_in (part Head (part Tail (part Tail l)))) × StatesStand stands (f.depth + 1) ss (part Tail now) (part Tail (part Tail (part Tail l)))) (switch_at i) p.1.1)
+              (λ i l p.
+              let s = subst (λ q. InSwitch (part Head (part Tail (part Tail q))) × StatesStand stands (f.depth + 1) ss (part Tail now) (part Tail (part Tail (part Tail q)))) (switch_at i) p.1.1 in
+              (s.0.0, s.1, strong_stand i l, s.0.1))
               (row_append types u N' ds' names' last' strong_choices three g'
-              (λ i. ⊤ × (⊤ × (InArm InBody body_now (arm_in (part Head (part Tail (part Tail i)))) × StatesStand stands (f.depth + 1) ss (part Tail now) (part Tail (part Tail (part Tail i))))))
+              (λ i. ⊤ × (⊤ × (InSwitch (part Head (part Tail (part Tail i))) × StatesStand stands (f.depth + 1) ss (part Tail now) (part Tail (part Tail (part Tail i))))))
               choices_all three_met))

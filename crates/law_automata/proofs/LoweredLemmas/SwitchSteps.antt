@@ -10,14 +10,14 @@ use Rattle.hp_tree.specs.declared.expr.Op2.TheVariants.{Eq}
 use Rattle.hp_tree.specs.Expressions.{Expr, two, constant}
 use Rattle.hp_tree.specs.Blocks.{Decl, Block, block, Eqn, no_eqn, more_eqns, no_arm, more_arms, eqns_of}
 use Rattle.hp_tree.specs.Programs.{TypeDecl}
-use Rattle.hp_tree.specs.Operators.{is_true, two_of}
+use Rattle.hp_tree.specs.Operators.{is_there, is_true, two_of}
 use Rattle.hp_tree.specs.Instant.{Body, Named, Fresh, Equations, Head, Tail, Test, Arms as ArmsOf, Instant, Given, at, part, top, since, alone, nothing, of_two, with_body, with_arms}
 use Rattle.hp_tree.specs.Meaning.{Names, Nodes, Jump, expr, scope, arm, within, from_block, from_arm, defines, some_defines, block_defines}
 use Rattle.hp_automata.specs.declared.new_names.Word.TheVariants.{Jump as JumpWord, Next, On}
 use Rattle.hp_automata.specs.NewNames.{word_name, state_word, value_name}
 use Rattle.hp_automata.specs.Names.{is_name}
 use Rattle.hp_automata.specs.Lowering.{Types, Enumerations, Frame, code, number, jump_of, afresh, state_switch, idle, idle_next, idle_value, handed, value_handed, lowered_body, some_constant, type_of}
-use Rattle.law_automata.specs.Lowered.Standing.{Relation, InArm, BodyStands, arm_in, code_of}
+use Rattle.law_automata.specs.Lowered.Standing.{Relation, InArm, BodyStands, RowStands, WeakStand, arm_in, code_of}
 use Rattle.law_automata.specs.Lowered.Deciding.{Property}
 use Rattle.law_automata.proofs.LoweredLemmas.Apart.{same_bytes}
 use Rattle.law_automata.proofs.LoweredLemmas.Tests.{or_left, or_right, or_cases, name_first, true_false}
@@ -48,7 +48,7 @@ handed_by f k P p q y h = by (or_cases (bytes_eq (state_word Next f.depth k) y) 
     by (inr e) = let m = mapped (value_name f.depth k) f.names y e in subst P (sym m.2) (q m.0 m.1)
 
 module _ (types : List TypeDecl) (u : Value → Value) (N' : Nodes) (stands : List ℕ → Relation) (enums : Enumerations) (tys : Types) (to : List ℕ → List ℕ) (f : Frame) (ds : List Decl) (names last : Names) (k : ℕ) (b : Block) (until : List Trans)
-    (body_defines : (y : List ℕ) → block_defines (lowered_body enums to tys f k b until) y ≡ hands f k y) (g : Given) (body_now : Instant) where
+    (body_defines : (y : List ℕ) → block_defines (lowered_body enums to tys f k b until) y ≡ hands f k y) (g : Given) (body_now until_now : Instant) where
   abbrev body : Block
   body = lowered_body enums to tys f k b until
 
@@ -59,7 +59,7 @@ module _ (types : List TypeDecl) (u : Value → Value) (N' : Nodes) (stands : Li
   switched = state_switch f k body other
 
   abbrev pub InState : Property
-  InState sw = InArm (BodyStands stands (f.depth + 1) until b) body_now (arm_in sw)
+  InState sw = InArm (BodyStands stands (f.depth + 1) until b) body_now (arm_in sw) × WeakStand stands until body_now until_now (arm_in sw)
 
   abbrev outer_names : Names
   outer_names = within switched names last
@@ -90,7 +90,7 @@ module _ (types : List TypeDecl) (u : Value → Value) (N' : Nodes) (stands : Li
 
   -- ---- where the state is active
   module _ (on : names (state_word On f.depth k) ≡ B true) (j : Jump) (here : k ≡ j.state) (jump : names (word_name JumpWord f.depth) ≡ I (pos (code_of j))) (w : Jump) (last_of_names : Names)
-      (met : BodyMet types u N' stands enums tys to f k b until j.restart (within (afresh f k body) names last) last_of_names last (since j.restart body_given) body_now w)
+      (met : BodyMet types u N' stands enums tys to f k b until j.restart (within (afresh f k body) names last) last_of_names last (since j.restart body_given) body_now until_now w)
       (next : names (state_word Next f.depth k) ≡ I (pos (code_of w))) (values : (x : List ℕ) → is_name f.names x ≡ true → names (value_name f.depth k x) ≡ from_block b last_of_names body_now x) where
     test_value : (h : Given) (i : Instant) → is_true (top (expr types (reading u) N' restart_test [] names last h i)) ≡ j.restart
     test_value h i =
@@ -138,7 +138,10 @@ module _ (types : List TypeDecl) (u : Value → Value) (N' : Nodes) (stands : Li
               (more_arms False other f.at no_arm)) v last (part ArmsOf sw) y) on
               ∙ ap (λ t. if (t && true) then arm_made.0 (Named y ∷ []) else last y) mine
               ∙ arm_made.4 y mine),
-          inr (arm_made.3, inr (met.was_fresh ∙ sym met.is_fresh ∙ ap (λ i. i (Fresh ∷ [])) (sym arm_made.2.0), subst (BodyStands stands (f.depth + 1) until b body_now) (sym arm_made.2.0) met.so)),
+          (
+            inr (arm_made.3, inr (met.was_fresh ∙ sym met.is_fresh ∙ ap (λ i. i (Fresh ∷ [])) (sym arm_made.2.0), subst (BodyStands stands (f.depth + 1) until b body_now) (sym arm_made.2.0) met.so)),
+            λ t. subst (λ i. RowStands stands until until_now (part Equations i)) (sym arm_made.2.0) met.weak,
+          ),
         )
 
   -- ---- where it is not
@@ -174,6 +177,12 @@ module _ (types : List TypeDecl) (u : Value → Value) (N' : Nodes) (stands : Li
         × ((y : List ℕ) → some_defines (eqns_of idle_eqns) y ≡ true → i (Named y ∷ []) ≡ names y) × ((y : List ℕ) → some_defines (eqns_of idle_eqns) y ≡ false → i (Named y ∷ []) ≡ Absent)
     idle_made = block_made types u N' [] idle_eqns names outer_names last other_given false (λ y h. not_hands y (sym (idle_defines y) ∙ h)) Anyhow (each_row types u N' [] names last idle_eqns (at Equations other_given) idle_each)
 
+    not_there : is_there (body_now (Fresh ∷ [])) ≡ true → ⊥
+    not_there t = none (ap is_there (sym gone) ∙ t)
+      where
+        none : false ≡ true → ⊥
+        none h = absurd cc
+
     pub idle_met : EqnMet types u N' ds names last switched g InState
     idle_met =
         let sw : Instant = with_arms (alone (names (state_word On f.depth k))) (of_two nothing (of_two idle_made.0 nothing)) in (
@@ -187,5 +196,5 @@ module _ (types : List TypeDecl) (u : Value → Value) (N' : Nodes) (stands : Li
               (more_arms False other f.at no_arm)) v last (part ArmsOf sw) y) off
               ∙ ap (λ t. if t then idle_made.0 (Named y ∷ []) else last y) (idle_hands enums tys f k y ∙ switch_hands y h)
               ∙ idle_made.4 y (idle_defines y ∙ switch_hands y h)),
-          inl (gone, refl),
+          (inl (gone, refl), λ t. absurd (not_there t)),
         )

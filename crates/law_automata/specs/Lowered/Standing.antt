@@ -9,8 +9,8 @@ use Rattle.hp_tree.specs.declared.program.Item.TheVariants.{TypeItem, NodeItem}
 use Rattle.hp_tree.specs.Expressions.{Expr, constant, variable, last_of, one, two, choose, pre, fby, arrow, when_is, merge, call, Exprs, no_expr, more_exprs, Parts, no_part, more_parts}
 use Rattle.hp_tree.specs.Blocks.{Decl, Block, block, Eqns, no_eqn, more_eqns, Eqn, define, switch, reset, automaton, Arms, no_arm, more_arms, States, no_state, more_states}
 use Rattle.hp_tree.specs.Programs.{Contract, Node}
-use Rattle.hp_tree.specs.Operators.{is_true}
-use Rattle.hp_tree.specs.Instant.{Inputs, Controls, Body, Observer, Assume, Enforce, Named, Fresh, Equations, Head, Tail, Right, Test, Arms as ArmsOf, States as StatesOf, Next, Pending, First, Second, Third, Args, Instance, Place, Instant, part, top}
+use Rattle.hp_tree.specs.Operators.{is_there, is_true}
+use Rattle.hp_tree.specs.Instant.{Inputs, Controls, Body, Observer, Assume, Enforce, Named, Fresh, Equations, Head, Tail, Right, Test, Arms as ArmsOf, States as StatesOf, Next, Pending, Until, Unless, First, Second, Third, Args, Instance, Place, Instant, part, top}
 use Rattle.hp_tree.specs.Meaning.{Jump, state_of, declares}
 use Rattle.hp_automata.specs.declared.new_names.Word.TheVariants as word
 use Rattle.hp_automata.specs.NewNames.{word_name}
@@ -97,6 +97,15 @@ module _ (callee : List ℕ → Relation) where
     PartsStand no_part i j = ⊤
     PartsStand (more_parts c e ps) i j = ExprStands e (part Head i) (part Head j) × PartsStand ps (part Tail i) (part Tail j)
 
+  -- the conditions of some transitions in a row, each in the equation that stands for its transition
+  abbrev pub RowStands : List Trans → Relation
+  RowStands [] i j = ⊤
+  RowStands (t ∷ ts) i j = ExprStands t.cond (part Head i) (part First (part Right (part Head j))) × RowStands ts (part Tail i) (part Tail j)
+
+  -- those of weak transitions, where the body of their state is there
+  abbrev pub WeakStand : List Trans → Instant → Relation
+  WeakStand until body i arm = is_there (body (Fresh ∷ [])) ≡ true → RowStands until i (part Equations (body_in arm))
+
   -- what a block declares has the same values
   abbrev pub SameNames : List Decl → Relation
   SameNames ds i j = (x : List ℕ) → declares ds x ≡ true → i (Named x ∷ []) ≡ j (Named x ∷ [])
@@ -125,6 +134,7 @@ module _ (callee : List ℕ → Relation) where
     StatesStand d no_state i j = ⊤
     StatesStand d (more_states f b until unless s ss) i j =
         InArm (BodyStands d until b) (part Body (part Head i)) (arm_in (switch_in unless j)) × StatesStand d ss (part Tail i) (later_in unless j)
+        × RowStands unless (part Unless (part Head i)) j × WeakStand until (part Body (part Head i)) (part Until (part Head i)) (arm_in (switch_in unless j))
 
     -- the body of a state, whose weak transitions stand in front
     pub BodyStands : ℕ → List Trans → Block → Relation

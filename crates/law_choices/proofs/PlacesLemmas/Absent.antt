@@ -1,14 +1,18 @@
 -- A block that is not there holds nothing.
-use Rattle.std.proofs.Common.{◌≡◌, ℕ, suc, List, [], ◌∷◌, inl, inr, sym, ◌∙◌}
+use Rattle.std.proofs.Common.{◌≡◌, ℕ, suc, List, [], ◌∷◌, inl, inr, refl, sym, ◌∙◌}
 use Rattle.std.specs.Prelude.{Bool, true, false, if◌then◌else◌, nat_eq, ◌⊎◌, ⊤}
 use Rattle.hp_base.specs.declared.value.Value.{Value}
 use Rattle.hp_base.specs.declared.value.Value.TheVariants.{Absent, B}
 use Rattle.hp_tree.specs.Blocks.{Decl, Block, block, Eqns, no_eqn, more_eqns, Eqn, define, switch, reset, automaton, Arms, no_arm, more_arms, States, no_state, more_states}
 use Rattle.hp_tree.specs.Programs.{TypeDecl}
 use Rattle.hp_tree.specs.Operators.{Reading, is_cons, is_true, constant_of}
-use Rattle.hp_tree.specs.Instant.{Body, Fresh, Equations, Head, Tail, Test, Arms as ArmsOf, States as StatesOf, Place, Instant, Given, at, part, top, since, nothing}
-use Rattle.hp_tree.specs.Meaning.{Names, Nodes, Jump, inside, within, lasts, selected, expr, strong, scope, equations, equation, arm, states}
+use Rattle.hp_tree.specs.Instant.{Body, Fresh, Equations, Head, Tail, Test, Arms as ArmsOf, States as StatesOf, Until, Place, Instant, Given, at, part, top, since, nothing, in_row}
+use Rattle.hp_tree.specs.Meaning.{Names, Nodes, Jump, inside, within, lasts, selected, expr, strong, scope, equations, equation, arm, states, weak_in}
 use Rattle.hp_meaning.proofs.CausalLemmas.Fix.{Fixed}
+
+-- Where the body of a state is not there, its weak transitions are not.
+abbrev pub WeakQuiet : Instant → Type 0
+WeakQuiet i = i (Head ∷ Body ∷ Fresh ∷ []) ≡ Absent → (p : Place) → i (Head ∷ Until ∷ p) ≡ Absent
 
 -- of a part: nothing is there, or the block, in which it is so
 abbrev mutual
@@ -32,7 +36,7 @@ abbrev mutual
   pub StatesQuiet : States → Instant → Type 0
   StatesQuiet no_state i = ⊤
   StatesQuiet (more_states f b until unless s ss) i =
-      (((p : Place) → i (Head ∷ Body ∷ p) ≡ Absent) ⊎ ((i (Head ∷ Body ∷ Fresh ∷ []) ≡ Absent → ⊥) × BlockQuiet b (part Body (part Head i)))) × StatesQuiet ss (part Tail i)
+      (((p : Place) → i (Head ∷ Body ∷ p) ≡ Absent) ⊎ ((i (Head ∷ Body ∷ Fresh ∷ []) ≡ Absent → ⊥) × BlockQuiet b (part Body (part Head i)))) × StatesQuiet ss (part Tail i) × WeakQuiet i
 
 abbrev pub PartQuiet : Block → Instant → Type 0
 PartQuiet b i = ((p : Place) → i p ≡ Absent) ⊎ ((i (Fresh ∷ []) ≡ Absent → ⊥) × BlockQuiet b i)
@@ -47,7 +51,14 @@ part-quiet : (b : Block) (d : Bool) (F i : Instant) → ((p : Place) → i p ≡
 part-quiet b true F i h k = inr (k h)
 part-quiet b false F i h k = inl h
 
+weak-quiet : (fresh d : Bool) (F G i : Instant) → F (Fresh ∷ []) ≡ B fresh → i (Head ∷ Body ∷ Fresh ∷ []) ≡ (if d then F else nothing) (Fresh ∷ []) → ((p : Place) → i (Head ∷ Until ∷ p) ≡ (if d then G else nothing) p) → WeakQuiet i
+weak-quiet fresh true F G i f h k e = absurd (not_absent (i (Head ∷ Body ∷ Fresh ∷ [])) fresh (h ∙ f) e)
+weak-quiet fresh false F G i f h k e = k
+
 module _ (types : List TypeDecl) (R : Reading) (N : Nodes) where
+  is-fresh : (b : Block) (fresh : Bool) (names last : Names) (g : Given) (i : Instant) → scope types R N b fresh names last g i (Fresh ∷ []) ≡ B fresh
+  is-fresh (block ds es) fresh names last g i = refl
+
   mutual
     pub block-quiet : (b : Block) (fresh : Bool) (names last : Names) (g : Given) (i : Instant) → Fixed (scope types R N b fresh names last g) i → (i (Fresh ∷ []) ≡ Absent → ⊥) × BlockQuiet b i
     block-quiet (block ds es) fresh names last g i h = (
@@ -84,4 +95,6 @@ module _ (types : List TypeDecl) (R : Reading) (N : Nodes) where
       part-quiet b (nat_eq k j.state) (scope types R N b j.restart names last (since j.restart (at Body (at Head g))) (part Body (part Head i))) (part Body (part Head i)) (λ p. h (Head ∷ Body ∷ p))
           (λ q. block-quiet b j.restart names last (since j.restart (at Body (at Head g))) (part Body (part Head i)) q),
       states-quiet ss (suc k) j out names last (at Tail g) (part Tail i) (λ p. h (Tail ∷ p)),
+      weak-quiet j.restart (nat_eq k j.state) (scope types R N b j.restart names last (since j.restart (at Body (at Head g))) (part Body (part Head i))) (in_row (weak_in types R N b until j names last (at Head g) (part Head i))) i
+          (is-fresh b j.restart names last (since j.restart (at Body (at Head g))) (part Body (part Head i))) (h (Head ∷ Body ∷ Fresh ∷ [])) (λ p. h (Head ∷ Until ∷ p)),
     )

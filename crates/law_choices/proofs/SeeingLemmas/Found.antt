@@ -31,7 +31,7 @@ not-nil Star w u known = u
 
 module _ (now low filled : Instant) (under : (p : Place) → Under (low p) (filled p)) where
   one-known : (p q : Place) → SameWhereThere now low p q → KnownAlike now filled p q
-  one-known p q same outside there known = let e = same outside there in not-nil (now p) (filled q) (subst (λ v. Under v (filled q)) e (under q)) known
+  one-known p q same there known = let e = same there in not-nil (now p) (filled q) (subst (λ v. Under v (filled q)) e (under q)) known
 
   all-known : (ps qs : List Place) → Along (SameWhereThere now low) ps qs → Along (KnownAlike now filled) ps qs
   all-known [] [] a = tt

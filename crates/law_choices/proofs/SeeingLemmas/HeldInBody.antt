@@ -1,6 +1,6 @@
 -- The equations of a node of which only inputs, and comparisons and calls of the body are free, hold values of its free places: of their types, and the instant's own wherever it looks.
 use Rattle.std.proofs.Common.{◌≡◌, ◌⊎◌, inl, inr, ℕ, ◌+◌, ◌<◌, ◌≤◌, List, [], ◌∷◌, ◌++◌, length, map, refl, sym, ap, subst, ◌∙◌, arith, if◌then◌else◌}
-use Rattle.std.specs.Prelude.{Bool, true, false, IsFalse, IsTrue}
+use Rattle.std.specs.Prelude.{Bool, true, false, IsTrue}
 use Rattle.std.specs.List.{AllByRecursion, flat_map, range_with_len}
 use Rattle.std.proofs.lemmas.List.{length-append}
 use Rattle.hp_base.specs.Kinds.{IsOfKind}
@@ -48,7 +48,6 @@ use Rattle.law_choices.specs.Coded.Codes.{bits_of_kind, value_at}
 use Rattle.law_choices.specs.Coded.Laws.{IsTypedAt}
 use Rattle.law_choices.specs.InTurn.Nodes.{Contracted}
 use Rattle.law_choices.specs.Places.Groups.{in_a_row}
-use Rattle.law_choices.specs.Places.Values.{in_transition}
 use Rattle.law_choices.specs.Playing.Inputs.{places_in_row}
 use Rattle.law_choices.specs.Playing.Mirrored.{early_flags}
 use Rattle.law_choices.specs.Runs.Chosen.{inputs_at}
@@ -70,9 +69,9 @@ use Rattle.law_choices.proofs.SeeingLemmas.Looked.{IsSome, seen-some}
 use Rattle.law_choices.proofs.SeeingLemmas.Listed.{IsHeld, IsOfType, SameKind, along-parts, both-fit, fit-slots, free-either, held-slots, in-row-free, inputs-held, inputs-of-types, same-type, still-below}
 use Rattle.law_choices.proofs.SeeingLemmas.Rowed.{IsBrought, Row, all-rows, at-least}
 
--- A variable has the value of a place outside of transitions, wherever that is there and not Nil.
+-- A variable has the value of a place, wherever that is there and not Nil.
 abbrev pub IsTold : flows.Instant → Instant → ℕ → Place → Type 0
-IsTold j now x p = IsFalse (in_transition p) → IsTrue (is_there (now p)) → (now p ≡ Nil → ⊥) → j x ≡ now p
+IsTold j now x p = IsTrue (is_there (now p)) → (now p ≡ Nil → ⊥) → j x ≡ now p
 
 there-some : (v : Value) → (v ≡ Absent → ⊥) → is_there v ≡ true
 there-some Absent h = absurd (h refl)
@@ -127,7 +126,7 @@ module _ (nodes : NodeLaws) (types : List ObcType) (all : Callees) (observers : 
   of_body = flat_map (free_placed observers put) (walked n c.plant)
 
   as-many : length s.free ≡ length (places ++ right_places)
-  as-many = let fits = ((g.is).is_watched).fits in fits.places ∙ ap length flags ∙ flags-many early slots ∙ ap length sees.places
+  as-many = let fits = ((g.is).is_watched).fits in fits.places ∙ ap length flags ∙ flags-many early slots ∙ ap length sees
 
   -- ---- one instant, beside one of the equations
 
@@ -185,11 +184,11 @@ module _ (nodes : NodeLaws) (types : List ObcType) (all : Callees) (observers : 
     row-typed q f r = of_kind decls q.1 (value_of f) differ (subst (λ z. IsOfKind z (value_of f)) r.kind (row-of-kind q f r))
 
     -- It is that of the place, if the instant looks there.
-    row-own : (q : FreePlace) (f : Free) → IsRow q f → IsFalse (in_transition q.0) → IsSome (now q.0) → value_of f ≡ now q.0
-    row-own q f r outside some = by (flows.holds (clock_of s.node f.eqn) j) refl
+    row-own : (q : FreePlace) (f : Free) → IsRow q f → IsSome (now q.0) → value_of f ≡ now q.0
+    row-own q f r some = by (flows.holds (clock_of s.node f.eqn) j) refl
       where
         value : j f.variable ≡ now q.0
-        value = r.told outside (there-some (now q.0) some.1) some.0
+        value = r.told (there-some (now q.0) some.1) some.0
 
         by : (h : Bool) → flows.holds (clock_of s.node f.eqn) j ≡ h → value_of f ≡ now q.0
         by true h = ap (λ b. if b then i f.variable else some_value (type_at s.node f.variable)) (sym (there-both q f r) ∙ h) ∙ sym (same f.variable r.below) ∙ value
@@ -207,7 +206,7 @@ module _ (nodes : NodeLaws) (types : List ObcType) (all : Callees) (observers : 
     choice = controls_at n now
 
     late-are : late_among (λ p. false) slots ≡ right_places
-    late-are = late-places after n right_places sees.places
+    late-are = late-places after n right_places sees
 
     at-first : SlotsFit decls slots (given_with (map marked row) (made program after ranks order earlier n stands now) choice)
     at-first = slots_fit program after ranks order earlier n stands row now (inputs-fit decls n.inputs row of) choice
@@ -241,20 +240,20 @@ module _ (nodes : NodeLaws) (types : List ObcType) (all : Callees) (observers : 
 
     -- ---- they are the instant's own wherever it looks
 
-    rows-own : (qs : List FreePlace) (fs : List Free) → Along IsRow qs fs → Along IsAt qs fs → AllByRecursion (λ (q : FreePlace). IsFalse (in_transition q.0)) qs → (q : Place) → IsFree qs q → IsSome (now q) → given q ≡ now q
-    rows-own [] fs h at outside q free some = absurd free
-    rows-own (x ∷ qs) [] h at outside q free some = absurd h
-    rows-own (x ∷ qs) (f ∷ fs) h at outside q (inl e) some = ap given e ∙ at.0 ∙ row-own x f h.0 outside.0 (subst (λ z. IsSome (now z)) e some) ∙ ap now (sym e)
-    rows-own (x ∷ qs) (f ∷ fs) h at outside q (inr free) some = rows-own qs fs h.1 at.1 outside.1 q free some
+    rows-own : (qs : List FreePlace) (fs : List Free) → Along IsRow qs fs → Along IsAt qs fs → (q : Place) → IsFree qs q → IsSome (now q) → given q ≡ now q
+    rows-own [] fs h at q free some = absurd free
+    rows-own (x ∷ qs) [] h at q free some = absurd h
+    rows-own (x ∷ qs) (f ∷ fs) h at q (inl e) some = ap given e ∙ at.0 ∙ row-own x f h.0 (subst (λ z. IsSome (now z)) e some) ∙ ap now (sym e)
+    rows-own (x ∷ qs) (f ∷ fs) h at q (inr free) some = rows-own qs fs h.1 at.1 q free some
 
     own : (q : Place) → IsFree (free_places after n) q → IsTrue (is_seen (erased now) q) → values q ≡ now q
-    own q free looks = by (free-either places right_places q (subst (λ (xs : List FreePlace). IsFree xs q) sees.places free))
+    own q free looks = by (free-either places right_places q (subst (λ (xs : List FreePlace). IsFree xs q) sees free))
       where
         by : IsFree places q ⊎ IsFree right_places q → values q ≡ now q
         by (inl x) = let r = in-row-free n.inputs (below Inputs (λ p. p)) q x in ap values r.1 ∙ ap now (sym r.1)
         by (inr x) =
             own-by (map marked row) (there-is).0 now choice q
-            (rows-own right_places of_body rows are-at sees.no_transition q x
+            (rows-own right_places of_body rows are-at q x
             (seen-some program after ranks order earlier n stands now is_typed row (inputs-fit decls n.inputs row of) at_inputs chosen at_chosen q free looks))
 
     -- ---- they are of their types, and their codes are held
@@ -285,9 +284,9 @@ module _ (nodes : NodeLaws) (types : List ObcType) (all : Callees) (observers : 
     pub holds : HoldsValues types after n s i now
     holds = record {
       values = values;
-      typed = subst (λ r. SlotsFit decls slots (given_with (map marked r) values choice)) (sym inputs) (fit-slots decls given slots (subst (AllByRecursion (IsOfType decls given)) (sym sees.places) fits));
+      typed = subst (λ r. SlotsFit decls slots (given_with (map marked r) values choice)) (sym inputs) (fit-slots decls given slots (subst (AllByRecursion (IsOfType decls given)) (sym sees) fits));
       own = own;
       held =
           subst (λ r. AreHeld types decls s.node i (given_with (map marked r) values choice) slots s.free) (sym inputs)
-          (held-slots types decls s.node i given slots s.free (subst (λ (qs : List FreePlace). Along (IsHeld types decls s.node i given) qs s.free) (sym sees.places) held));
+          (held-slots types decls s.node i given slots s.free (subst (λ (qs : List FreePlace). Along (IsHeld types decls s.node i given) qs s.free) (sym sees) held));
     }

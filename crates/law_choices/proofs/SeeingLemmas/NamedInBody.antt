@@ -1,7 +1,6 @@
 -- A node that sees by names sees in its body.
-use Rattle.std.proofs.Common.{◌≡◌, ℕ, ◌+◌, ◌≤◌, Bool, true, false, ◌&&◌, List, [], ◌∷◌, ◌++◌, length, reverse, refl, sym, ap, ap₂, subst, ◌∙◌, arith, if◌then◌else◌}
-use Rattle.std.specs.Prelude.{IsFalse, Option, None, Some}
-use Rattle.std.specs.List.{AllByRecursion}
+use Rattle.std.proofs.Common.{◌≡◌, ℕ, ◌+◌, ◌≤◌, Bool, true, false, ◌&&◌, List, [], ◌∷◌, ◌++◌, length, reverse, refl, sym, ap, ap₂, ◌∙◌, arith, if◌then◌else◌}
+use Rattle.std.specs.Prelude.{None, Some}
 use Rattle.std.proofs.lemmas.List.{append-nil, append_cancel_left, length-append}
 use Rattle.hp_base.specs.declared.span.Span.{Span}
 use Rattle.hp_base.specs.declared.ty.Ty.{Ty}
@@ -21,11 +20,9 @@ use Rattle.law_automata.specs.Lowered.Standing.{Along}
 use Rattle.law_equations.specs.Flattened.Flatten.{Prefix, below}
 use Rattle.law_choices.specs.Flat.Names.{is_body_name}
 use Rattle.law_choices.specs.Places.Groups.{compared_groups, free_outputs, groups, groups_of_all, groups_of_arms, groups_of_block, groups_of_conditions, groups_of_equation, groups_of_equations, groups_of_parts, groups_of_states, in_a_row}
-use Rattle.law_choices.specs.Places.Values.{in_transition}
 use Rattle.law_choices.specs.Playing.Inputs.{placed, places_in_row}
-use Rattle.law_choices.specs.Seeing.ByName.{Naming, SeesByName, are_named, is_integer, named_by, named_in, named_in_body, of_call, of_comparison, outputs_in, places_named, places_of_outputs, types_around}
+use Rattle.law_choices.specs.Seeing.ByName.{SeesByName, are_named, named_by, named_in, named_in_body, of_call, of_comparison, outputs_in, places_named, places_of_outputs, types_around}
 use Rattle.law_choices.specs.Seeing.InBody.{SeesInBody, free_in_body, no_slots}
-use Rattle.law_choices.proofs.AddingLemmas.Adding.{both as each-both}
 use Rattle.law_choices.proofs.PlacesLemmas.Grouped.{block-row, lasts-none}
 use Rattle.law_choices.proofs.PlacesLemmas.Relating.{along-both}
 use Rattle.law_choices.proofs.PlacesLemmas.Slots.{lasts_slots, outputs_slots}
@@ -209,36 +206,6 @@ module _ (types : List TypeDecl) (outs : List ℕ → List Decl) (names : Scope)
       let d = length-append (free_among (slots_of_equation types outs no_slots e names (below Head w))) (free_among (slots_of_equations types outs no_slots es names (below Tail w))) in
       omega (arith, first, rest, a, b, d)
 
--- ---- right sides of equations stand in no transition
-
-module _ (integer : Expr → Bool) (known : List ℕ → Bool) (outs : List ℕ → List Decl) where
-  -- a prefix that leads into no transition
-  abbrev IsOutside : Prefix → Type 0
-  IsOutside w = (p : Place) → in_transition (w p) ≡ in_transition p
-
-  abbrev AllOutside : List FreePlace → Type 0
-  AllOutside qs = AllByRecursion (λ (q : FreePlace). IsFalse (in_transition q.0)) qs
-
-  outputs-outside : (ds : List Decl) (w : Prefix) → IsOutside w → AllOutside (places_of_outputs ds w)
-  outputs-outside [] w h = tt
-  outputs-outside (d ∷ ds) w h = each-both (λ (q : FreePlace). IsFalse (in_transition q.0)) (placed (w (Named d.name ∷ [])) d.ty) (places_of_outputs ds w) (by d.ty) (outputs-outside ds w h)
-    where
-      by : (t : Ty) → AllOutside (placed (w (Named d.name ∷ [])) t)
-      by ty.Bool = (h (Named d.name ∷ []), tt)
-      by ty.Int = tt
-      by (ty.Enum x) = (h (Named d.name ∷ []), tt)
-
-  named-outside : (o : Option Naming) (w : Prefix) → IsOutside w → AllOutside (places_named outs o w)
-  named-outside None w h = tt
-  named-outside (Some (of_comparison y o a)) w h = (h [], tt)
-  named-outside (Some (of_call ys f)) w h = outputs-outside (outs f) (below Instance w) (λ p. h (Instance ∷ p))
-
-  all-outside : (es : Eqns) (w : Prefix) → IsOutside w → AllOutside (named_in integer known outs es w)
-  all-outside no_eqn w h = tt
-  all-outside (more_eqns e es) w h =
-      each-both (λ (q : FreePlace). IsFalse (in_transition q.0)) (places_named outs (named_by integer known outs e) (below Right (below Head w))) (named_in integer known outs es (below Tail w))
-      (named-outside (named_by integer known outs e) (below Right (below Head w)) (λ p. h (Head ∷ Right ∷ p))) (all-outside es (below Tail w) (λ p. h (Tail ∷ p)))
-
 -- ---- a node
 
 module _ (program : List Item) (n : Node) (sees : SeesByName program n) where
@@ -298,9 +265,6 @@ module _ (program : List Item) (n : Node) (sees : SeesByName program n) where
       let both = length-append (free_among (lasts_slots types ds (below Body here))) (free_among (slots_of_equations types outs no_slots es (typed_in ds (types_around n)) (below Equations (below Body here)))) in
       omega (arith, l, same, none, both)
 
-  body-outside : (b : Block) → AllByRecursion (λ (q : FreePlace). IsFalse (in_transition q.0)) (named_in_body program n b (below Body here))
-  body-outside (block ds es) = all-outside (is_integer program (typed_in ds (types_around n))) (is_body_name n) outs es (below Equations (below Body here)) (λ p. refl)
-
   pub sees-in-body : SeesInBody program n
   sees-in-body =
       let gs = groups_of_block types outs callee n.body (types_around n) (below Body here) in
@@ -316,7 +280,4 @@ module _ (program : List Item) (n : Node) (sees : SeesByName program n) where
       let none : contract_free ≡ [] = no-elements contract_free (omega (arith, most, least, long, lg, lh)) in
       let same : body_free ≡ free_in_body program n = sym g ∙ bigger-same gs hs bigger (omega (arith, most, least, long, lg, lh)) ∙ h in
       let are : named ≡ free_in_body program n = sym behind ∙ ap₂ (λ (xs ys : List FreePlace). xs ++ ys) none same in
-      record {
-        places = sees ∙ ap (λ (qs : List FreePlace). places_in_row n.inputs (below Inputs here) ++ qs) are;
-        no_transition = subst (λ (qs : List FreePlace). AllByRecursion (λ (q : FreePlace). IsFalse (in_transition q.0)) qs) are (body-outside n.body);
-      }
+      sees ∙ ap (λ (qs : List FreePlace). places_in_row n.inputs (below Inputs here) ++ qs) are

@@ -120,7 +120,7 @@ module _ (means : ℕ → FlatName) (now low : Instant) (j : flows.Instant) (val
   places-told (x ∷ xs) (p ∷ ps) (q ∷ qs) e h =
       let first : means x ≡ At q = cc in
       let others : map means xs ≡ ats qs = cc in
-      (λ outside there some. values x q first ∙ h.0 outside there some, places-told xs ps qs others h.1)
+      (λ there some. values x q first ∙ h.0 there some, places-told xs ps qs others h.1)
 
   targets-told : (es : List FlatEqn) (order : List ℕ) (fs : Both) → Along (StandsAtNumber means es) order (map (λ (s : Spot × Spot). s.1) fs) → Each (λ (s : Spot × Spot). Along (KnownAlike now low) (places_of s.0) (places_of s.1)) fs → Along (TargetsAre (IsTold j now) es) order fs
   targets-told es [] [] a h = tt

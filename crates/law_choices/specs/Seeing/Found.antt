@@ -1,6 +1,6 @@
 -- What the comparisons and calls that a walk finds hold in the filled form of the program without automata.
 -- Source: own.
-use Rattle.std.specs.Prelude.{ℕ, ◌≡◌, IsTrue, IsFalse, List, reverse, Some}
+use Rattle.std.specs.Prelude.{ℕ, ◌≡◌, IsTrue, List, reverse, Some}
 use Rattle.hp_base.specs.declared.value.Value.{Value}
 use Rattle.hp_base.specs.declared.value.Value.TheVariants.{Nil}
 use Rattle.hp_tree.specs.declared.program.Item.{Item}
@@ -15,11 +15,10 @@ use Rattle.law_choices.specs.Filled.Ready.{FilledForOne}
 use Rattle.law_choices.specs.Places.Found.{found_in_node}
 use Rattle.law_choices.specs.Places.Laws.{places_of}
 use Rattle.law_choices.specs.Places.Spots.{Spot}
-use Rattle.law_choices.specs.Places.Values.{in_transition}
 
--- What is there at a place outside of transitions, and not Nil, is there at the other.
+-- What is there at a place, and not Nil, is there at the other.
 abbrev pub KnownAlike : Instant → Instant → Place → Place → Type 0
-KnownAlike now filled p q = IsFalse (in_transition p) → IsTrue (is_there (now p)) → (now p ≡ Nil → ⊥) → filled q ≡ now p
+KnownAlike now filled p q = IsTrue (is_there (now p)) → (now p ≡ Nil → ⊥) → filled q ≡ now p
 
 -- so it is of all that a walk over a node finds
 abbrev pub FoundAlike : (List ℕ → List (List ℕ)) → Node → Instant → Instant → Type 0

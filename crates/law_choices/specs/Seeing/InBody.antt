@@ -1,14 +1,12 @@
--- Nodes of which nothing is free but the inputs, and comparisons of integers and outputs of calls in the body, wherever these stand outside of transitions.
+-- Nodes of which nothing is free but the inputs, and comparisons of integers and outputs of calls in the body, wherever these stand.
 -- Source: own; a comparison of integers and an output of a call are free in the Boolean abstraction, and clocked equations hold their values without a name (Biernacki, Colaço, Hamon, Pouzet, LCTES 2008).
-use Rattle.std.specs.Prelude.{◌≡◌, ℕ, IsFalse, List, [], ◌++◌}
-use Rattle.std.specs.List.{AllByRecursion}
+use Rattle.std.specs.Prelude.{◌≡◌, ℕ, List, [], ◌++◌}
 use Rattle.hp_tree.specs.declared.program.Item.{Item}
 use Rattle.hp_tree.specs.Programs.{Node}
 use Rattle.hp_tree.specs.Instant.{Body, Inputs, Place}
 use Rattle.hp_tree.specs.Meaning.{types_of}
 use Rattle.hp_meaning.specs.Causal.Sources.{below}
 use Rattle.hp_meaning.specs.Contract.Slots.{FreePlace, Slot, free_among, free_places, slots_of_block}
-use Rattle.law_choices.specs.Places.Values.{in_transition}
 use Rattle.law_choices.specs.Playing.Inputs.{places_in_row}
 use Rattle.law_choices.specs.Seeing.ByName.{outputs_in, types_around}
 
@@ -20,7 +18,6 @@ no_slots f w = []
 abbrev pub free_in_body : List Item → Node → List FreePlace
 free_in_body program n = free_among (slots_of_block (types_of program) (outputs_in program) no_slots n.body (types_around n) (below Body (λ p. p)))
 
--- The inputs and these places are all free places of the node, and none of these stands in a transition.
-pub record SeesInBody (program : List Item) (n : Node) : Type 0 where
-  pub places : free_places program n ≡ places_in_row n.inputs (below Inputs (λ p. p)) ++ free_in_body program n
-  pub no_transition : AllByRecursion (λ (q : FreePlace). IsFalse (in_transition q.0)) (free_in_body program n)
+-- The inputs and these places are all free places of the node.
+abbrev pub SeesInBody : List Item → Node → Type 0
+SeesInBody program n = free_places program n ≡ places_in_row n.inputs (below Inputs (λ p. p)) ++ free_in_body program n

@@ -43,7 +43,7 @@ abbrev pub outputs_low : List Item → List ℕ → List (List ℕ)
 outputs_low program = (filled_nodes (lowered_program program)).outputs
 
 -- There is exactly one reaction of a node with the chosen values over inputs, and exactly one of its clocked equations over what is answered. The variables of the equations that compare or call stand for places of the program without automata, and these equations alone define them; what stands for a place has the values of an instant there.
--- What a walk over the node finds outside of transitions has these values, wherever it is there and not Nil.
+-- What a walk over the node finds has these values, wherever it is there and not Nil.
 pub record KeepsPlaces (choices : Choices) (program : List Item) (answers : Answers) (n : Node) (flat : FlatNode) (inputs : List (List Value)) : Type 0 where
   pub answered : AnswersReaction choices program answers flat.name inputs
   pub instants : List Instant
