@@ -3,7 +3,7 @@ use Rattle.std.proofs.Common.{◌≡◌, ℕ, List, [], ◌∷◌, ◌++◌, map
 use Rattle.std.specs.Prelude.{◌+◌, Bool, true, false, IsTrue, if◌then◌else◌, reverse}
 use Rattle.std.specs.Str.{bytes_eq}
 use Rattle.hp_base.specs.declared.value.Value.{Value}
-use Rattle.hp_base.specs.declared.value.Value.TheVariants.{Absent, B, E, I, Nil, Star}
+use Rattle.hp_base.specs.declared.value.Value.TheVariants.{Absent}
 use Rattle.hp_tree.specs.declared.block.Trans.{Trans}
 use Rattle.hp_tree.specs.declared.expr.Op2.{Op2}
 use Rattle.hp_tree.specs.declared.program.Item.{Item}
@@ -20,6 +20,7 @@ use Rattle.hp_tables.specs.Defining.Names.{names_of_states}
 use Rattle.hp_automata.specs.Names.{once}
 use Rattle.law_automata.specs.Lowered.Standing.{Relation, Along, BothThere, InArm, behind as row, ExprStands, ExprsStand, PartsStand, BlockStands, EqnsStand, EqnStands, ArmsStand, StatesStand, BodyStands, RowStands, WeakStand, NodeStands, either_is, stands_among}
 use Rattle.law_equations.specs.Flattened.Flatten.{Prefix, below}
+use Rattle.law_equations.proofs.FewerLemmas.SameReads.{absent-by}
 use Rattle.hp_watch.specs.Walk.{compares}
 use Rattle.law_choices.specs.Places.Spots.{Spot, compared}
 use Rattle.law_choices.specs.Places.Found.{Both, behind, behind_state, at_body, at_states, at_condition, both_compared, found, found_in_all, found_in_parts, found_in_conditions, found_in_block, found_in_eqns, found_in_eqn, found_in_arms, found_in_states, found_in_body, found_in_node}
@@ -34,14 +35,6 @@ each-both P (x ∷ xs) ys h k = (h.0, each-both P xs ys h.1 k)
 along-map : (P : Place → Place → Type 0) (f g : List ℕ → Place) (os : List (List ℕ)) → ((o : List ℕ) → P (f o) (g o)) → Along P (map f os) (map g os)
 along-map P f g [] h = tt
 along-map P f g (o ∷ os) h = (h o, along-map P f g os h)
-
-none : (v : Value) → is_there v ≡ false → v ≡ Absent
-none Absent e = refl
-none Nil e = absurd cc
-none Star e = absurd cc
-none (B b) e = absurd cc
-none (I m) e = absurd cc
-none (E t m) e = absurd cc
 
 row-behind : {A : Type 0} (low : Instant) (xs : List A) (here : Prefix) → row xs (λ p. low (here p)) ≡ (λ p. low (behind xs here p))
 row-behind low [] here = refl
@@ -204,7 +197,7 @@ module _ (outputs : List ℕ → List (List ℕ)) (now low : Instant) where
       where
         by : (t : Bool) → is_there v ≡ t → All (found_in_conditions outputs until w here)
         by true e = conditions-same until w here (stands e)
-        by false e = conditions-hidden until w here (absent_hidden w (gone (none v e)))
+        by false e = conditions-hidden until w here (absent_hidden w (gone (absent-by v e)))
 
     -- a block that is there in both, or in none
     there : (b : Block) (P : Relation) (fs : Both) (w : Prefix) (j : Instant) → PartQuiet b (λ p. now (w p)) → BothThere P (λ p. now (w p)) j → (Hidden w → All fs) → (BlockQuiet b (λ p. now (w p)) → P (λ p. now (w p)) j → All fs) → All fs
