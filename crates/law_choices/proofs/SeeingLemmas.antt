@@ -15,3 +15,4 @@ pub mod HeldInBody
 pub mod SeenInBody
 pub mod NamedInBody
 pub mod Outputs
+pub mod MovedRuns

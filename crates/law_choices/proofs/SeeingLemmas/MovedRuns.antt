@@ -1,0 +1,68 @@
+-- Where the equations of an observer hold among those of a node, on the base clock, they hold by themselves, in its own variables.
+use Rattle.std.proofs.Common.{◌≡◌, ℕ, ◌+◌, Bool, true, false, ◌&&◌, ◌||◌, List, [], ◌∷◌, map, refl, sym, ap, ap₂, subst, ◌∙◌}
+use Rattle.std.specs.List.{AllByRecursion}
+use Rattle.std.specs.Prelude.{IsTrue}
+use Rattle.hp_base.specs.declared.value.Value.{Value}
+use Rattle.hp_flat.specs.declared.equation.Atom.{Atom}
+use Rattle.hp_flat.specs.declared.equation.Atom.TheVariants.{Variable as Read, Value as Fixed}
+use Rattle.hp_flat.specs.Equations.{Clock, FlatEqn, Right, called, operator, register}
+use Rattle.law_equations.specs.Meaning.Instants.{Instant, atom, atoms, has_constructor, history, holds, is_true, newest, noted, restarted, since, unless}
+use Rattle.hp_obc.specs.Values.{operated}
+use Rattle.law_equations.specs.Meaning.Reactions.{Answers, Holds, gives, right_gives}
+use Rattle.hp_watch.specs.Embedding.{Site, moved_all, moved_atom, moved_clock, moved_eqn, moved_right}
+
+module _ (far : ℕ) where
+  -- an instant in the variables of the observer, which stand so far behind
+  abbrev pub moved_in : Instant → Instant
+  moved_in i x = i (x + far)
+
+  -- the site on the base clock, over some inputs
+  abbrev pub on_base : List Atom → Site
+  on_base args = record { clock = []; restart = []; inputs = args }
+
+  clock-moved : (clock : Clock) (i : Instant) → holds (moved_clock far clock) i ≡ holds clock (moved_in i)
+  clock-moved [] i = refl
+  clock-moved (on ∷ clock) i = ap (λ b. has_constructor on.1 (i (on.0 + far)) && b) (clock-moved clock i)
+
+  restart-moved : (xs : List ℕ) (i : Instant) → restarted (moved_all far xs) i ≡ restarted xs (moved_in i)
+  restart-moved [] i = refl
+  restart-moved (x ∷ xs) i = ap (λ b. is_true (i (x + far)) || b) (restart-moved xs i)
+
+  atom-moved : (a : Atom) (i : Instant) → atom i (moved_atom far a) ≡ atom (moved_in i) a
+  atom-moved (Read x) i = refl
+  atom-moved (Fixed v) i = refl
+
+  atoms-moved : (args : List Atom) (i : Instant) → atoms i (map (moved_atom far) args) ≡ atoms (moved_in i) args
+  atoms-moved [] i = refl
+  atoms-moved (a ∷ args) i = ap₂ (λ v vs. v ∷ vs) (atom-moved a i) (atoms-moved args i)
+
+  targets-moved : (xs : List ℕ) (i : Instant) → map i (moved_all far xs) ≡ map (moved_in i) xs
+  targets-moved [] i = refl
+  targets-moved (x ∷ xs) i = ap (λ vs. i (x + far) ∷ vs) (targets-moved xs i)
+
+  module _ {A : Type 0} (f g : Instant → A) (same : (i : Instant) → f i ≡ g (moved_in i)) (clock : Clock) (restart : List ℕ) where
+    history-moved : (past : List Instant) → history (moved_clock far clock) (moved_all far restart) f past ≡ history clock restart g (map moved_in past)
+    history-moved [] = refl
+    history-moved (i ∷ past) =
+        ap₂ (λ b h. noted b (f i) h) (clock-moved clock i) (ap₂ (λ b h. unless b h) (restart-moved restart i) (history-moved past))
+        ∙ ap (λ a. noted (holds clock (moved_in i)) a (unless (restarted restart (moved_in i)) (history clock restart g (map moved_in past)))) (same i)
+
+    since-moved : (past : List Instant) (now : Instant) → since (moved_clock far clock) (moved_all far restart) f past now ≡ since clock restart g (map moved_in past) (moved_in now)
+    since-moved past now = ap₂ (λ b h. unless b h) (restart-moved restart now) (history-moved past)
+
+  module _ (answers : Answers) where
+    right-moved : (clock : Clock) (restart : List ℕ) (past : List Instant) (now : Instant) (r : Right)
+        → right_gives answers (moved_clock far clock) (moved_all far restart) past now (moved_right far r) ≡ right_gives answers clock restart (map moved_in past) (moved_in now) r
+    right-moved clock restart past now (operator op args) = ap (λ vs. operated op vs ∷ []) (atoms-moved args now)
+    right-moved clock restart past now (register first next) = ap (λ h. newest first h ∷ []) (since-moved (λ i. atom i (moved_atom far next)) (λ i. atom i next) (λ i. atom-moved next i) clock restart past now)
+    right-moved clock restart past now (called f args) =
+        ap₂ (λ vs h. answers f vs h) (atoms-moved args now) (since-moved (λ i. atoms i (map (moved_atom far) args)) (λ i. atoms i args) (λ i. atoms-moved args i) clock restart past now)
+
+    pub holds-moved : (args : List Atom) (past : List Instant) (now : Instant) (e : FlatEqn) → Holds answers past now (moved_eqn (on_base args) far e) → Holds answers (map moved_in past) (moved_in now) e
+    holds-moved args past now e h there =
+        sym (targets-moved e.targets now) ∙ h (subst (λ b. IsTrue b) (sym (clock-moved e.clock now)) there) ∙ right-moved e.clock e.restart past now e.right
+
+    -- so of all
+    pub all-moved : (args : List Atom) (past : List Instant) (now : Instant) (es : List FlatEqn) → AllByRecursion (Holds answers past now) (map (moved_eqn (on_base args) far) es) → AllByRecursion (Holds answers (map moved_in past) (moved_in now)) es
+    all-moved args past now [] h = tt
+    all-moved args past now (e ∷ es) h = (holds-moved args past now e h.0, all-moved args past now es h.1)
