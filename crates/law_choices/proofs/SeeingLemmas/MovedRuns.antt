@@ -1,24 +1,26 @@
 -- Where the equations of an observer hold among those of a node, on the base clock, they hold by themselves, in its own variables.
-use Rattle.std.proofs.Common.{◌≡◌, ℕ, ◌+◌, Bool, true, false, ◌&&◌, ◌||◌, List, [], ◌∷◌, map, refl, sym, ap, ap₂, subst, ◌∙◌}
-use Rattle.std.specs.List.{AllByRecursion}
+use Rattle.std.proofs.Common.{◌≡◌, ℕ, zero, suc, ◌+◌, ◌&&◌, ◌||◌, List, [], ◌∷◌, ◌++◌, length, map, refl, sym, ap, ap₂, subst, ◌∙◌, arith}
+use Rattle.std.specs.List.{AllByRecursion, range_with_len}
 use Rattle.std.specs.Prelude.{IsTrue}
-use Rattle.hp_base.specs.declared.value.Value.{Value}
 use Rattle.hp_flat.specs.declared.equation.Atom.{Atom}
 use Rattle.hp_flat.specs.declared.equation.Atom.TheVariants.{Variable as Read, Value as Fixed}
 use Rattle.hp_flat.specs.Equations.{Clock, FlatEqn, Right, called, operator, register}
+use Rattle.hp_flat.specs.Nodes.{FlatNode}
 use Rattle.law_equations.specs.Meaning.Instants.{Instant, atom, atoms, has_constructor, history, holds, is_true, newest, noted, restarted, since, unless}
 use Rattle.hp_obc.specs.Values.{operated}
-use Rattle.law_equations.specs.Meaning.Reactions.{Answers, Holds, gives, right_gives}
-use Rattle.hp_watch.specs.Embedding.{Site, moved_all, moved_atom, moved_clock, moved_eqn, moved_right}
+use Rattle.law_equations.specs.Meaning.Reactions.{Answers, Holds, inputs_of, right_gives}
+use Rattle.law_equations.proofs.FollowedLemmas.Passing.{each_first, each_second}
+use Rattle.hp_watch.specs.Embedding.{Site, embedded, moved_all, moved_atom, moved_clock, moved_eqn, moved_right}
+use Rattle.law_choices.proofs.AddingLemmas.Embeds.{embedded-eqns, input_eqns}
+
+-- the site on the base clock, over some inputs
+abbrev pub on_base : List Atom → Site
+on_base args = record { clock = []; restart = []; inputs = args }
 
 module _ (far : ℕ) where
   -- an instant in the variables of the observer, which stand so far behind
   abbrev pub moved_in : Instant → Instant
   moved_in i x = i (x + far)
-
-  -- the site on the base clock, over some inputs
-  abbrev pub on_base : List Atom → Site
-  on_base args = record { clock = []; restart = []; inputs = args }
 
   clock-moved : (clock : Clock) (i : Instant) → holds (moved_clock far clock) i ≡ holds clock (moved_in i)
   clock-moved [] i = refl
@@ -66,3 +68,49 @@ module _ (far : ℕ) where
     pub all-moved : (args : List Atom) (past : List Instant) (now : Instant) (es : List FlatEqn) → AllByRecursion (Holds answers past now) (map (moved_eqn (on_base args) far) es) → AllByRecursion (Holds answers (map moved_in past) (moved_in now)) es
     all-moved args past now [] h = tt
     all-moved args past now (e ∷ es) h = (holds-moved args past now e h.0, all-moved args past now es h.1)
+
+-- ---- the variables of its inputs
+
+numbers-moved : (far count from : ℕ) (i : Instant) → map (moved_in far i) (range_with_len from count) ≡ map i (range_with_len (from + far) count)
+numbers-moved far zero from i = refl
+numbers-moved far (suc count) from i =
+    ap (λ vs. i (from + far) ∷ vs) (numbers-moved far count (from + 1) i ∙ ap (λ k. map i (range_with_len k count)) (next from far))
+  where
+    next : (k m : ℕ) → (k + 1) + m ≡ (k + m) + 1
+    next k m = omega arith
+
+module _ (answers : Answers) (past : List Instant) (now : Instant) where
+  inputs-copied : (target : ℕ) (args : List Atom) → AllByRecursion (Holds answers past now) (input_eqns [] target args) → map now (range_with_len target (length args)) ≡ atoms now args
+  unfolding input_eqns
+  inputs-copied target [] h = refl
+  inputs-copied target (a ∷ args) h =
+      let copied : now target ∷ [] ≡ atom now a ∷ [] = h.0 refl in
+      let first : now target ≡ atom now a = cc in
+      ap₂ (λ v vs. v ∷ vs) first (inputs-copied (target + 1) args h.1)
+
+  -- ---- where it stands in a node
+
+  module _ (observer n : FlatNode) (args : List Atom) (h : AllByRecursion (Holds answers past now) (embedded observer (on_base args) n).eqns) where
+    abbrev V : ℕ
+    V = length n.variables
+
+    abbrev copies : List FlatEqn
+    copies = input_eqns [] V args
+
+    abbrev moved : List FlatEqn
+    moved = map (moved_eqn (on_base args) V) observer.eqns
+
+    behind-hold : AllByRecursion (Holds answers past now) (copies ++ moved)
+    behind-hold = each_second (Holds answers past now) n.eqns (copies ++ moved) (subst (AllByRecursion (Holds answers past now)) (embedded-eqns observer (on_base args) n) h)
+
+    -- Its equations hold.
+    pub observer-holds : AllByRecursion (Holds answers (map (moved_in V) past) (moved_in V now)) observer.eqns
+    observer-holds = all-moved V answers args past now observer.eqns (each_second (Holds answers past now) copies moved behind-hold)
+
+    -- Its inputs have the values that it stands over.
+    pub observer-inputs : observer.inputs ≡ length args → map (moved_in V now) (inputs_of observer) ≡ atoms now args
+    observer-inputs many =
+        ap (λ k. map (moved_in V now) (range_with_len 0 k)) many ∙ numbers-moved V (length args) 0 now ∙ ap (λ k. map now (range_with_len k (length args))) (none V) ∙ inputs-copied V args (each_first (Holds answers past now) copies moved behind-hold)
+      where
+        none : (k : ℕ) → 0 + k ≡ k
+        none k = omega arith
