@@ -1,16 +1,20 @@
 -- Where the equations of an observer hold among those of a node, on the base clock, they hold by themselves, in its own variables.
-use Rattle.std.proofs.Common.{◌≡◌, ℕ, zero, suc, ◌+◌, ◌&&◌, ◌||◌, List, [], ◌∷◌, ◌++◌, length, map, refl, sym, ap, ap₂, subst, ◌∙◌, arith}
+use Rattle.std.proofs.Common.{◌≡◌, ℕ, zero, suc, ◌+◌, ◌<◌, ◌≤◌, nat_eq, Bool, true, false, ◌&&◌, ◌||◌, List, [], ◌∷◌, ◌++◌, length, map, refl, sym, ap, ap₂, subst, ◌∙◌, arith}
 use Rattle.std.specs.List.{AllByRecursion, range_with_len}
 use Rattle.std.specs.Prelude.{IsTrue}
+use Rattle.std.proofs.lemmas.Bool.Decides.{nat_tests}
+use Rattle.hp_base.specs.declared.value.Value.TheVariants.{Absent}
 use Rattle.hp_flat.specs.declared.equation.Atom.{Atom}
 use Rattle.hp_flat.specs.declared.equation.Atom.TheVariants.{Variable as Read, Value as Fixed}
 use Rattle.hp_flat.specs.Equations.{Clock, FlatEqn, Right, called, operator, register}
 use Rattle.hp_flat.specs.Nodes.{FlatNode}
 use Rattle.law_equations.specs.Meaning.Instants.{Instant, atom, atoms, has_constructor, history, holds, is_true, newest, noted, restarted, since, unless}
 use Rattle.hp_obc.specs.Values.{operated}
-use Rattle.law_equations.specs.Meaning.Reactions.{Answers, Holds, inputs_of, right_gives}
+use Rattle.law_equations.specs.Meaning.Reactions.{Answers, Continues, Holds, has, inputs_of, is_set, right_gives}
+use Rattle.law_automata.proofs.LoweredLemmas.Expressions.{ap₃}
 use Rattle.law_equations.proofs.FollowedLemmas.Passing.{each_first, each_second}
 use Rattle.hp_watch.specs.Embedding.{Site, embedded, moved_all, moved_atom, moved_clock, moved_eqn, moved_right}
+use Rattle.law_choices.proofs.AddingLemmas.Steps.{none_among}
 use Rattle.law_choices.proofs.AddingLemmas.Embeds.{embedded-eqns, input_eqns}
 
 -- the site on the base clock, over some inputs
@@ -114,3 +118,57 @@ module _ (answers : Answers) (past : List Instant) (now : Instant) where
       where
         none : (k : ℕ) → 0 + k ≡ k
         none k = omega arith
+
+    -- What none of its equations sets is absent.
+    above : (t k x : ℕ) → t < k → k ≤ x → nat_eq t x ≡ false
+    above t k x l m = grind (arith, nat_tests)
+
+    moved-test : (t x k : ℕ) → nat_eq (t + k) (x + k) ≡ nat_eq t x
+    moved-test t x k = grind (arith, nat_tests)
+
+    none-set : (es : List FlatEqn) (k x : ℕ) → AllByRecursion (λ (e : FlatEqn). AllByRecursion (λ t. t < k) e.targets) es → k ≤ x → is_set es now x ≡ false
+    none-set [] k x l m = refl
+    none-set (e ∷ es) k x l m = ap₂ (λ b c. (holds e.clock now && b) || c) (none_among (λ t. t < k) x (λ t z. above t k x z m) e.targets l.0) (none-set es k x l.1 m) ∙ never (holds e.clock now)
+      where
+        never : (b : Bool) → ((b && false) || false) ≡ false
+        never true = refl
+        never false = refl
+
+    none-copied : (target : ℕ) (ats : List Atom) (x : ℕ) → target + length ats ≤ x → is_set (input_eqns [] target ats) now x ≡ false
+    unfolding input_eqns
+    none-copied target [] x l = refl
+    none-copied target (a ∷ ats) x l =
+        ap₂ (λ b c. (b || false) || c) (above target (target + 1) x (omega arith) (omega (arith, l))) (none-copied (target + 1) ats x (omega (arith, l)))
+
+    has-moved : (ts : List ℕ) (x : ℕ) → has (moved_all V ts) (x + V) ≡ has ts x
+    has-moved [] x = refl
+    has-moved (t ∷ ts) x = ap₂ (λ b c. b || c) (moved-test t x V) (has-moved ts x)
+
+    set-moved : (es : List FlatEqn) (x : ℕ) → is_set (map (moved_eqn (on_base args) V) es) now (x + V) ≡ is_set es (moved_in V now) x
+    set-moved [] x = refl
+    set-moved (e ∷ es) x = ap₃ (λ a b c. (a && b) || c) (clock-moved V e.clock now) (has-moved e.targets x) (set-moved es x)
+
+    set-both : (xs ys : List FlatEqn) (x : ℕ) → is_set xs now x ≡ false → is_set (xs ++ ys) now x ≡ is_set ys now x
+    set-both [] ys x h = refl
+    set-both (e ∷ xs) ys x h = by (holds e.clock now && has e.targets x) h (λ z. set-both xs ys x z)
+      where
+        by : (b : Bool) → (b || is_set xs now x) ≡ false → (is_set xs now x ≡ false → is_set (xs ++ ys) now x ≡ is_set ys now x) → (b || is_set (xs ++ ys) now x) ≡ is_set ys now x
+        by true z r = absurd cc
+        by false z r = r z
+
+    module _ (many : observer.inputs ≡ length args) (within : AllByRecursion (λ (e : FlatEqn). AllByRecursion (λ t. t < V) e.targets) n.eqns) where
+      set-there : (x : ℕ) → observer.inputs ≤ x → is_set (embedded observer (on_base args) n).eqns now (x + V) ≡ is_set observer.eqns (moved_in V now) x
+      set-there x l =
+          ap (λ es. is_set es now (x + V)) (embedded-eqns observer (on_base args) n)
+          ∙ set-both n.eqns (copies ++ moved) (x + V) (none-set n.eqns V (x + V) within (omega arith))
+          ∙ set-both copies moved (x + V) (none-copied V args (x + V) (omega (arith, l, many)))
+          ∙ set-moved observer.eqns x
+
+      -- So the instant continues a past of the observer, over the values of what it stands over.
+      pub observer-continues : ((x : ℕ) → observer.inputs ≤ x → is_set (embedded observer (on_base args) n).eqns now (x + V) ≡ false → now (x + V) ≡ Absent)
+          → Continues answers observer (map (moved_in V) past) (atoms now args) (moved_in V now)
+      observer-continues absent = record {
+        inputs_are = observer-inputs many;
+        equations = observer-holds;
+        others = λ x l h. absent x l (set-there x l ∙ h);
+      }
