@@ -253,23 +253,23 @@ module _ (program after : List Item) (r : IsReady program after) (removable : Is
 
     later_right : Each P (free_among contract_slots ++ free_among body_slots)
     later_right =
-        let R3 = contract_slots ++ body_slots in
-        let R2 = Cs ++ R3 in
-        let R1 = Ls ++ R2 in
+        let behind_controls = contract_slots ++ body_slots in
+        let behind_lasts = Cs ++ behind_controls in
+        let behind_inputs = Ls ++ behind_lasts in
         subst (Each P) (among-append contract_slots body_slots)
-        (each-back P (free_among Cs) (free_among R3) (subst (Each P) (among-append Cs R3)
-        (each-back P (free_among Ls) (free_among R2) (subst (Each P) (among-append Ls R2)
-        (each-back P (free_among I) (free_among R1) (subst (Each P) (among-append I R1) all_right))))))
+        (each-back P (free_among Cs) (free_among behind_controls) (subst (Each P) (among-append Cs behind_controls)
+        (each-back P (free_among Ls) (free_among behind_lasts) (subst (Each P) (among-append Ls behind_lasts)
+        (each-back P (free_among I) (free_among behind_inputs) (subst (Each P) (among-append I behind_inputs) all_right))))))
 
     -- those of the slots of a node
     pub flags-are : early_flags early (slots_of_node after n) ≡ (early_flags early I ++ early_flags early contract_slots) ++ early_flags early body_slots
     flags-are =
         let F = early_flags early in
-        let R3 = contract_slots ++ body_slots in
-        let R2 = Cs ++ R3 in
+        let behind_controls = contract_slots ++ body_slots in
+        let behind_lasts = Cs ++ behind_controls in
         ap (λ o. early_flags early (I ++ (Ls ++ (Cs ++ (slots_of_contract types outs callee o (typed_in n.inputs (typed_in n.outputs untyped)) here ++ body_slots))))) has
-        ∙ flags-append early I (Ls ++ R2)
-        ∙ ap (λ bs. F I ++ bs) (flags-append early Ls R2 ∙ ap₂ (λ xs ys. xs ++ ys) (flags-none early Ls (lasts-none types n.outputs here)) (flags-append early Cs R3 ∙ ap₂ (λ xs ys. xs ++ ys) (flags-none early Cs (controls-none (controls_of n.contract) (below Controls here))) (flags-append early contract_slots body_slots)))
+        ∙ flags-append early I (Ls ++ behind_lasts)
+        ∙ ap (λ bs. F I ++ bs) (flags-append early Ls behind_lasts ∙ ap₂ (λ xs ys. xs ++ ys) (flags-none early Ls (lasts-none types n.outputs here)) (flags-append early Cs behind_controls ∙ ap₂ (λ xs ys. xs ++ ys) (flags-none early Cs (controls-none (controls_of n.contract) (below Controls here))) (flags-append early contract_slots body_slots)))
         ∙ sym (append_assoc (F I) (F contract_slots) (F body_slots))
 
     pub flags-of-inputs : IsSigned k.types n plant → length (early_flags early I) ≡ length (free_inputs plant inputs)

@@ -128,16 +128,16 @@ module _ (types : List TypeDecl) (outs : List ℕ → List Decl) (callee : List 
     states-bigger : (ss : States) (names : Scope) (w : Prefix) → Bigger (groups_of_states types outs callee ss names w) (groups_of_states types outs no_slots ss names w)
     states-bigger no_state names w = tt
     states-bigger (more_states f b until unless s ss) names w =
-        let A = groups_of_block types outs callee b names (below Body (below Head w)) in
-        let C = groups_of_conditions types outs callee until (scope_of b names) (below Until (below Head w)) in
-        let D = groups_of_conditions types outs callee unless names (below Unless (below Head w)) in
-        let M = groups_of_states types outs callee ss names (below Tail w) in
-        let A0 = groups_of_block types outs no_slots b names (below Body (below Head w)) in
-        let C0 = groups_of_conditions types outs no_slots until (scope_of b names) (below Until (below Head w)) in
-        let D0 = groups_of_conditions types outs no_slots unless names (below Unless (below Head w)) in
-        let M0 = groups_of_states types outs no_slots ss names (below Tail w) in
-        two-bigger A A0 (C ++ (D ++ M)) (C0 ++ (D0 ++ M0)) (block-bigger b names (below Body (below Head w)))
-        (two-bigger C C0 (D ++ M) (D0 ++ M0) (conditions-bigger until (scope_of b names) (below Until (below Head w))) (two-bigger D D0 M M0 (conditions-bigger unless names (below Unless (below Head w))) (states-bigger ss names (below Tail w))))
+        let of_body = groups_of_block types outs callee b names (below Body (below Head w)) in
+        let of_until = groups_of_conditions types outs callee until (scope_of b names) (below Until (below Head w)) in
+        let of_unless = groups_of_conditions types outs callee unless names (below Unless (below Head w)) in
+        let of_others = groups_of_states types outs callee ss names (below Tail w) in
+        let body_alone = groups_of_block types outs no_slots b names (below Body (below Head w)) in
+        let until_alone = groups_of_conditions types outs no_slots until (scope_of b names) (below Until (below Head w)) in
+        let unless_alone = groups_of_conditions types outs no_slots unless names (below Unless (below Head w)) in
+        let others_alone = groups_of_states types outs no_slots ss names (below Tail w) in
+        two-bigger of_body body_alone (of_until ++ (of_unless ++ of_others)) (until_alone ++ (unless_alone ++ others_alone)) (block-bigger b names (below Body (below Head w)))
+        (two-bigger of_until until_alone (of_unless ++ of_others) (unless_alone ++ others_alone) (conditions-bigger until (scope_of b names) (below Until (below Head w))) (two-bigger of_unless unless_alone of_others others_alone (conditions-bigger unless names (below Unless (below Head w))) (states-bigger ss names (below Tail w))))
 
 -- ---- as many as have names
 
