@@ -1,0 +1,5 @@
+pub mod Observed
+pub mod Reacting
+pub mod Meaning
+pub mod Found
+pub mod Sites
