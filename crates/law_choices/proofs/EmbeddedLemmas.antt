@@ -6,3 +6,4 @@ mod Moved
 mod Sites
 mod OwnSite
 mod CalledSites
+mod Told

@@ -11,6 +11,7 @@ pub mod Looked
 pub mod Rowed
 pub mod PlantRuns
 pub mod Callees
+pub mod HeldRows
 pub mod HeldInBody
 pub mod SeenInBody
 pub mod NamedInBody

@@ -73,13 +73,13 @@ use Rattle.law_choices.proofs.SeeingLemmas.Rowed.{IsBrought, Row, all-rows, at-l
 abbrev pub IsTold : flows.Instant → Instant → ℕ → Place → Type 0
 IsTold j now x p = IsTrue (is_there (now p)) → (now p ≡ Nil → ⊥) → j x ≡ now p
 
-there-some : (v : Value) → (v ≡ Absent → ⊥) → is_there v ≡ true
-there-some Absent h = absurd (h refl)
-there-some Nil h = refl
-there-some Star h = refl
-there-some (B b) h = refl
-there-some (I m) h = refl
-there-some (E t m) h = refl
+pub there-some : (v : Value) → (v ≡ Absent → ⊥) → is_there v ≡ true
+pub there-some Absent h = absurd (h refl)
+pub there-some Nil h = refl
+pub there-some Star h = refl
+pub there-some (B b) h = refl
+pub there-some (I m) h = refl
+pub there-some (E t m) h = refl
 
 -- other values, but for inputs and controllable variables
 abbrev with_own : Instant → Instant → Instant
