@@ -7,3 +7,4 @@ mod Sites
 mod OwnSite
 mod CalledSites
 mod Told
+mod Instants

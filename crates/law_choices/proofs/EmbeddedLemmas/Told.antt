@@ -43,19 +43,22 @@ use Rattle.law_choices.proofs.SeeingLemmas.Rowed.{NumberHas, TargetsAre, of-inte
 abbrev pub IsNoCall : Right → Type 0
 IsNoCall r = (f : List ℕ) (args : List Atom) → r ≡ called f args → ⊥
 
+-- A free place of a contract that stands below a prefix, with the variable of the observer that has its value.
+pub record IsContractRow (g : FlatNode) (w : Prefix) (j : flows.Instant) (now : Instant) (q : FreePlace) (f : Free) : Type 0 where
+  pub place : Place
+  pub is : q ≡ (w place, ty.Bool)
+  pub typed : type_at g f.variable ≡ flat.Bool
+  pub within : f.variable < length g.variables
+  pub number : ℕ
+  pub numbered : f.eqn ≡ Some number
+  pub eqn : FlatEqn
+  pub there : slice_get g.eqns number ≡ Some eqn
+  pub told : IsSome (now place) → IsTrue (flows.holds eqn.clock j) × (j f.variable ≡ now place)
+
 module _ (given : List ℕ → List Ty) (k : Known) (d : Sketch) (g : FlatNode) (laid : g.variables ≡ d.variables) (alone : AllByRecursion (λ (e : FlatEqn). IsNoCall e.right) g.eqns) (no_inputs : AllByRecursion (λ (e : FlatEqn). AllByRecursion (λ x. g.inputs ≤ x) e.targets) g.eqns)
     (w : Prefix) (j : flows.Instant) (now observing : Instant) (others : (x : ℕ) → g.inputs ≤ x → is_set g.eqns j x ≡ false → j x ≡ Absent) where
-  -- A free place of the contract, with the variable of the observer that has its value.
-  pub record IsContractRow (q : FreePlace) (f : Free) : Type 0 where
-    pub place : Place
-    pub is : q ≡ (w place, ty.Bool)
-    pub typed : type_at g f.variable ≡ flat.Bool
-    pub within : f.variable < length g.variables
-    pub number : ℕ
-    pub numbered : f.eqn ≡ Some number
-    pub eqn : FlatEqn
-    pub there : slice_get g.eqns number ≡ Some eqn
-    pub told : IsSome (now place) → IsTrue (flows.holds eqn.clock j) × (j f.variable ≡ now place)
+  abbrev IsRow : FreePlace → Free → Type 0
+  IsRow q f = IsContractRow g w j now q f
 
   typed : (x : ℕ) (t : FlatTy) → HasType d x t → (type_at g x ≡ t) × (x < length g.variables)
   typed x t h =
@@ -97,7 +100,7 @@ module _ (given : List ℕ → List Ty) (k : Known) (d : Sketch) (g : FlatNode) 
         by true h = h
         by false h = absurd (some.1 (sym value ∙ others x no_input (off-unset x e.clock g.eqns j on h)))
 
-    row : (l : List Ty) (p q : Place) (x : Compares k d e l) → l ≡ ty.Bool ∷ [] → now q ≡ observing p → Along (IsTold j observing) e.targets (p ∷ []) → Along IsContractRow ((w q, ty.Bool) ∷ []) (free_at g m)
+    row : (l : List Ty) (p q : Place) (x : Compares k d e l) → l ≡ ty.Bool ∷ [] → now q ≡ observing p → Along (IsTold j observing) e.targets (p ∷ []) → Along IsRow ((w q, ty.Bool) ∷ []) (free_at g m)
     row l p q x truth same told =
         let first : type_at g x.first ≡ flat.Int = (typed x.first (flat_type k.types x.type) x.typed).0 ∙ ap (flat_type k.types) (of-integers x.type (sym x.brings ∙ truth)) in
         let target = typed x.target flat.Bool x.truth in
@@ -105,14 +108,14 @@ module _ (given : List ℕ → List Ty) (k : Known) (d : Sketch) (g : FlatNode) 
         let are : free_at g m ≡ f ∷ [] =
         ap (free_of g m) at ∙ ap₂ (λ (r : Right) ts. free_by g m r ts) x.right x.targets ∙ ap (λ u. if is_integer u then flat_map (free_target g m) (x.target ∷ []) else []) first
         ∙ ap (λ u. (if is_integer u then [] else record { variable = x.target; eqn = Some m } ∷ []) ++ []) target.0 in
-        let its : IsContractRow (w q, ty.Bool) f = record { place = q; is = refl; typed = target.0; within = target.1; number = m; numbered = refl; eqn = e; there = at; told = one-told p q x.target x.targets same told } in
-        subst (Along IsContractRow ((w q, ty.Bool) ∷ [])) (sym are) (its, tt)
+        let its : IsRow (w q, ty.Bool) f = record { place = q; is = refl; typed = target.0; within = target.1; number = m; numbered = refl; eqn = e; there = at; told = one-told p q x.target x.targets same told } in
+        subst (Along IsRow ((w q, ty.Bool) ∷ [])) (sym are) (its, tt)
 
-    one : (l : List Ty) (s : Spot × Spot) (places : List FreePlace) → Brings given k d e l → l ≡ types_of_places places → Along (IsTold j observing) e.targets (places_of s.0) → IsSeenBeside w now observing s.0 places → Along IsContractRow places (free_at g m)
+    one : (l : List Ty) (s : Spot × Spot) (places : List FreePlace) → Brings given k d e l → l ≡ types_of_places places → Along (IsTold j observing) e.targets (places_of s.0) → IsSeenBeside w now observing s.0 places → Along IsRow places (free_at g m)
     one l (compared o p, z) places (inl b) is told (inl empty) =
-        subst (λ qs. Along IsContractRow qs (free_at g m)) (sym empty) (subst (Along IsContractRow []) (sym (none l (is ∙ ap types_of_places empty) b)) tt)
+        subst (λ qs. Along IsRow qs (free_at g m)) (sym empty) (subst (Along IsRow []) (sym (none l (is ∙ ap types_of_places empty) b)) tt)
     one l (compared o p, z) places (inl b) is told (inr some) =
-        subst (λ qs. Along IsContractRow qs (free_at g m)) (sym some.1) (row l p some.0 b (is ∙ ap types_of_places some.1) some.2 told)
+        subst (λ qs. Along IsRow qs (free_at g m)) (sym some.1) (row l p some.0 b (is ∙ ap types_of_places some.1) some.2 told)
     one l (compared o p, z) places (inr b) is told seen = absurd (at_number (λ (u : FlatEqn). IsNoCall u.right) g.eqns m e at alone b.callee b.args b.right)
     one l (call_at f ps, z) places b is told seen = absurd seen
 
@@ -121,7 +124,7 @@ module _ (given : List ℕ → List Ty) (k : Known) (d : Sketch) (g : FlatNode) 
   same_eqn m e u h i = let both = sym i ∙ h in cc
 
   pub all-rows : (order : List ℕ) (L : List (List Ty)) (fs : Both) (gs : List (List FreePlace)) → Along (AtNumber (Brings given k d) g.eqns) order L → L ≡ types_apiece gs → AllByRecursion (NumberHas IsSingle g.eqns) order → Along (TargetsAre (IsTold j observing) g.eqns) order fs
-      → Along (λ (s : Spot × Spot) (places : List FreePlace). IsSeenBeside w now observing s.0 places) fs gs → Along IsContractRow (in_a_row gs) (flat_map (free_at g) order)
+      → Along (λ (s : Spot × Spot) (places : List FreePlace). IsSeenBeside w now observing s.0 places) fs gs → Along IsRow (in_a_row gs) (flat_map (free_at g) order)
   all-rows [] L [] [] a e single t h = tt
   all-rows [] L [] (places ∷ gs) a e single t h = absurd h
   all-rows [] L (s ∷ fs) gs a e single t h = absurd t
@@ -135,4 +138,4 @@ module _ (given : List ℕ → List Ty) (k : Known) (d : Sketch) (g : FlatNode) 
       let behind : L ≡ types_apiece gs = cc in
       let own : IsSingle u = subst IsSingle (same_eqn m u single.0.0 at single.0.1) single.0.2 in
       let told : Along (IsTold j observing) u.targets (places_of s.0) = subst (λ (z : FlatEqn). Along (IsTold j observing) z.targets (places_of s.0)) (same_eqn m u t.0.0 at t.0.1) t.0.2 in
-      along-both IsContractRow places (in_a_row gs) (free_at g m) (flat_map (free_at g) order) (one m u at own l s places a.0.2 first told h.0) (all-rows order L fs gs a.1 behind single.1 t.1 h.1)
+      along-both IsRow places (in_a_row gs) (free_at g m) (flat_map (free_at g) order) (one m u at own l s places a.0.2 first told h.0) (all-rows order L fs gs a.1 behind single.1 t.1 h.1)

@@ -122,7 +122,7 @@ module _ (means : ℕ → FlatName) (now low : Instant) (j : flows.Instant) (val
       let others : map means xs ≡ ats qs = cc in
       (λ there some. values x q first ∙ h.0 there some, places-told xs ps qs others h.1)
 
-  targets-told : (es : List FlatEqn) (order : List ℕ) (fs : Both) → Along (StandsAtNumber means es) order (map (λ (s : Spot × Spot). s.1) fs) → Each (λ (s : Spot × Spot). Along (KnownAlike now low) (places_of s.0) (places_of s.1)) fs → Along (TargetsAre (IsTold j now) es) order fs
+  pub targets-told : (es : List FlatEqn) (order : List ℕ) (fs : Both) → Along (StandsAtNumber means es) order (map (λ (s : Spot × Spot). s.1) fs) → Each (λ (s : Spot × Spot). Along (KnownAlike now low) (places_of s.0) (places_of s.1)) fs → Along (TargetsAre (IsTold j now) es) order fs
   targets-told es [] [] a h = tt
   targets-told es [] (s ∷ fs) a h = absurd a
   targets-told es (m ∷ order) [] a h = absurd a
@@ -211,7 +211,7 @@ module _ (nodes : NodeLaws) (types : List ObcType) (all : Callees) (observers : 
 -- ---- a program
 
 -- what is found beside instants is found beside the same instants
-found-same : (outputs : List ℕ → List (List ℕ)) (n : Node) (past other low : Past) → SamePasts past other → Along (FoundAlike outputs n) other low → Along (FoundAlike outputs n) past low
+pub found-same : (outputs : List ℕ → List (List ℕ)) (n : Node) (past other low : Past) → SamePasts past other → Along (FoundAlike outputs n) other low → Along (FoundAlike outputs n) past low
 found-same outputs n [] [] low same h = h
 found-same outputs n [] (j ∷ other) low same h = absurd same
 found-same outputs n (i ∷ past) [] low same h = absurd same
