@@ -8,3 +8,4 @@ mod OwnSite
 mod CalledSites
 mod Told
 mod Instants
+mod Rows

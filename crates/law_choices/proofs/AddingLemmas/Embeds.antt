@@ -126,6 +126,10 @@ module _ (observer : FlatNode) (site : Site) (n : FlatNode) where
   pub embedded-eqns : (embedded observer site n).eqns ≡ n.eqns ++ (input_eqns site.clock (length n.variables) site.inputs ++ map (moved_eqn site (length n.variables)) observer.eqns)
   embedded-eqns = (embedded-behind).eqns
 
+  -- and those that are there before the observer's own ones
+  pub room-eqns : (with_room observer site n).eqns ≡ n.eqns ++ input_eqns site.clock (length n.variables) site.inputs
+  room-eqns = (inputs-behind site.clock site.inputs n (with_variables observer.variables n) (renamed (length n.variables) observer.variables) [] (length n.variables) (variables-behind observer.variables n n [] [] (length n.variables) refl (nothing-behind n))).eqns
+
   -- how many variables it has
   pub embedded-many : length (embedded observer site n).variables ≡ length n.variables + length observer.variables
   embedded-many =
