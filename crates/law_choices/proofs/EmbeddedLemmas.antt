@@ -9,3 +9,6 @@ mod CalledSites
 mod Told
 mod Instants
 mod Rows
+mod OwnRows
+mod SiteRows
+mod Observers

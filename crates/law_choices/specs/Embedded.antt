@@ -3,3 +3,4 @@ pub mod Reacting
 pub mod Meaning
 pub mod Found
 pub mod Sites
+pub mod Observers

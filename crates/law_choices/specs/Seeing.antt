@@ -10,3 +10,4 @@ pub mod ByName
 pub mod InBody
 pub mod SeenByName
 pub mod SeenInBody
+pub mod OwnContract

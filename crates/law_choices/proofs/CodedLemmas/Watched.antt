@@ -47,7 +47,7 @@ constructor-of types (Enum t) (E u d) c h a k = let e = bytes_at types t h in le
     nat-self d = grind (arith, nat_tests)
 constructor-of types (Enum t) v c h a k = absurd k
 
-holds-front : (c more : Clock) (now : Instant) → holds (c ++ more) now ≡ true → holds c now ≡ true
+pub holds-front : (c more : Clock) (now : Instant) → holds (c ++ more) now ≡ true → holds c now ≡ true
 holds-front [] more now h = refl
 holds-front (on ∷ c) more now h = by (has_constructor on.1 (now on.0)) h (holds-front c more now)
   where
