@@ -12,3 +12,5 @@ mod Rows
 mod OwnRows
 mod SiteRows
 mod Observers
+mod OwnThroughout
+mod Outputs

@@ -13,6 +13,8 @@ pub mod PlantRuns
 pub mod Callees
 pub mod HeldRows
 pub mod HeldInBody
+pub mod FoundTold
+pub mod SeenOwn
 pub mod SeenInBody
 pub mod NamedInBody
 pub mod Outputs

@@ -11,3 +11,4 @@ pub mod InBody
 pub mod SeenByName
 pub mod SeenInBody
 pub mod OwnContract
+pub mod SeenOwn

@@ -1,7 +1,7 @@
 -- Throughout a reaction of a node, what the equations of its observer hold for the comparisons of the contract.
-use Rattle.std.proofs.Common.{◌≡◌, ℕ, ◌≤◌, Bool, false, List, [], ◌∷◌, ◌++◌, length, map, reverse, slice_get, Some, refl, sym, ap, ap₂, subst, ◌∙◌}
-use Rattle.std.specs.List.{AllByRecursion, flat_map}
-use Rattle.std.specs.Prelude.{⊤, IsTrue, filter}
+use Rattle.std.proofs.Common.{◌≡◌, ℕ, ◌≤◌, false, List, [], ◌∷◌, map, reverse, Some, refl, sym, ap, ap₂, subst, ◌∙◌}
+use Rattle.std.specs.List.{AllByRecursion}
+use Rattle.std.specs.Prelude.{⊤, filter}
 use Rattle.std.proofs.lemmas.List.{append-nil}
 use Rattle.hp_base.specs.Kinds.{AreOfKinds}
 use Rattle.hp_base.specs.declared.ty.Ty.{Ty}
@@ -18,27 +18,26 @@ use Rattle.hp_tree.specs.Instant as tree
 use Rattle.hp_tree.specs.Meaning.{node_among, types_of}
 use Rattle.hp_tree.specs.Programs.{Contract, Node, TypeDecl}
 use Rattle.hp_tree.specs.Operators.{real}
-use Rattle.hp_tree.specs.Reaction.{Each}
 use Rattle.hp_meaning.specs.Causal.Points.{points_of_contract}
 use Rattle.hp_meaning.specs.Contract.FreePlaces.{is_call}
-use Rattle.hp_meaning.specs.Causal.OneReaction.{ReactionOf, SamePasts}
-use Rattle.hp_meaning.specs.Contract.Slots.{FreePlace, Slot, free_among, slots_of_contract}
+use Rattle.hp_meaning.specs.Causal.OneReaction.{ReactionOf}
+use Rattle.hp_meaning.specs.Contract.Slots.{FreePlace, Slot}
 use Rattle.hp_automata.specs.Lowering.{enumerations, lowered_node, lowered_program}
 use Rattle.law_automata.specs.Lowered.Standing.{Along}
 use Rattle.law_equations.specs.Flattened.Flatten.{At, FlatName, Prefix}
-use Rattle.law_equations.specs.Followed.Programs.{CallsAmong, CallsOnly, all_answers}
-use Rattle.law_equations.specs.Made.Making.{Known, Sketch, sketch_node}
+use Rattle.law_equations.specs.Followed.Programs.{CallsAmong, CallsOnly}
+use Rattle.law_equations.specs.Made.Making.{Known, sketch_node}
 use Rattle.law_equations.specs.Meaning.Instants as flows
-use Rattle.law_equations.specs.Meaning.Reactions.{Answers, Continues, Holds, Reaction, is_set}
+use Rattle.law_equations.specs.Meaning.Reactions.{Answers, Holds, Reaction, is_set}
 use Rattle.law_wellmade.specs.Timely.Kinds.{kinds_of_decls}
 use Rattle.hp_complete.specs.Declaring.{known_of}
 use Rattle.hp_complete.specs.Made.{IsMadeOf}
 use Rattle.hp_watch.specs.Observing.{observer_of, observers}
 use Rattle.hp_watch.specs.Walk.{events_from, walk_block, walk_contract}
-use Rattle.hp_watch.specs.Watching.{free_at, observed}
+use Rattle.hp_watch.specs.Watching.{observed}
 use Rattle.hp_watch.specs.declared.watching.Free.{Free}
-use Rattle.law_choices.specs.Choosing.Choices.{ReactionUnder, with_chosen}
-use Rattle.law_choices.specs.Embedded.Found.{ContractFoundLaw, ContractWalkLaw, IsSeenBeside}
+use Rattle.law_choices.specs.Choosing.Choices.{with_chosen}
+use Rattle.law_choices.specs.Embedded.Found.{ContractFoundLaw, ContractWalkLaw}
 use Rattle.law_choices.specs.Embedded.Meaning.{no_choices}
 use Rattle.law_choices.specs.Embedded.Observed.{IsObserved, observed_rows}
 use Rattle.law_choices.specs.Embedded.Reacting.{ObserverReacts}
@@ -46,7 +45,7 @@ use Rattle.law_choices.specs.Flat.Names.{values_at}
 use Rattle.law_choices.specs.Flat.Places.{IsOn, values_in}
 use Rattle.law_choices.specs.Places.Found.{Both, found_in_node}
 use Rattle.law_choices.specs.Places.Groups.{groups_of_contract, in_a_row}
-use Rattle.law_choices.specs.Places.Laws.{KnowsOutputs, events, places_of}
+use Rattle.law_choices.specs.Places.Laws.{KnowsOutputs}
 use Rattle.law_choices.specs.Places.Spots.{Spot}
 use Rattle.law_choices.specs.Places.Standing.{StandsAtNumber}
 use Rattle.law_choices.specs.Runs.Chosen.{ChosenReaction, chosen_meaning}
@@ -57,9 +56,8 @@ use Rattle.law_choices.proofs.BroughtLemmas.Brought.{Brings}
 use Rattle.law_choices.proofs.EmbeddedLemmas.Told.{IsContractRow, IsNoCall, all-rows}
 use Rattle.law_choices.proofs.PlacesLemmas.Numbers.{AtNumber}
 use Rattle.law_choices.proofs.PlacesLemmas.Standing.{events-alike, standing-law}
-use Rattle.law_choices.proofs.SeeingLemmas.HeldInBody.{IsTold}
-use Rattle.law_choices.proofs.SeeingLemmas.Rowed.{NumberHas, TargetsAre, walked-have}
-use Rattle.law_choices.proofs.SeeingLemmas.SeenInBody.{found-same, targets-told}
+use Rattle.law_choices.proofs.SeeingLemmas.Rowed.{NumberHas, walked-have}
+use Rattle.law_choices.proofs.SeeingLemmas.FoundTold.{found-same, targets-told}
 
 -- ---- equations that call nothing
 

@@ -26,7 +26,6 @@ use Rattle.law_judged.specs.Named.Scoped.{EachNode}
 use Rattle.law_wellmade.specs.Timely.Kinds.{kind_of, kinds_of_decls}
 use Rattle.hp_complete.specs.Made.{AreMadeOf, IsMadeOf}
 use Rattle.hp_watch.specs.Observing.{inputs_for, item_of, observer_if, observer_of, observers}
-use Rattle.hp_watch.specs.Watching.{Observing, observed}
 use Rattle.law_choices.specs.Embedded.Observed.{observed_rows, outputs_of_instant}
 use Rattle.law_choices.specs.InTurn.Observed.{EachObserved, contracted_nodes, with_contract}
 

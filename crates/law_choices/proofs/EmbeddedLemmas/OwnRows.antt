@@ -1,13 +1,12 @@
 -- The free places of a node's own contract, beside an instant of the node and one of the equations that choose.
-use Rattle.std.proofs.Common.{◌≡◌, ℕ, ◌<◌, Bool, true, false, List, [], ◌∷◌, ◌++◌, length, map, Some, refl, sym, ap, subst, ◌∙◌, if◌then◌else◌}
+use Rattle.std.proofs.Common.{◌≡◌, ℕ, Bool, true, false, List, [], ◌∷◌, ◌++◌, length, map, Some, refl, sym, ap, subst, ◌∙◌, if◌then◌else◌}
 use Rattle.std.specs.List.{AllByRecursion, flat_map}
-use Rattle.std.specs.Prelude.{⊤}
 use Rattle.hp_base.specs.Kinds.{IsOfKind}
 use Rattle.hp_obc.specs.Machines.{ObcType}
 use Rattle.hp_tree.specs.declared.program.Item.{Item}
-use Rattle.hp_tree.specs.Instant.{Instant, Past, Place}
+use Rattle.hp_tree.specs.Instant.{Instant, Past}
 use Rattle.hp_tree.specs.Meaning.{types_of}
-use Rattle.hp_tree.specs.Programs.{Contract, Node, TypeDecl}
+use Rattle.hp_tree.specs.Programs.{Contract, Node}
 use Rattle.hp_flat.specs.declared.node.Variable.{Variable}
 use Rattle.hp_flat.specs.Equations.{Clock}
 use Rattle.hp_flat.specs.Nodes.{FlatNode}
@@ -40,7 +39,7 @@ use Rattle.law_choices.proofs.EmbeddedLemmas.Rows.{type-moved, value-moved}
 use Rattle.law_choices.proofs.EmbeddedLemmas.Told.{IsContractRow}
 use Rattle.law_choices.proofs.InTurnLemmas.Contracted.{Ground, NodeLaws}
 use Rattle.law_choices.proofs.PlayingLemmas.Asking.{seen, survey}
-use Rattle.law_choices.proofs.SeeingLemmas.HeldRows.{HoldsRow}
+use Rattle.law_choices.proofs.SeeingLemmas.HeldRows.{HoldRowsThroughout, HoldsRow}
 use Rattle.law_choices.proofs.SeeingLemmas.Looked.{IsSome}
 
 -- ---- the kind of what is held
@@ -126,13 +125,8 @@ module _ (nodes : NodeLaws) (types : List ObcType) (all : Callees) (observers : 
 
   -- ---- throughout a reaction
 
-  abbrev pub AllOwn : List FreePlace → Past → List flows.Instant → Type 0
-  AllOwn qs [] [] = ⊤
-  AllOwn qs (now ∷ past) (i ∷ instants) = AllOwn qs past instants × Along (HoldsRow nodes types all observers program after ranks order earlier n stands c g i now) qs of_contract
-  AllOwn qs past instants = ⊥
-
   pub all-own : (qs : List FreePlace) (past : Past) (instants : List flows.Instant) → AllTold o (λ p. p) qs (observed k o).free past (map (moved_in (length o.variables) (length c.plant.variables)) instants)
-      → AllByRecursion (IsTypedAt types s.node ((seen nodes types all observers n c g).keeps).clocks) instants → AllOwn qs past instants
+      → AllByRecursion (IsTypedAt types s.node ((seen nodes types all observers n c g).keeps).clocks) instants → HoldRowsThroughout nodes types all observers program after ranks order earlier n stands c g qs of_contract past instants
   all-own qs [] [] t h = tt
   all-own qs [] (i ∷ instants) t h = absurd t
   all-own qs (now ∷ past) [] t h = absurd t

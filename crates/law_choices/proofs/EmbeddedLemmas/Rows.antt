@@ -1,17 +1,14 @@
 -- The free places of a contract where its observer stands in a node, beside an instant of the node.
-use Rattle.std.proofs.Common.{◌≡◌, ℕ, suc, zero, ◌+◌, ◌<◌, Bool, true, false, ◌&&◌, List, [], ◌∷◌, ◌++◌, length, map, slice_get, Some, refl, sym, ap, ap₂, subst, ◌∙◌, arith, if◌then◌else◌}
-use Rattle.std.specs.List.{AllByRecursion}
-use Rattle.std.specs.Prelude.{IsTrue, Option}
-use Rattle.std.proofs.lemmas.List.{append_assoc, length-append}
-use Rattle.hp_base.specs.declared.value.Value.{Value}
+use Rattle.std.proofs.Common.{◌≡◌, ℕ, suc, zero, ◌+◌, Bool, true, ◌&&◌, List, [], ◌∷◌, ◌++◌, length, map, slice_get, Some, sym, ap, ap₂, ◌∙◌, arith, if◌then◌else◌}
+use Rattle.std.proofs.lemmas.List.{append_assoc}
 use Rattle.hp_flat.specs.declared.node.FlatTy.TheVariants as flat
-use Rattle.hp_flat.specs.Equations.{Clock, FlatEqn}
+use Rattle.hp_flat.specs.Equations.{FlatEqn}
 use Rattle.hp_flat.specs.Nodes.{FlatNode}
 use Rattle.hp_meaning.specs.Contract.Slots.{FreePlace}
-use Rattle.hp_tree.specs.Instant.{Instant, Place}
+use Rattle.hp_tree.specs.Instant.{Instant}
 use Rattle.law_equations.specs.Flattened.Flatten.{Prefix}
 use Rattle.law_equations.specs.Meaning.Instants as flows
-use Rattle.law_equations.specs.Meaning.Scheduling.{AreBelow, EqnWithin, IsWithin, clock_variables}
+use Rattle.law_equations.specs.Meaning.Scheduling.{EqnWithin, IsWithin}
 use Rattle.hp_watch.specs.Adding.{some_value, type_at}
 use Rattle.hp_watch.specs.Embedding.{Site, embedded, moved_clock, moved_eqn, shift_of, with_room}
 use Rattle.hp_watch.specs.Growing.{Grows}

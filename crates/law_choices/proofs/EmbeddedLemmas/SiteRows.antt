@@ -1,18 +1,17 @@
 -- What the observer of a node's own contract is given are the inputs and outputs of the node.
-use Rattle.std.proofs.Common.{◌≡◌, ℕ, ◌+◌, List, [], ◌∷◌, ◌++◌, map, refl, sym, ap, ap₂, subst, ◌∙◌}
+use Rattle.std.proofs.Common.{◌≡◌, ℕ, ◌+◌, List, [], ◌∷◌, ◌++◌, map, refl, sym, ap, ap₂, ◌∙◌}
 use Rattle.std.specs.List.{AllByRecursion, range_with_len}
 use Rattle.std.specs.Prelude.{⊤}
 use Rattle.std.proofs.lemmas.List.{map-append}
 use Rattle.hp_base.specs.Kinds.{AreOfKinds, KindData}
 use Rattle.hp_base.specs.declared.value.Value.{Value}
 use Rattle.hp_obc.specs.Steps.{Names}
-use Rattle.hp_flat.specs.declared.equation.Atom.{Atom}
 use Rattle.hp_flat.specs.Nodes.{FlatNode}
 use Rattle.hp_tree.specs.Blocks.{Decl}
 use Rattle.hp_tree.specs.Instant.{Past}
 use Rattle.law_equations.specs.Followed.Programs.{all_answers}
 use Rattle.law_equations.specs.Meaning.Instants.{Instant, atom, atoms}
-use Rattle.law_equations.specs.Meaning.Reactions.{Answers, Reaction, outputs_at}
+use Rattle.law_equations.specs.Meaning.Reactions.{Answers, outputs_at}
 use Rattle.hp_watch.specs.Watching.{own_site, reads}
 use Rattle.law_choices.specs.Choosing.Choices.{Choices, ReactionUnder}
 use Rattle.law_choices.specs.Choosing.Meaning.{FitsAnswers}

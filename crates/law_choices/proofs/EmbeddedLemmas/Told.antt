@@ -1,8 +1,7 @@
 -- What the equations of an observer hold for the comparisons of its contract, beside an instant of the node.
-use Rattle.std.proofs.Common.{◌≡◌, ◌⊎◌, inl, inr, ℕ, ◌<◌, ◌≤◌, Bool, true, false, List, [], ◌∷◌, ◌++◌, length, map, slice_get, Some, refl, sym, ap, ap₂, subst, ◌∙◌, if◌then◌else◌}
+use Rattle.std.proofs.Common.{◌≡◌, inl, inr, ℕ, ◌<◌, ◌≤◌, Bool, true, false, List, [], ◌∷◌, ◌++◌, length, slice_get, Some, refl, sym, ap, ap₂, subst, ◌∙◌, if◌then◌else◌}
 use Rattle.std.specs.List.{AllByRecursion, flat_map}
-use Rattle.std.specs.Prelude.{IsTrue, Option}
-use Rattle.std.proofs.lemmas.List.{append-nil}
+use Rattle.std.specs.Prelude.{IsTrue}
 use Rattle.hp_base.specs.declared.ty.Ty.{Ty}
 use Rattle.hp_base.specs.declared.ty.Ty.TheVariants as ty
 use Rattle.hp_base.specs.declared.value.Value.TheVariants.{Absent}
@@ -31,7 +30,7 @@ use Rattle.law_choices.specs.Places.Laws.{places_of}
 use Rattle.law_choices.specs.Places.Spots.{Spot, called as call_at, compared}
 use Rattle.law_choices.proofs.AddingLemmas.Surveyed.{at_number, number_below}
 use Rattle.law_choices.proofs.BroughtLemmas.Apiece.{types_apiece, types_of_places}
-use Rattle.law_choices.proofs.BroughtLemmas.Brought.{Brings, Calls, Compares, of_compared}
+use Rattle.law_choices.proofs.BroughtLemmas.Brought.{Brings, Compares, of_compared}
 use Rattle.law_choices.proofs.FlatLemmas.Alone.{off-unset}
 use Rattle.law_choices.proofs.PlacesLemmas.Numbers.{AtNumber}
 use Rattle.law_choices.proofs.PlacesLemmas.Relating.{along-both}

@@ -1,6 +1,6 @@
 -- Equations that hold at each free place behind the inputs a value of its type, which is the instant's own where it looks, hold values of all free places.
-use Rattle.std.proofs.Common.{◌≡◌, ◌⊎◌, inl, inr, ℕ, ◌+◌, ◌<◌, List, [], ◌∷◌, ◌++◌, length, map, refl, sym, ap, subst, ◌∙◌, arith, if◌then◌else◌}
-use Rattle.std.specs.Prelude.{Bool, true, false, IsTrue}
+use Rattle.std.proofs.Common.{◌≡◌, ◌⊎◌, inl, inr, ℕ, ◌+◌, ◌<◌, List, [], ◌∷◌, ◌++◌, length, map, refl, sym, ap, subst, ◌∙◌, arith}
+use Rattle.std.specs.Prelude.{⊤, IsTrue, false}
 use Rattle.std.specs.List.{AllByRecursion, range_with_len}
 use Rattle.hp_base.specs.Kinds.{IsOfKind}
 use Rattle.hp_base.specs.declared.value.Value.{Value}
@@ -8,7 +8,7 @@ use Rattle.hp_obc.specs.Machines.{ObcType}
 use Rattle.hp_tree.specs.declared.program.Item.{Item}
 use Rattle.hp_tree.specs.Programs.{Node, TypeDecl}
 use Rattle.hp_tree.specs.Operators.{marked}
-use Rattle.hp_tree.specs.Instant.{Controls, Inputs, Instant, Place, alone, in_row}
+use Rattle.hp_tree.specs.Instant.{Controls, Inputs, Instant, Past, Place, alone, in_row}
 use Rattle.hp_tree.specs.Meaning.{types_of}
 use Rattle.hp_tree.specs.Reaction.{controls_at}
 use Rattle.hp_tree.specs.Values.{AreOf, IsOf}
@@ -85,6 +85,12 @@ module _ (nodes : NodeLaws) (types : List ObcType) (all : Callees) (observers : 
     pub kind : kind_of_type types (type_at s.node f.variable) ≡ kind_of decls q.1
     pub of_kind : IsOfKind (kind_of_type types (type_at s.node f.variable)) (value_of i f)
     pub own : IsSome (now q.0) → value_of i f ≡ now q.0
+
+  -- so it is of all instants, one by one
+  abbrev pub HoldRowsThroughout : List FreePlace → List Free → Past → List flows.Instant → Type 0
+  HoldRowsThroughout qs fs [] [] = ⊤
+  HoldRowsThroughout qs fs (now ∷ past) (i ∷ instants) = HoldRowsThroughout qs fs past instants × Along (HoldsRow i now) qs fs
+  HoldRowsThroughout qs fs past instants = ⊥
 
   module _ (k : Known) (low : Node) (laid : c.plant.variables ≡ (sketch_node k low).variables) (kinds : kinds_at types c.plant (range_with_len 0 (length n.inputs)) ≡ kinds_of_decls (types_of after) n.inputs) (differ : ConstructorsDiffer (types_of after))
       (right_places : List FreePlace) (sees : free_places after n ≡ places_in_row n.inputs (below Inputs (λ p. p)) ++ right_places) (fs : List Free) (split : s.free ≡ free_inputs c.plant (length n.inputs) ++ fs) where

@@ -1,24 +1,20 @@
 -- Nodes that call none in whose contract integers are compared.
 -- Source: own; a comparison of integers is free in the Boolean abstraction of the node that holds it, and in that of each node that calls it, as far as it stands in the contract.
-use Rattle.std.specs.Prelude.{◌≡◌, ℕ, List, ◌++◌, reverse}
+use Rattle.std.specs.Prelude.{◌≡◌, List, ◌++◌}
 use Rattle.hp_tree.specs.declared.program.Item.{Item}
 use Rattle.hp_tree.specs.ExpressionTypes.{typed_in, untyped}
 use Rattle.hp_tree.specs.Programs.{Node}
-use Rattle.hp_tree.specs.Instant.{Inputs, Place}
-use Rattle.hp_tree.specs.Meaning.{node_among, types_of}
+use Rattle.hp_tree.specs.Instant.{Inputs}
+use Rattle.hp_tree.specs.Meaning.{types_of}
 use Rattle.hp_meaning.specs.Causal.Sources.{below}
-use Rattle.hp_meaning.specs.Contract.Slots.{FreePlace, Slot, callee_slots, free_among, free_places, slots_of_contract}
+use Rattle.hp_meaning.specs.Contract.Slots.{FreePlace, free_among, free_places, slots_of_contract}
 use Rattle.law_choices.specs.Playing.Inputs.{places_in_row}
 use Rattle.law_choices.specs.Seeing.ByName.{outputs_in}
-use Rattle.law_choices.specs.Seeing.InBody.{free_in_body}
-
--- what is looked at in a node that is called: its contract
-abbrev pub slots_called : List Item → List ℕ → (Place → Place) → List Slot
-slots_called program f w = callee_slots (types_of program) (node_among (reverse program) f) w
+use Rattle.law_choices.specs.Seeing.InBody.{free_in_body, no_slots}
 
 -- the comparisons of integers in the contract of a node
 abbrev pub free_in_contract : List Item → Node → List FreePlace
-free_in_contract program n = free_among (slots_of_contract (types_of program) (outputs_in program) (slots_called program) n.contract (typed_in n.inputs (typed_in n.outputs untyped)) (λ p. p))
+free_in_contract program n = free_among (slots_of_contract (types_of program) (outputs_in program) no_slots n.contract (typed_in n.inputs (typed_in n.outputs untyped)) (λ p. p))
 
 -- The free places of the node are its inputs, the comparisons of its contract, and the comparisons and outputs of calls of its body. So nothing is free in the contracts of the nodes that it calls.
 abbrev pub CalleesCompareNothing : List Item → Node → Type 0
