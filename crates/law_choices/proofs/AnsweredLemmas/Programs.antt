@@ -24,7 +24,7 @@ use Rattle.hp_flat.specs.Nodes.{FlatNode}
 use Rattle.law_equations.specs.Fitting.Fitting.{CallsLaw, TargetsLaw}
 use Rattle.law_equations.specs.Meaning.Kinding.{kind_of_type}
 use Rattle.law_equations.specs.Meaning.Reactions.{Answers, inputs_of}
-use Rattle.law_equations.specs.Made.Making.{Known, flat_type}
+use Rattle.law_equations.specs.Made.Making.{Known, flat_type, outputs_of}
 use Rattle.law_equations.specs.Made.Types.{obc_types, obc_types_of}
 use Rattle.hp_complete.specs.Declaring.{known_of}
 use Rattle.hp_complete.specs.Made.{AreMadeOf}
