@@ -14,6 +14,8 @@ pub mod Callees
 pub mod HeldRows
 pub mod HeldInBody
 pub mod FoundTold
+pub mod Bigger
+pub mod OwnContract
 pub mod SeenOwn
 pub mod SeenInBody
 pub mod NamedInBody
