@@ -1,12 +1,12 @@
 -- The comparisons that a walk over a contract finds, and the free places of the contract.
 -- Source: own; the order is that of slots (`hp_meaning/specs/Contract/Slots`).
-use Rattle.std.specs.Prelude.{◌≡◌, ◌⊎◌, ⊥, ℕ, List, [], ◌∷◌, map, Some}
+use Rattle.std.specs.Prelude.{◌≡◌, ◌⊎◌, ℕ, List, [], ◌∷◌, filter, Some}
 use Rattle.hp_base.specs.declared.ty.Ty.TheVariants as ty
 use Rattle.hp_tree.specs.Blocks.{Decl}
 use Rattle.hp_tree.specs.ExpressionTypes.{Scope}
 use Rattle.hp_tree.specs.Instant.{Place, Instant}
 use Rattle.hp_tree.specs.Programs.{Contract, Node, TypeDecl}
-use Rattle.hp_meaning.specs.Contract.Forgetting.{ContractCallsNothing}
+use Rattle.hp_meaning.specs.Causal.Points.{is_call, points_of_contract}
 use Rattle.hp_meaning.specs.Contract.Slots.{FreePlace, Slot, free_among, slots_of_contract}
 use Rattle.law_automata.specs.Lowered.Standing.{Along}
 use Rattle.law_equations.specs.Flattened.Flatten.{Prefix}
@@ -25,8 +25,8 @@ IsSeenBeside w now observing (called f ps) g = ⊥
 -- What a walk over a contract finds are the comparisons of its observer's body, which bring the free places of the contract, in order.
 abbrev pub ContractFoundLaw : Type 0
 ContractFoundLaw =
-    (types : List TypeDecl) (outs : List ℕ → List Decl) (callee : List ℕ → Prefix → List Slot) (n : Node) (c : Contract) (names : Scope) (w : Prefix) (now observing : Instant) → ContractCallsNothing c → IsObserved c now observing
-    → Along (λ (s : Spot × Spot) (g : List FreePlace). IsSeenBeside w now observing s.0 g) (found_in_node (λ f. map (λ (d : Decl). d.name) (outs f)) (observer_of n c)) (groups_of_contract types outs callee c names w)
+    (outputs : List ℕ → List (List ℕ)) (types : List TypeDecl) (outs : List ℕ → List Decl) (callee : List ℕ → Prefix → List Slot) (n : Node) (c : Contract) (names : Scope) (w : Prefix) (now observing : Instant) → filter (λ x. is_call x.point.kind) (points_of_contract (Some c) (λ p. p)) ≡ [] → IsObserved c now observing
+    → Along (λ (s : Spot × Spot) (g : List FreePlace). IsSeenBeside w now observing s.0 g) (found_in_node outputs (observer_of n c)) (groups_of_contract types outs callee c names w)
     × (in_a_row (groups_of_contract types outs callee c names w) ≡ free_among (slots_of_contract types outs callee (Some c) names w))
 
 abbrev pub ContractWalkLaw : Type 0
