@@ -120,7 +120,7 @@ module _ (types : List TypeDecl) (N M : Nodes) where
 
     -- ---- definitions
 
-    gives_alike : (ds more : List Decl) → ((x : List ℕ) → clock_in more x ≡ clock_in ds x) → (e : Eqn) (past : Past) (free other now : Instant) → OneRight on ds e → EqnCallsNothing e → (x : List ℕ)
+    pub gives_alike : (ds more : List Decl) → ((x : List ℕ) → clock_in more x ≡ clock_in ds x) → (e : Eqn) (past : Past) (free other now : Instant) → OneRight on ds e → EqnCallsNothing e → (x : List ℕ)
         → gives types real N ds e names last (given past free) now x ≡ gives types real M more e others last (given past other) now x
     gives_alike ds more same (define s ys e) past free other now h k x =
         let clock = clock_of ds ys e in

@@ -6,7 +6,8 @@ use Rattle.hp_tree.specs.Blocks.{Decl}
 use Rattle.hp_tree.specs.ExpressionTypes.{Scope}
 use Rattle.hp_tree.specs.Instant.{Place, Instant}
 use Rattle.hp_tree.specs.Programs.{Contract, Node, TypeDecl}
-use Rattle.hp_meaning.specs.Causal.Points.{is_call, points_of_contract}
+use Rattle.hp_meaning.specs.Causal.Points.{points_of_contract}
+use Rattle.hp_meaning.specs.Contract.FreePlaces.{is_call}
 use Rattle.hp_meaning.specs.Contract.Slots.{FreePlace, Slot, free_among, slots_of_contract}
 use Rattle.law_automata.specs.Lowered.Standing.{Along}
 use Rattle.law_equations.specs.Flattened.Flatten.{Prefix}
@@ -30,4 +31,4 @@ ContractFoundLaw =
     × (in_a_row (groups_of_contract types outs callee c names w) ≡ free_among (slots_of_contract types outs callee (Some c) names w))
 
 abbrev pub ContractWalkLaw : Type 0
-ContractWalkLaw = {X : Type 0} (n : Node) (c : Contract) (es : List X) → walk_contract c es ≡ walk_block (observer_of n c).body es
+ContractWalkLaw = (n : Node) (c : Contract) (es : List ℕ) → walk_contract c es ≡ walk_block (observer_of n c).body es
