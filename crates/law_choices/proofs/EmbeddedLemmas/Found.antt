@@ -1,6 +1,6 @@
 -- A walk over a contract is one over its observer, and what it finds there are the comparisons that bring the contract's free places.
 use Rattle.std.proofs.Common.{◌≡◌, inl, inr, ℕ, ◌+◌, List, [], ◌∷◌, ◌++◌, map, refl, sym, ap, ap₂, subst, ◌∙◌}
-use Rattle.std.proofs.lemmas.List.{append-nil, append_assoc}
+use Rattle.std.proofs.lemmas.List.{append-nil, append_assoc, map-append}
 use Rattle.std.specs.Prelude.{⊤, Option, None, Some}
 use Rattle.hp_base.specs.declared.span.Span.{Span}
 use Rattle.hp_base.specs.declared.ty.Ty.TheVariants as ty
@@ -8,7 +8,7 @@ use Rattle.hp_tree.specs.Expressions.{Expr}
 use Rattle.hp_tree.specs.ExpressionTypes.{Scope, scope_of}
 use Rattle.hp_tree.specs.Blocks.{Decl, Block, block, Eqns, no_eqn, more_eqns, Eqn, eqns_of, list_of_eqns}
 use Rattle.hp_tree.specs.Programs.{TypeDecl, Contract, Node}
-use Rattle.hp_tree.specs.Instant.{Body, Observer, Assume, Enforce, Equations, Head, Tail, Right, Place, Instant, part}
+use Rattle.hp_tree.specs.Instant.{Body, Observer, Assume, Enforce, Named, Equations, Head, Tail, Right, Place, Instant, part}
 use Rattle.hp_tree.specs.Reaction.{Each}
 use Rattle.hp_meaning.specs.Contract.Slots.{FreePlace, Slot}
 use Rattle.law_automata.specs.Lowered.Standing.{Along}
@@ -23,12 +23,12 @@ use Rattle.law_choices.specs.Depending.Contracts.{at_assumed, at_enforced, behin
 use Rattle.law_choices.specs.Embedded.Found.{ContractFoundLaw, ContractWalkLaw, HoldsNoCall, IsSeenBeside}
 use Rattle.law_choices.specs.Embedded.Observed.{IsObserved, SameEqns, SameTold, behind_eqns, eqns_in}
 use Rattle.law_choices.specs.Places.Found.{Both, found_in_block, found_in_eqn, found_in_eqns, found_in_node}
-use Rattle.law_choices.specs.Places.Groups.{IsGroupOf, groups_of_block, groups_of_contract, groups_of_told}
+use Rattle.law_choices.specs.Places.Groups.{AreAlike, IsGroupOf, groups_of_block, groups_of_contract, groups_of_told}
 use Rattle.law_choices.specs.Places.Laws.{places_of}
 use Rattle.law_choices.specs.Places.Spots.{Spot, compared, called}
 use Rattle.law_choices.proofs.BroughtLemmas.Alone.{found-alone}
-use Rattle.law_choices.proofs.DependingLemmas.ContractPlaces.{block-moved, expr-moved, found-moved, joined, moved_pair, moved_spot}
-use Rattle.law_choices.proofs.PlacesLemmas.Grouped.{OfPair, block-grouped, contract-grouped, contract-row, expr-grouped}
+use Rattle.law_choices.proofs.DependingLemmas.ContractPlaces.{block-moved, expr-moved, found-moved, moved_pair, moved_spot}
+use Rattle.law_choices.proofs.PlacesLemmas.Grouped.{block-grouped, contract-grouped, contract-row, expr-grouped}
 use Rattle.law_choices.proofs.PlacesLemmas.Related.{All, all-both, eqn-hidden, expr-related}
 use Rattle.law_choices.proofs.PlacesLemmas.Relating.{along-both}
 
@@ -70,7 +70,7 @@ module _ {X : Type 0} where
       ap (λ (zs : List X). (zs, z.1)) (append_assoc x.0 a.0 z.0) ∙ sym (walked_behind es (lines_of n c) xs ∙ ap (behind x.0) (lines_walked n c x.1))
 
 pub contract_walk_law : ContractWalkLaw
-contract_walk_law n c es = block_walked n c c.body es
+contract_walk_law X n c es = block_walked n c c.body es
 
 -- ---- nothing is called
 
@@ -87,12 +87,12 @@ anywhere w = ⊤
 
 module _ (types : List TypeDecl) (callee : List ℕ → Prefix → List Slot) where
   abbrev Of : (List ℕ → List Decl) → Spot × Spot → List FreePlace → Type 0
-  Of outs s g = OfPair types outs callee anywhere (λ t w h. tt) s g
+  Of outs s g = IsGroupOf types outs callee anywhere s.0 g × AreAlike s.0 s.1
 
   -- A call that has no outputs, whatever nodes give, and one where these give some, is none.
   is_comparison : (t : Spot) (g h : List FreePlace) → IsGroupOf types (λ f. []) callee anywhere t g → IsGroupOf types (λ f. some_decl ∷ []) callee anywhere t h → Compares t
   is_comparison (compared o p) g h k l = tt
-  is_comparison (called f ps) g h k l = let e : [] ≡ l.0 _ ∷ [] = sym k.2 ∙ l.2 in absurd cc
+  is_comparison (called f ps) g h k l = let e : [] ≡ l.0 (Named some_decl.name ∷ []) ∷ [] = sym k.2 ∙ l.2 in absurd cc
 
   all_compare : (fs : Both) (gs hs : List (List FreePlace)) → Along (Of (λ f. [])) fs gs → Along (Of (λ f. some_decl ∷ [])) fs hs → Each (λ (s : Spot × Spot). Compares s.0) fs
   all_compare [] gs hs k l = tt
@@ -163,7 +163,10 @@ module _ (types : List TypeDecl) (outs : List ℕ → List Decl) (callee : List 
   names_of f = map (λ (d : Decl). d.name) (outs f)
 
   abbrev Brings : Spot × Spot → List FreePlace → Type 0
-  Brings s g = OfPair types outs callee anywhere (λ t v h. tt) s g
+  Brings s g = IsGroupOf types outs callee anywhere s.0 g × AreAlike s.0 s.1
+
+  joined : (xs ys vs ws : Both) → xs ≡ map (moved_pair w) vs → ys ≡ map (moved_pair w) ws → xs ++ ys ≡ map (moved_pair w) (vs ++ ws)
+  joined xs ys vs ws e h = ap₂ (λ a b. a ++ b) e h ∙ sym (map-append (moved_pair w) vs ws)
 
   told_moved : (o : Option Expr) (v here : Prefix) → found_told names_of o (λ p. w (v p)) here ≡ map (moved_pair w) (found_told names_of o v here)
   told_moved None v here = refl
@@ -184,8 +187,8 @@ module _ (types : List TypeDecl) (outs : List ℕ → List Decl) (callee : List 
       let ga = groups_of_told types outs callee c.assume inside (below Assume w) in
       let ge = groups_of_told types outs callee c.enforce inside (below Enforce w) in
       let moved : B w ++ (A w ++ E w) ≡ map (moved_pair w) (found_in_contract names_of c) =
-      joined names_of w (B w) (A w ++ E w) (B (λ p. p)) (A (λ p. p) ++ E (λ p. p)) (block-moved names_of w c.body (λ p. Observer ∷ p) (λ p. Body ∷ p))
-      (joined names_of w (A w) (E w) (A (λ p. p)) (E (λ p. p)) (told_moved c.assume (λ p. Assume ∷ p) (at_assumed c.body)) (told_moved c.enforce (λ p. Enforce ∷ p) (at_enforced c.body))) in
+      joined (B w) (A w ++ E w) (B (λ p. p)) (A (λ p. p) ++ E (λ p. p)) (block-moved names_of w c.body (λ p. Observer ∷ p) (λ p. Body ∷ p))
+      (joined (A w) (E w) (A (λ p. p)) (E (λ p. p)) (told_moved c.assume (λ p. Assume ∷ p) (at_assumed c.body)) (told_moved c.enforce (λ p. Enforce ∷ p) (at_enforced c.body))) in
       subst (λ fs. Along Brings fs (gb ++ (ga ++ ge))) moved
       (along-both Brings (B w) (A w ++ E w) gb (ga ++ ge) (block-grouped types outs callee anywhere (λ t v h. tt) c.body names (below Observer w) (λ p. Body ∷ p) tt).0
       (along-both Brings (A w) (E w) ga ge (told_brings c.assume inside (below Assume w) (at_assumed c.body)) (told_brings c.enforce inside (below Enforce w) (at_enforced c.body))))

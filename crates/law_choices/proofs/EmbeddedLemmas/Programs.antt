@@ -96,15 +96,18 @@ does_there choices types [] f n e = absurd cc
 does_there choices types (TypeItem t ∷ items) f n e = let d = does_there choices types items f n e in record { before = d.before; does = d.does }
 does_there choices types (NodeItem m ∷ items) f n e = by (bytes_eq m.name f) refl e (does_there choices types items f n)
   where
-    abbrev N : Nodes
-    N = chosen_nodes choices types real items
-
-    abbrev At : Bool → List Value → Given → Instant → Instant
-    At b row g now = if b then node types real N m row (chosen_given (choices m.name) m row g) now else N.instant f row g now
-
     by : (b : Bool) → bytes_eq m.name f ≡ b → (if b then Some m else node_among items f) ≡ Some n → (node_among items f ≡ Some n → DoesThere choices types items f n) → DoesThere choices types (NodeItem m ∷ items) f n
-    by true q e k = record { before = N; does = λ row g now. ap (λ b. At b row g now) q ∙ ap (λ (z : Node). node types real N z row (chosen_given (choices z.name) z row g) now) (same_node m n e) }
-    by false q e k = let d = k e in record { before = d.before; does = λ row g now. ap (λ b. At b row g now) q ∙ d.does row g now }
+    by true q e k =
+        let N = chosen_nodes choices types real items in
+        record {
+          before = N;
+          does = λ row g now. ap (λ b. if b then node types real N m row (chosen_given (choices m.name) m row g) now else N.instant f row g now) q
+              ∙ ap (λ (z : Node). node types real N z row (chosen_given (choices z.name) z row g) now) (same_node m n e);
+        }
+    by false q e k =
+        let N = chosen_nodes choices types real items in
+        let d = k e in
+        record { before = d.before; does = λ row g now. ap (λ b. if b then node types real N m row (chosen_given (choices m.name) m row g) now else N.instant f row g now) q ∙ d.does row g now }
 
 -- ---- reactions
 

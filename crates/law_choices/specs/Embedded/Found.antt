@@ -34,5 +34,6 @@ ContractFoundLaw =
     → Along (λ (s : Spot × Spot) (g : List FreePlace). IsSeenBeside w now observing s.0 g) (found_in_node (λ f. map (λ (d : Decl). d.name) (outs f)) (observer_of n c)) (groups_of_contract types outs callee c names w)
     × (in_a_row (groups_of_contract types outs callee c names w) ≡ free_among (slots_of_contract types outs callee (Some c) names w))
 
-abbrev pub ContractWalkLaw : Type 0
-ContractWalkLaw = {X : Type 0} (n : Node) (c : Contract) (es : List X) → walk_contract c es ≡ walk_block (observer_of n c).body es
+-- So a walk over the contract is one over the observer's body.
+abbrev pub ContractWalkLaw : Type 1
+ContractWalkLaw = (X : Type 0) (n : Node) (c : Contract) (es : List X) → walk_contract c es ≡ walk_block (observer_of n c).body es
