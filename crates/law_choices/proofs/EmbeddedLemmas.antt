@@ -1,6 +1,12 @@
-mod Observed
-mod Reacting
-mod Found
+pub mod Alike
+pub mod Put
+pub mod Lines
+pub mod Observed
+pub mod Beside
+pub mod Programs
+pub mod Reacting
+pub mod Running
+pub mod Found
 mod Meaning
 mod Moved
 mod Sites

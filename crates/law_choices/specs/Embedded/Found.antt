@@ -18,6 +18,10 @@ use Rattle.law_choices.specs.Places.Found.{found_in_node}
 use Rattle.law_choices.specs.Places.Groups.{groups_of_contract, in_a_row}
 use Rattle.law_choices.specs.Places.Spots.{Spot, compared, called}
 
+-- A contract holds no call.
+abbrev pub HoldsNoCall : Contract → Type 0
+HoldsNoCall c = filter (λ q. is_call q.point.kind) (points_of_contract (Some c) (λ p. p)) ≡ []
+
 -- A comparison of the observer brings nothing, or the place in the contract, below a prefix, that holds what it holds.
 abbrev pub IsSeenBeside : Prefix → Instant → Instant → Spot → List FreePlace → Type 0
 IsSeenBeside w now observing (compared o p) g = (g ≡ []) ⊎ ((q : Place) × (g ≡ (w q, ty.Bool) ∷ []) × (now q ≡ observing p))
@@ -26,9 +30,10 @@ IsSeenBeside w now observing (called f ps) g = ⊥
 -- What a walk over a contract finds are the comparisons of its observer's body, which bring the free places of the contract, in order.
 abbrev pub ContractFoundLaw : Type 0
 ContractFoundLaw =
-    (outputs : List ℕ → List (List ℕ)) (types : List TypeDecl) (outs : List ℕ → List Decl) (callee : List ℕ → Prefix → List Slot) (n : Node) (c : Contract) (names : Scope) (w : Prefix) (now observing : Instant) → filter (λ x. is_call x.point.kind) (points_of_contract (Some c) (λ p. p)) ≡ [] → IsObserved c now observing
+    (outputs : List ℕ → List (List ℕ)) (types : List TypeDecl) (outs : List ℕ → List Decl) (callee : List ℕ → Prefix → List Slot) (n : Node) (c : Contract) (names : Scope) (w : Prefix) (now observing : Instant) → HoldsNoCall c → IsObserved c now observing
     → Along (λ (s : Spot × Spot) (g : List FreePlace). IsSeenBeside w now observing s.0 g) (found_in_node outputs (observer_of n c)) (groups_of_contract types outs callee c names w)
     × (in_a_row (groups_of_contract types outs callee c names w) ≡ free_among (slots_of_contract types outs callee (Some c) names w))
 
+-- So a walk over the contract is one over the observer's body.
 abbrev pub ContractWalkLaw : Type 0
 ContractWalkLaw = (n : Node) (c : Contract) (es : List ℕ) → walk_contract c es ≡ walk_block (observer_of n c).body es

@@ -1,6 +1,7 @@
 -- The contract's part of a reaction of a node is a reaction of the contract's observer.
 -- Source: own; what a contract sees are the inputs and outputs of its node (Delaval, Marchand, Rutten, LCTES 2010).
-use Rattle.std.specs.Prelude.{◌≡◌, ℕ, List, reverse, Some}
+use Rattle.std.specs.Prelude.{◌≡◌, ℕ, List, length, reverse, Some}
+use Rattle.std.specs.List.{AllByRecursion}
 use Rattle.hp_base.specs.declared.value.Value.{Value}
 use Rattle.hp_tree.specs.declared.program.Item.{Item}
 use Rattle.hp_tree.specs.Instant.{Past}
@@ -22,9 +23,10 @@ pub record ObserverReacts (others : Choices) (after : List Item) (n : Node) (c :
   pub reaction : ChosenReaction others (observers after) n.name (observed_rows n.outputs rows past) instants
   pub same : Along (IsObserved c) past instants
 
--- There is one beside each reaction of a node with a contract. An observer has no controllable variables, so it does not matter how it chooses.
+-- There is one beside each reaction of a node with a contract over rows that have a value for each input. An observer has no controllable variables, so it does not matter how it chooses.
 abbrev pub ObserverReactsLaw : Type 0
 ObserverReactsLaw =
     (program after : List Item) (ranks : List (List ℕ)) → IsInOrder program after ranks → ContractsCallNothing after → EachNode IsObservable after
-    → (choices others : Choices) (f : List ℕ) (n : Node) (c : Contract) (rows : List (List Value)) (past : Past) → node_among (reverse after) f ≡ Some n → n.contract ≡ Some c → ChosenReaction choices after f rows past
+    → (choices others : Choices) (f : List ℕ) (n : Node) (c : Contract) (rows : List (List Value)) (past : Past) → node_among (reverse after) f ≡ Some n → n.contract ≡ Some c
+    → AllByRecursion (λ (row : List Value). length row ≡ length n.inputs) rows → ChosenReaction choices after f rows past
     → ObserverReacts others after n c rows past
