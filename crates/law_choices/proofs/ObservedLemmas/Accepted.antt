@@ -9,10 +9,9 @@ use Rattle.hp_tree.specs.Programs.{TypeDecl, Contract, Node}
 use Rattle.hp_tree.specs.Meaning.{node_among}
 use Rattle.hp_typing.specs.Scopes.{with_constructors}
 use Rattle.hp_init.specs.Classes.{Assignment}
-use Rattle.law_judged.specs.Named.Scopes.{Scope}
 use Rattle.law_judged.specs.Named.Scoped.{EachNode}
 use Rattle.law_values.specs.Valued.Classed.{HasClasses}
-use Rattle.law_values.specs.Valued.Judged.{ConstantIs, NodeSound, IsPlain, AllPlain, OnePlain, ArmsPlain, PlainContract}
+use Rattle.law_values.specs.Valued.Judged.{ConstantIs, IsPlain, AllPlain, OnePlain, ArmsPlain, PlainContract}
 use Rattle.law_values.specs.Valued.Values.{scope_behind, Classing, class_here, class_behind, NodeAccepted, AreAccepted}
 use Rattle.hp_automata.specs.Lowering.{Types, Enumerations, same_name, types_of as types_in, lowered_contract, lowered_node, lowered_item}
 use Rattle.law_equations.specs.Flattened.Timely.{Lowered, AllLowered, OneLowered, ArmsLowered}

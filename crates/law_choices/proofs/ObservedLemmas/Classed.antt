@@ -1,7 +1,7 @@
 -- An observer has classes: those of the contract that it is made of.
 use Rattle.std.proofs.Common.{◌≡◌, ℕ, ◌+◌, Bool, true, false, if◌then◌else◌, not, ◌&&◌, ◌||◌, List, [], ◌∷◌, ◌++◌, refl, sym, ap, subst, ◌∙◌}
 use Rattle.std.proofs.Math.Path.{fun_ext}
-use Rattle.std.specs.Prelude.{⊤, IsTrue, IsFalse, Option, None, Some}
+use Rattle.std.specs.Prelude.{⊤, IsTrue, Option, None, Some}
 use Rattle.std.specs.Str.{bytes_eq}
 use Rattle.hp_base.specs.declared.span.Span.{Span}
 use Rattle.hp_base.specs.declared.ty.Const.{Const}
@@ -16,7 +16,7 @@ use Rattle.hp_init.specs.Wants.{is_met, is_first, must_be_first, some_must, defi
 use Rattle.law_judged.specs.Named.Scoped.{Names, also, no_names, interface, equations_of, NodeScoped, BlockScoped, ContractScoped}
 use Rattle.law_judged.specs.Replaced.Fitting.{BlockNames, ContractNames}
 use Rattle.law_judged.proofs.NamedLemmas.Sets.{or_left, or_right, declares_append}
-use Rattle.law_values.specs.Valued.Classed.{LastFirst, LastsFirst, OthersFirst, HasClasses}
+use Rattle.law_values.specs.Valued.Classed.{LastFirst, LastsFirst, HasClasses}
 use Rattle.law_automata.specs.Classed.Good.{ClockFirst, ClocksFirst, TestsFirst, ToldFirst, BlockGood, EqnsGood, EqnGood, ArmsGood, StatesGood, ContractGood, no_class, in_block, own_classes, in_node}
 use Rattle.law_automata.proofs.LoweredLemmas.Apart.{bytes_same}
 use Rattle.law_automata.proofs.LoweredLemmas.Tests.{or_first as first_none, or_second as second_none, or_none}

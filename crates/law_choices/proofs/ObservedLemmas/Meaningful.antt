@@ -6,7 +6,7 @@ use Rattle.hp_obc.specs.Form.{TypesForm}
 use Rattle.hp_tree.specs.declared.program.Item.{Item}
 use Rattle.hp_tree.specs.declared.program.Item.TheVariants.{TypeItem, NodeItem}
 use Rattle.hp_tree.specs.Blocks.{Decl}
-use Rattle.hp_tree.specs.Programs.{Contract, Node}
+use Rattle.hp_tree.specs.Programs.{Contract}
 use Rattle.hp_tree.specs.Meaning.{types_of, declares}
 use Rattle.hp_meaning.specs.Causal.Causality.{IsRanked, Ranked}
 use Rattle.hp_meaning.specs.Causal.Runs.{NoControls}
