@@ -5,7 +5,6 @@ pub mod Found
 pub mod Held
 pub mod Watching
 pub mod Plants
-pub mod Named
 pub mod Listed
 pub mod Looked
 pub mod Rowed
@@ -17,6 +16,4 @@ pub mod FoundTold
 pub mod Bigger
 pub mod OwnContract
 pub mod SeenOwn
-pub mod SeenInBody
-pub mod NamedInBody
 pub mod Outputs

@@ -3,6 +3,7 @@
 //! The functions here do nothing: each is a law, which its contract states.
 #![tactic(auto)]
 
+ghost use Rattle.law_choices.specs.Embedded.Meaning.{ObserversKeepLaw, ObserversKnownLaw};
 ghost use Rattle.law_choices.specs.Streams.Alike.{AlikeLaw};
 ghost use Rattle.law_choices.specs.Streams.Names.{NamesLaw, TextNamesLaw};
 ghost use Rattle.law_choices.specs.Streams.Places.{PlacesLaw};
@@ -70,6 +71,23 @@ pub fn meanings_keep_places()
     chosen_nodes_have_one_reaction();
     nodes_have_one_reaction();
     programs_have_first_values();
+    reactions_are_kept();
+    chosen_nodes_answer();
+    equations_answer_under_each_choice();
+    equations_keep_places_under_each_choice();
+}
+
+/// So it is of the observers of a program's contracts, though they are no program of a text: their clocked equations have one meaning, in which the places of comparisons have their values. What is known of observers are their outputs.
+pub fn observers_keep_places()
+    ensures keep { ObserversKeepLaw }
+    ensures known { ObserversKnownLaw }
+{
+    ranks_of_points();
+    ranks_are_kept();
+    targets_differ();
+    calls_are_kept();
+    chosen_nodes_have_one_reaction();
+    nodes_have_one_reaction();
     reactions_are_kept();
     chosen_nodes_answer();
     equations_answer_under_each_choice();

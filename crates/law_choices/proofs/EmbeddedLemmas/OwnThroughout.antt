@@ -4,7 +4,6 @@ use Rattle.std.specs.List.{AllByRecursion}
 use Rattle.std.specs.Prelude.{filter}
 use Rattle.hp_base.specs.Kinds.{AreOfKinds}
 use Rattle.hp_base.specs.declared.value.Value.{Value}
-use Rattle.hp_obc.specs.Form.{TypesForm}
 use Rattle.hp_obc.specs.Machines.{ObcType}
 use Rattle.hp_tree.specs.declared.program.Item.{Item}
 use Rattle.hp_tree.specs.Blocks.{Decl}
@@ -22,7 +21,7 @@ use Rattle.hp_expand.specs.Numbering.{replaced}
 use Rattle.hp_flat.specs.Nodes.{FlatNode}
 use Rattle.law_equations.specs.Flattened.Flatten.{Prefix, below}
 use Rattle.law_equations.specs.Made.Making.{Known, sketch_node}
-use Rattle.law_equations.specs.Made.Types.{obc_types, obc_types_of}
+use Rattle.law_equations.specs.Made.Types.{obc_types}
 use Rattle.law_equations.specs.Meaning.Instants as flows
 use Rattle.law_equations.specs.Meaning.Kinding.{Callees}
 use Rattle.law_equations.specs.Meaning.Reactions.{Answers, Reaction}
@@ -40,7 +39,7 @@ use Rattle.hp_watch.specs.declared.watching.Free.{Free}
 use Rattle.law_choices.specs.Choosing.Choices.{Choices}
 use Rattle.law_choices.specs.Coded.Laws.{IsTypedAt}
 use Rattle.law_choices.specs.Embedded.Found.{ContractFoundLaw, ContractWalkLaw}
-use Rattle.law_choices.specs.Embedded.Meaning.{ObserversKeepLaw, no_choices}
+use Rattle.law_choices.specs.Embedded.Meaning.{ObserversKeepLaw, ObserversKnownLaw, no_choices}
 use Rattle.law_choices.specs.Embedded.Observed.{observed_rows, outputs_of_instant}
 use Rattle.law_choices.specs.Embedded.Observers.{AreObserversOf}
 use Rattle.law_choices.specs.Embedded.Reacting.{ObserverReactsLaw}
@@ -48,12 +47,11 @@ use Rattle.law_choices.specs.InTurn.Laws.{IsChoosing, said_of}
 use Rattle.law_choices.specs.InTurn.Nodes.{Contracted, Made}
 use Rattle.law_choices.specs.Observed.Contracts.{IsObservable}
 use Rattle.law_choices.specs.Places.Groups.{groups_of_contract, in_a_row}
-use Rattle.law_choices.specs.Places.Laws.{KnowsOutputs}
 use Rattle.law_choices.specs.Runs.Chosen.{ChosenReaction}
-use Rattle.law_choices.specs.Seeing.ByName.{outputs_in}
+use Rattle.law_choices.specs.Seeing.Around.{outputs_in}
 use Rattle.law_choices.specs.Seeing.InBody.{no_slots}
 use Rattle.law_choices.specs.Seeing.OwnContract.{free_in_contract}
-use Rattle.law_choices.specs.Streams.Places.{AllKeepPlaces, KeepsPlacesOf, outputs_low}
+use Rattle.law_choices.specs.Streams.Places.{AllKeepPlaces, KeepsPlacesOf}
 use Rattle.law_choices.proofs.BroughtLemmas.Apiece.{outputs-anywhere, types_apiece}
 use Rattle.law_choices.proofs.BroughtLemmas.Brought.{Brings, free_types}
 use Rattle.law_choices.proofs.BroughtLemmas.Programs.{calls_bring, observer-apiece}
@@ -81,14 +79,12 @@ use Rattle.law_automata.specs.Lowered.Standing.{Along}
 use Rattle.hp_watch.specs.Walk.{events_from, walk_contract}
 use Rattle.hp_complete.specs.Made.{IsMadeOf}
 use Rattle.law_choices.specs.Embedded.Sites.{moved_in}
-use Rattle.law_automata.specs.Lowered.Removable.{IsRemovable}
-use Rattle.law_wellmade.specs.Spelled.Integers.{NodeShort}
 use Rattle.std.proofs.lemmas.List.{append-nil}
 
 -- the laws of contracts and their observers that are joined here
 pub record ContractLaws : Type 0 where
   pub keep : ObserversKeepLaw
-  pub knows : (program after : List Item) (ranks : List (List ℕ)) → IsInOrder program after ranks → IsRemovable after → TypesForm (obc_types_of program) → EachNode NodeShort after → ContractsCallNothing after → EachNode IsObservable after → KnowsOutputs (outputs_low (watch.observers after)) (known_of (lowered_program (watch.observers after)))
+  pub knows : ObserversKnownLaw
   pub reacts : ObserverReactsLaw
   pub found : ContractFoundLaw
   pub walk : ContractWalkLaw
@@ -184,10 +180,10 @@ module _ (laws : ContractLaws) (nodes : NodeLaws) (program after : List Item) (r
     of_contract = let fits = ((g.is).is_watched).fits in map (moved_free (shift_of (fits.own).node (own_site (length n.inputs) c.plant) c.plant)) (fits.own).free
 
     pub own-throughout : (choices : Choices) (answers : Answers) (rows : List (List Value)) (past : Past) (instants : List flows.Instant) → AllByRecursion (AreOfKinds (kinds_of_decls decls n.inputs ++ kinds_of_decls decls n.outputs)) (observed_rows n.outputs rows past)
-        → ChosenReaction choices after n.name rows past → Reaction answers c.chosen.node rows instants → HaveInputs (length n.inputs) rows instants → map (outputs_of_instant n.outputs) past ≡ map (λ i. map i c.plant.outputs) instants
+        → AllByRecursion (λ (row : List Value). length row ≡ length n.inputs) rows → ChosenReaction choices after n.name rows past → Reaction answers c.chosen.node rows instants → HaveInputs (length n.inputs) rows instants → map (outputs_of_instant n.outputs) past ≡ map (λ i. map i c.plant.outputs) instants
         → AllByRecursion (IsTypedAt types (survey nodes types all observers n c g).node ((seen nodes types all observers n c g).keeps).clocks) instants
         → HoldRowsThroughout nodes types all observers program after ranks order earlier n stands c g (free_in_contract after n) of_contract past instants
-    own-throughout choices answers rows past instants kinds reaction runs inputs outputs typed =
+    own-throughout choices answers rows past instants kinds long reaction runs inputs outputs typed =
         let I = its in
         let based = suits.based in
         let name : o.name ≡ n.name = (I.made).name in
@@ -197,7 +193,7 @@ module _ (laws : ContractLaws) (nodes : NodeLaws) (program after : List Item) (r
         subst (λ rs. Reaction answers o rs (map (moved_in (length o.variables) (length c.plant.variables)) instants)) (site-rows (length n.inputs) c.plant n.outputs rows past instants inputs outputs)
         (subst (λ (u : Observed). Reaction answers u.node (map (λ i. flows.atoms i (own_site (length n.inputs) c.plant).inputs) instants) (map (moved_in (length (u.node).variables) (length c.plant.variables)) instants)) is (own-runs nodes types all observers n c g answers rows instants runs)) in
         let kinds_there = subst (λ ts. AllByRecursion (AreOfKinds (kinds_of_decls ts (observer_of n k).inputs)) R) (sym (types_observed after)) (subst (λ ks. AllByRecursion (AreOfKinds ks) R) (sym (kinds-of-observer decls n k)) kinds) in
-        let reacts = laws.reacts program after ranks order silent observable choices no_choices n.name n k rows past own has reaction in
+        let reacts = laws.reacts program after ranks order silent observable choices no_choices n.name n k rows past own has long reaction in
         let told : AllTold o (λ p. p) (in_a_row (groups_of_contract decls outs no_slots k names (λ p. p))) (observed k o).free past (map (moved_in (length o.variables) (length c.plant.variables)) instants) =
         instants-told after n k o answers (keep.0).answers laws.found laws.walk I.known there name (h.alone n.name (observed k o) (I.is k has)) calls-nothing (based.well).no_inputs I.made (laws.knows program after ranks order h.removable h.form h.short silent observable)
         (calls_bring program after h.ready h.removable h.form h.short silent observable earlier n stands k has) apiece.0 apiece.1 decls outs no_slots names (λ p. p) (apiece.2 (λ p. p)) rows past (map (moved_in (length o.variables) (length c.plant.variables)) instants) kinds_there reacts moved in

@@ -42,7 +42,7 @@ use Rattle.law_choices.specs.Places.Groups.{in_a_row}
 use Rattle.law_choices.specs.Playing.Inputs.{places_in_row}
 use Rattle.law_choices.specs.Playing.Mirrored.{early_flags}
 use Rattle.law_choices.specs.Runs.Chosen.{inputs_at}
-use Rattle.law_choices.specs.Seeing.ByName.{outputs_in}
+use Rattle.law_choices.specs.Seeing.Around.{outputs_in}
 use Rattle.law_choices.specs.Seeing.Held.{HoldsValues}
 use Rattle.law_choices.specs.Seeing.InBody.{free_in_body}
 use Rattle.law_choices.specs.Seeing.OwnContract.{CalleesCompareNothing, free_in_contract}

@@ -18,7 +18,7 @@ use Rattle.law_drawing.proofs.SteeredLemmas.Uncalled.{ContractCallsNothing}
 use Rattle.law_equations.specs.Flattened.Flatten.{Prefix, below}
 use Rattle.law_choices.specs.Places.Groups.{groups_of_block, groups_of_contract, in_a_row}
 use Rattle.law_choices.specs.Playing.Inputs.{HasInputsAlone, places_in_row}
-use Rattle.law_choices.specs.Seeing.ByName.{outputs_in, types_around}
+use Rattle.law_choices.specs.Seeing.Around.{outputs_in, types_around}
 use Rattle.law_choices.specs.Seeing.InBody.{SeesInBody, free_in_body, no_slots}
 use Rattle.law_choices.specs.Seeing.OwnContract.{CalleesCompareNothing, CallsNothingLaw, InBodyLaw, InputsAloneLaw, free_in_contract}
 use Rattle.law_choices.proofs.PlacesLemmas.Grouped.{block-row, contract-row, lasts-none}

@@ -68,7 +68,7 @@ use Rattle.law_games.specs.ReadyGames.Laws.{IsInOrder, Stands}
 use Rattle.law_choices.specs.Places.Found.{Both, found_in_node}
 use Rattle.law_choices.specs.Places.Groups.{AreAlike, IsGroupOf, IsInFront, groups_of_block, in_a_row}
 use Rattle.law_choices.specs.Places.Spots.{Spot}
-use Rattle.law_choices.specs.Seeing.ByName.{outputs_in, types_around}
+use Rattle.law_choices.specs.Seeing.Around.{outputs_in, types_around}
 use Rattle.law_choices.specs.Seeing.Found.{FoundAlike}
 use Rattle.law_choices.specs.Seeing.InBody.{free_in_body, no_slots}
 use Rattle.law_choices.specs.Flat.Places.{IsOn, values_in}
@@ -276,7 +276,7 @@ seen_own_law laws contracts program after ranks observers ms order h silent obse
     (λ args prior a b. subst (λ ks. AreOfKinds ks (one.answers c.plant.name args prior)) (gives_kinds program after h.ready h.form c.plant.name n by_plant)
     (one.typed c.plant.name args prior (subst (λ ks. AreOfKinds ks args) (sym takes) a) (subst (λ ks. AllByRecursion (AreOfKinds ks) prior) (sym takes) b))) in
     let observed_kinds = rows-of-kinds (timely.kinds_of_decls decls n.inputs) (timely.kinds_of_decls decls n.outputs) (one.answers c.plant.name) gives n.outputs rows past kinds outputs_past in
-    let own_held = own-throughout contracts nodes program after ranks observers ms order h silent observable those earlier n stands own its.contract.0 its.contract.1 c g choices answers rows past instants observed_kinds reacts r (have-inputs nodes types all observers n c g answers rows instants r) outputs_are
+    let own_held = own-throughout contracts nodes program after ranks observers ms order h silent observable those earlier n stands own its.contract.0 its.contract.1 c g choices answers rows past instants observed_kinds (each_other (AreOf decls n.inputs) (λ (row : List Value). length row ≡ length n.inputs) (λ row o. of-long decls n.inputs row o) rows of) reacts r (have-inputs nodes types all observers n c g answers rows instants r) outputs_are
     (each_other (IsPossible types c.chosen.node) (IsTypedAt types (survey nodes types all observers n c g).node ((seen nodes types all observers n c g).keeps).clocks) (λ i p. survey_typed nodes types all observers n c g i p) instants possible) in
     all-hold nodes types all observers program after ranks order earlier n stands c g (enumerations [] after) (its.equations).eqns (its.equations).variables (x.mirrors).is_early x.flags kinds_in (output-kinds program after h.ready h.form) outs_are (differ laws.greatest program after ranks observers ms order h allowed) sees
     given_types B.0 B.1 (B.2 (below Body (λ p. p))) choices answers keeps.means labelled single rows instants past keeps.low of r possible runs typed plant alike values own_held

@@ -10,7 +10,7 @@ use Rattle.hp_meaning.specs.Causal.Sources.{below}
 use Rattle.hp_meaning.specs.Contract.FreePlaces.{calls_of}
 use Rattle.hp_meaning.specs.Contract.Slots.{FreePlace, free_among, free_places, slots_of_contract}
 use Rattle.law_choices.specs.Playing.Inputs.{HasInputsAlone, places_in_row}
-use Rattle.law_choices.specs.Seeing.ByName.{outputs_in}
+use Rattle.law_choices.specs.Seeing.Around.{outputs_in}
 use Rattle.law_choices.specs.Seeing.InBody.{SeesInBody, free_in_body, no_slots}
 
 -- the comparisons of integers in the contract of a node

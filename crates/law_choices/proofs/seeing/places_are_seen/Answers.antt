@@ -1,9 +1,11 @@
-use Rattle.law_choices.proofs.SeeingLemmas.SeenInBody.{seen_in_body_law}
-use Rattle.law_choices.proofs.seeing.places_of_bodies_are_seen.Goals as goal
+use Rattle.law_choices.proofs.EmbeddedLemmas.Found.{contract_found_law, contract_walk_law}
+use Rattle.law_choices.proofs.EmbeddedLemmas.Reacting.{observer_reacts_law}
+use Rattle.law_choices.proofs.SeeingLemmas.SeenOwn.{seen_own_law}
+use Rattle.law_choices.proofs.seeing.places_are_seen.Goals as goal
 
 pub returns : goal.returns
 returns c =
-    seen_in_body_law (record {
+    seen_own_law (record {
       greatest = record {
         turn = record {
           nodes = record {
@@ -42,4 +44,10 @@ returns c =
       places = c.meanings_keep_places.ensures;
       one_under = c.chosen_nodes_have_one_reaction.ensures;
       outputs = c.nodes_have_one_reaction.ensures.outputs;
+    }) (record {
+      keep = c.observers_keep_places.ensures.keep;
+      knows = c.observers_keep_places.ensures.known;
+      reacts = observer_reacts_law;
+      found = contract_found_law;
+      walk = contract_walk_law;
     })
