@@ -331,8 +331,7 @@ module _ (n : Node) (c : Contract) (class : Assignment) (base : AllBase n.output
             handed_lines after locals new_first 0 n.outputs,
           ),
         ) in
-        node_right node observer tt
-        (
+        node_right node observer tt (
           lasts_both body ds n.outputs (old_lasts ds (λ x h. h) good.0) (output_lasts n.outputs no_local),
           (
             (λ x h e. none_second (declares (outputs_at c.span) x)),
