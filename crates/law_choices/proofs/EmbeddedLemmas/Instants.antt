@@ -38,7 +38,7 @@ use Rattle.hp_watch.specs.Watching.{observed}
 use Rattle.hp_watch.specs.declared.watching.Free.{Free}
 use Rattle.law_choices.specs.Choosing.Choices.{with_chosen}
 use Rattle.law_choices.specs.Embedded.Found.{ContractFoundLaw, ContractWalkLaw}
-use Rattle.law_choices.specs.Embedded.Meaning.{no_choices}
+use Rattle.law_choices.specs.Streams.Uncontrolled.{no_choice}
 use Rattle.law_choices.specs.Embedded.Observed.{IsObserved, observed_rows}
 use Rattle.law_choices.specs.Embedded.Reacting.{ObserverReacts}
 use Rattle.law_choices.specs.Flat.Names.{values_at}
@@ -90,7 +90,7 @@ module _ (answers others : Answers) where
       (same-reaction g nothing rows js h.0, record { inputs_are = x.inputs_are; equations = same-holds js j g.eqns nothing x.equations; others = x.others })
 
 -- where nothing is chosen
-pub nothing-chosen : (f : List ℕ) (rows : List (List Value)) → with_chosen (no_choices f) rows ≡ rows
+pub nothing-chosen : (f : List ℕ) (rows : List (List Value)) → with_chosen (no_choice f) rows ≡ rows
 nothing-chosen f [] = refl
 nothing-chosen f (row ∷ rows) = ap₂ (λ x xs. x ∷ xs) (append-nil row) (nothing-chosen f rows)
 
@@ -102,7 +102,7 @@ AllTold g w qs fs [] [] = ⊤
 AllTold g w qs fs (now ∷ past) (j ∷ js) = AllTold g w qs fs past js × Along (IsContractRow g w j now) qs fs
 AllTold g w qs fs past js = ⊥
 
-module _ (after : List Item) (n : Node) (c : Contract) (g : FlatNode) (answers one : Answers) (contract_found : ContractFoundLaw) (contract_walk : ContractWalkLaw) (keeps : KeepsPlacesOf no_choices (observers after) one g) (there : node_among (reverse (observers after)) g.name ≡ Some (observer_of n c)) (named : g.name ≡ n.name)
+module _ (after : List Item) (n : Node) (c : Contract) (g : FlatNode) (answers one : Answers) (contract_found : ContractFoundLaw) (contract_walk : ContractWalkLaw) (keeps : KeepsPlacesOf no_choice (observers after) one g) (there : node_among (reverse (observers after)) g.name ≡ Some (observer_of n c)) (named : g.name ≡ n.name)
     (nothing : CallsOnly [] g.eqns) (silent : filter (λ x. is_call x.point.kind) (points_of_contract (Some c) (λ p. p)) ≡ []) (no_inputs : AllByRecursion (λ (e : FlatEqn). AllByRecursion (λ x. g.inputs ≤ x) e.targets) g.eqns) (made : IsMadeOf (known_of (lowered_program (observers after))) (lowered_node (enumerations [] (observers after)) (observer_of n c)) g)
     (knows : KnowsOutputs (outputs_low (observers after)) (known_of (lowered_program (observers after)))) (given : List ℕ → List Ty) (L : List (List Ty))
     (brings : Along (AtNumber (Brings given (known_of (lowered_program (observers after))) (sketch_node (known_of (lowered_program (observers after))) (lowered_node (enumerations [] (observers after)) (observer_of n c)))) g.eqns) (walk_contract c (events_from 0 g.eqns)).0 L)
@@ -162,17 +162,17 @@ module _ (after : List Item) (n : Node) (c : Contract) (g : FlatNode) (answers o
   long-reaction M (row ∷ rows) (f ∷ frees) (o ∷ observing) h = (tt, long-reaction M rows frees observing h.0)
 
   -- So it is beside a reaction of the observer's equations over the inputs and outputs of a reaction of the node.
-  pub instants-told : (rows : List (List Value)) (past : Past) (js : List flows.Instant) → AllByRecursion (AreOfKinds (kinds_of_decls (types_of (observers after)) observer.inputs)) (observed_rows n.outputs rows past) → ObserverReacts no_choices after n c rows past
+  pub instants-told : (rows : List (List Value)) (past : Past) (js : List flows.Instant) → AllByRecursion (AreOfKinds (kinds_of_decls (types_of (observers after)) observer.inputs)) (observed_rows n.outputs rows past) → ObserverReacts no_choice after n c rows past
       → Reaction answers g (observed_rows n.outputs rows past) js → AllTold g w (in_a_row groups) (observed c g).free past js
   instants-told rows past js kinds reacts r =
       let R = observed_rows n.outputs rows past in
       let K = keeps observer R there kinds in
       let before = ((K.answered).one).before in
-      let same = before.only reacts.instants (subst (λ z. ChosenReaction no_choices (observers after) z R reacts.instants) (sym named) reacts.reaction) in
+      let same = before.only reacts.instants (subst (λ z. ChosenReaction no_choice (observers after) z R reacts.instants) (sym named) reacts.reaction) in
       let found = found-same (outputs_low (observers after)) observer reacts.instants before.past K.low same K.found in
       let own : js ≡ K.instants = (K.is_only).only js (subst (λ rs. Reaction one g rs js) (sym (nothing-chosen g.name R)) (same-reaction answers one g nothing R js r)) in
       let values : (v : ℕ) (q : Place) → K.means v ≡ At q → values_at v js ≡ values_in q K.low = (λ v q e. ap (values_at v) own ∙ K.values v q e) in
       let stand = subst (λ xs. Along (StandsAtNumber K.means g.eqns) xs (map (λ (s : Spot × Spot). s.1) fs)) same-order (standing-law (outputs_low (observers after)) k (enumerations [] (observers after)) observer g.eqns K.means knows made.eqns K.labelled) in
       let alone = subst (λ (es : List FlatEqn). AllByRecursion (λ (e : FlatEqn). AllByRecursion (λ x. IsOn x e.clock g.eqns) e.targets) es) (events-alike g.eqns) K.alone in
       let single = subst (AllByRecursion (NumberHas (λ (e : FlatEqn). AllByRecursion (λ x. IsOn x e.clock g.eqns) e.targets) g.eqns)) same-order (walked-have (λ (e : FlatEqn). AllByRecursion (λ x. IsOn x e.clock g.eqns) e.targets) observer.body g.eqns alone) in
-      all-told K.means stand single past reacts.instants K.low R js (long-reaction (chosen_meaning no_choices real (observers after) n.name) R (map (λ (vs : List Value). tree.nothing) R) reacts.instants reacts.reaction) reacts.same found values r
+      all-told K.means stand single past reacts.instants K.low R js (long-reaction (chosen_meaning no_choice real (observers after) n.name) R (map (λ (vs : List Value). tree.nothing) R) reacts.instants reacts.reaction) reacts.same found values r

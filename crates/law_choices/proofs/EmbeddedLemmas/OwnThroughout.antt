@@ -39,7 +39,7 @@ use Rattle.hp_watch.specs.declared.watching.Free.{Free}
 use Rattle.law_choices.specs.Choosing.Choices.{Choices}
 use Rattle.law_choices.specs.Coded.Laws.{IsTypedAt}
 use Rattle.law_choices.specs.Embedded.Found.{ContractFoundLaw, ContractWalkLaw}
-use Rattle.law_choices.specs.Embedded.Meaning.{ObserversKeepLaw, ObserversKnownLaw, no_choices}
+use Rattle.law_choices.specs.Embedded.Meaning.{ObserversKeepLaw, ObserversKnownLaw}
 use Rattle.law_choices.specs.Embedded.Observed.{observed_rows, outputs_of_instant}
 use Rattle.law_choices.specs.Embedded.Observers.{AreObserversOf}
 use Rattle.law_choices.specs.Embedded.Reacting.{ObserverReactsLaw}
@@ -51,6 +51,7 @@ use Rattle.law_choices.specs.Runs.Chosen.{ChosenReaction}
 use Rattle.law_choices.specs.Seeing.Around.{outputs_in}
 use Rattle.law_choices.specs.Seeing.InBody.{no_slots}
 use Rattle.law_choices.specs.Seeing.OwnContract.{free_in_contract}
+use Rattle.law_choices.specs.Streams.Uncontrolled.{no_choice}
 use Rattle.law_choices.specs.Streams.Places.{AllKeepPlaces, KeepsPlacesOf}
 use Rattle.law_choices.proofs.BroughtLemmas.Apiece.{outputs-anywhere, types_apiece}
 use Rattle.law_choices.proofs.BroughtLemmas.Brought.{Brings, free_types}
@@ -102,7 +103,7 @@ module _ (laws : ContractLaws) (nodes : NodeLaws) (program after : List Item) (r
   abbrev seen_program : List Item
   seen_program = watch.observers after
 
-  keep : (one : HasOneMeaningUnder no_choices (callees_of seen_program) those.nodes) × AllKeepPlaces no_choices seen_program one.answers those.nodes
+  keep : (one : HasOneMeaningUnder no_choice (callees_of seen_program) those.nodes) × AllKeepPlaces no_choice seen_program one.answers those.nodes
   keep = laws.keep program after ranks order h.removable h.form h.short silent observable those.nodes those.equations
 
   apart_low : AreApart (reverse (lowered_program after))
@@ -115,7 +116,7 @@ module _ (laws : ContractLaws) (nodes : NodeLaws) (program after : List Item) (r
   k_seen = known_of (lowered_program seen_program)
 
   abbrev Keeps : FlatNode → Type 0
-  Keeps o = KeepsPlacesOf no_choices seen_program (keep.0).answers o
+  Keeps o = KeepsPlacesOf no_choice seen_program (keep.0).answers o
 
   abbrev IsIts : Node → FlatNode → Type 0
   IsIts m o = (d : Contract) → m.contract ≡ Some d → observers m.name ≡ Some (observed d o)
@@ -193,7 +194,7 @@ module _ (laws : ContractLaws) (nodes : NodeLaws) (program after : List Item) (r
         subst (λ rs. Reaction answers o rs (map (moved_in (length o.variables) (length c.plant.variables)) instants)) (site-rows (length n.inputs) c.plant n.outputs rows past instants inputs outputs)
         (subst (λ (u : Observed). Reaction answers u.node (map (λ i. flows.atoms i (own_site (length n.inputs) c.plant).inputs) instants) (map (moved_in (length (u.node).variables) (length c.plant.variables)) instants)) is (own-runs nodes types all observers n c g answers rows instants runs)) in
         let kinds_there = subst (λ ts. AllByRecursion (AreOfKinds (kinds_of_decls ts (observer_of n k).inputs)) R) (sym (types_observed after)) (subst (λ ks. AllByRecursion (AreOfKinds ks) R) (sym (kinds-of-observer decls n k)) kinds) in
-        let reacts = laws.reacts program after ranks order silent observable choices no_choices n.name n k rows past own has long reaction in
+        let reacts = laws.reacts program after ranks order silent observable choices no_choice n.name n k rows past own has long reaction in
         let told : AllTold o (λ p. p) (in_a_row (groups_of_contract decls outs no_slots k names (λ p. p))) (observed k o).free past (map (moved_in (length o.variables) (length c.plant.variables)) instants) =
         instants-told after n k o answers (keep.0).answers laws.found laws.walk I.known there name (h.alone n.name (observed k o) (I.is k has)) calls-nothing (based.well).no_inputs I.made (laws.knows program after ranks order h.removable h.form h.short silent observable)
         (calls_bring program after h.ready h.removable h.form h.short silent observable earlier n stands k has) apiece.0 apiece.1 decls outs no_slots names (λ p. p) (apiece.2 (λ p. p)) rows past (map (moved_in (length o.variables) (length c.plant.variables)) instants) kinds_there reacts moved in

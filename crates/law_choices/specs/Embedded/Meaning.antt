@@ -17,7 +17,8 @@ use Rattle.hp_watch.specs.Observing.{observers}
 use Rattle.law_choices.specs.Choosing.Meaning.{HasOneMeaningUnder}
 use Rattle.law_choices.specs.Observed.Contracts.{IsObservable}
 use Rattle.law_choices.specs.OnClocks.WellMade.{callees_of}
-use Rattle.law_choices.specs.Streams.Places.{AllKeepPlaces}
+use Rattle.law_choices.specs.Places.Laws.{KnowsOutputs}
+use Rattle.law_choices.specs.Streams.Places.{AllKeepPlaces, outputs_low}
 use Rattle.law_choices.specs.Streams.Uncontrolled.{no_choice}
 
 -- The clocked equations of the observers of a program in order have one meaning, in which the places of comparisons have their values.
@@ -26,3 +27,9 @@ ObserversKeepLaw =
     (program after : List Item) (ranks : List (List ℕ)) → IsInOrder program after ranks → IsRemovable after → TypesForm (obc_types_of program) → EachNode NodeShort after → ContractsCallNothing after → EachNode IsObservable after
     → (fs : List FlatNode) → AreMadeOf (known_of (lowered_program (observers after))) (lowered_program (observers after)) fs
     → (one : HasOneMeaningUnder no_choice (callees_of (observers after)) fs) × AllKeepPlaces no_choice (observers after) one.answers fs
+
+-- What is known of observers are the names of their outputs.
+abbrev pub ObserversKnownLaw : Type 0
+ObserversKnownLaw =
+    (program after : List Item) (ranks : List (List ℕ)) → IsInOrder program after ranks → IsRemovable after → TypesForm (obc_types_of program) → EachNode NodeShort after → ContractsCallNothing after → EachNode IsObservable after
+    → KnowsOutputs (outputs_low (observers after)) (known_of (lowered_program (observers after)))
