@@ -3,6 +3,7 @@ use Rattle.std.proofs.Common.{◌≡◌, ℕ, suc, ◌+◌, ◌<◌, ◌≤◌, 
 use Rattle.std.specs.Prelude.{IsTrue, zero}
 use Rattle.std.specs.List.{AllByRecursion}
 use Rattle.std.proofs.lemmas.Bool.Decides.{nat_tests}
+use Rattle.std.proofs.Math.Nat.{le_trans}
 use Rattle.std.proofs.lemmas.List.{length-append, length-map}
 use Rattle.hp_base.specs.declared.value.Value.{Value}
 use Rattle.hp_obc.specs.Machines.{ObcType}
@@ -16,7 +17,7 @@ use Rattle.law_equations.specs.Meaning.Scheduling.{AreBelow, EqnWithin, IsWithin
 use Rattle.hp_watch.specs.declared.embedding.Shift.{Shift}
 use Rattle.hp_watch.specs.Embedding.{Site, embedded, moved_all, moved_eqn, shift_of}
 use Rattle.hp_watch.specs.Watching.{Observed, Observing, Placed, args_of, called_by, or_none, placed, reads, shift_at, site_of, with_called, with_observer}
-use Rattle.law_choices.specs.Embedded.Sites.{site_instants, site_rows}
+use Rattle.law_choices.specs.Embedded.Sites.{Holds as IsHeld, site_instants, site_rows}
 use Rattle.law_choices.specs.InTurn.Nodes.{Contracted}
 use Rattle.law_choices.proofs.AddingLemmas.Adding.{both}
 use Rattle.law_choices.proofs.AddingLemmas.Embeds.{embedded-eqns, embedded-many, input_eqns}
@@ -168,22 +169,28 @@ module _ (laws : NodeLaws) (types : List ObcType) (all : Callees) (observers : O
         shift-kept observers first (length c.plant.eqns) k (omega (arith, l)) ∙ ap (λ (q : Placed). shift_at q.shifts k) next-is
         ∙ ap (λ j. shift_at (p.shifts ++ s ∷ []) j) (sym (shifts-many observers first k)) ∙ ap or_none (get_last p.shifts s)
 
+    -- It stands in the node that chooses.
+    with-call : HasMore low (embedded o.node (site_of e) (before k).node) (told laws types all observers n c g)
+    with-call = let l = below-plant in subst (λ m. HasMore low m (told laws types all observers n c g)) (ap (λ (q : Placed). q.node) next-is) (told-more laws types all observers n c g (suc k) (omega (arith, l)))
+
+    few-inputs : low ≤ length (before k).node.variables
+    few-inputs = let few = plant-inputs laws types all observers n c g in let grown = plant-more k in let longer = grown.longer in omega (arith, few, longer)
+
+    call-stands : IsHeld o.node (before k).node (told laws types all observers n c g) (site_of e)
+    call-stands =
+        let suits = call-suits k e at o is in
+        let l = below-plant in
+        stands-in low o.node (site_of e) (before k).node (told laws types all observers n c g) with-call few-inputs (le_trans (told-inputs laws types all observers n c g) few-inputs) suits.0 (all-below k (omega (arith, l))) suits.1
+
+    same-shift : (s : Shift) → shift_at (before (length c.plant.eqns)).shifts k ≡ Some s → length (before k).node.variables ≡ s.variables
+    same-shift s stands = by (shift_of o.node (site_of e) (before k).node) (sym call-shift ∙ stands)
+      where
+        by : (z : Shift) → Some z ≡ Some s → z.variables ≡ s.variables
+        by z q = let same : z ≡ s = cc in ap (λ (u : Shift). u.variables) same
+
     -- It goes on as by itself.
     pub called-runs : (s : Shift) → shift_at (before (length c.plant.eqns)).shifts k ≡ Some s → (answers : Answers) (rows : List (List Value)) (past : List Instant) (now : Instant) → Reaction answers c.chosen.node rows (now ∷ past) → IsTrue (holds e.clock now)
         → Reaction answers o.node (site_rows (site_of e) past now) (site_instants (site_of e) (length (o.node).variables) s.variables past now)
     called-runs s stands answers rows past now reaction there =
-        let p = before k in
-        let shift = shift_of o.node (site_of e) p.node in
-        let both_at : Some shift ≡ Some s = sym call-shift ∙ stands in
-        let same : shift ≡ s = cc in
-        let suits = call-suits k e at o is in
-        let l = below-plant in
-        let whole = told laws types all observers n c g in
-        let more = subst (λ m. HasMore low m whole) (ap (λ (q : Placed). q.node) next-is) (told-more laws types all observers n c g (suc k) (omega (arith, l))) in
-        let few = plant-inputs laws types all observers n c g in
-        let inputs = told-inputs laws types all observers n c g in
-        let grown = plant-more k in
-        let longer = grown.longer in
-        let held = stands-in low o.node (site_of e) p.node whole more (omega (arith, few, longer)) (omega (arith, few, inputs, longer)) suits.0 (all-below k (omega (arith, l))) suits.1 in
-        subst (λ far. Reaction answers o.node (site_rows (site_of e) past now) (site_instants (site_of e) (length (o.node).variables) far past now)) (ap (λ (z : Shift). z.variables) same)
-        (site_law answers o.node p.node whole (site_of e) held rows past now (told-runs laws types all observers n c g answers rows (now ∷ past) reaction) there)
+        subst (λ far. Reaction answers o.node (site_rows (site_of e) past now) (site_instants (site_of e) (length (o.node).variables) far past now)) (same-shift s stands)
+        (site_law answers o.node (before k).node (told laws types all observers n c g) (site_of e) call-stands rows past now (told-runs laws types all observers n c g answers rows (now ∷ past) reaction) there)
