@@ -133,7 +133,7 @@ module _ (low : ℕ) (observers : Observing) where
 
 -- ---- numbers
 
-kinds-long : (types : List ObcType) (callees : Callees) (vs : List Variable) (args : List Atom) (ks : List KindData) → HaveKinds types callees vs args ks → length args ≡ length ks
+pub kinds-long : (types : List ObcType) (callees : Callees) (vs : List Variable) (args : List Atom) (ks : List KindData) → HaveKinds types callees vs args ks → length args ≡ length ks
 kinds-long types callees vs [] [] h = refl
 kinds-long types callees vs [] (k ∷ ks) h = absurd h
 kinds-long types callees vs (a ∷ args) [] h = absurd h

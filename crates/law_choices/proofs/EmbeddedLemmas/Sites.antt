@@ -80,7 +80,7 @@ unfolding input_eqns
 copies-off now clock target [] off = tt
 copies-off now clock target (a ∷ args) off = (off, copies-off now clock (target + 1) args off)
 
-copies-below : (clock : Clock) (target : ℕ) (args : List Atom) (end : ℕ) → target + length args ≤ end → AllByRecursion (λ (e : FlatEqn). AllByRecursion (λ t. t < end) e.targets) (input_eqns clock target args)
+pub copies-below : (clock : Clock) (target : ℕ) (args : List Atom) (end : ℕ) → target + length args ≤ end → AllByRecursion (λ (e : FlatEqn). AllByRecursion (λ t. t < end) e.targets) (input_eqns clock target args)
 unfolding input_eqns
 copies-below clock target [] end l = tt
 copies-below clock target (a ∷ args) end l = ((omega (arith, l), tt), copies-below clock (target + 1) args end (omega (arith, l)))
