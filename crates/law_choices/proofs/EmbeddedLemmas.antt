@@ -6,6 +6,7 @@ pub mod Beside
 pub mod Programs
 pub mod Reacting
 pub mod Running
+pub mod Rowed
 pub mod Found
 mod Meaning
 mod Moved
