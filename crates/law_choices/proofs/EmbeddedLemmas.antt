@@ -8,16 +8,16 @@ pub mod Reacting
 pub mod Running
 pub mod Rowed
 pub mod Found
-mod Meaning
-mod Moved
-mod Sites
-mod OwnSite
-mod CalledSites
-mod Told
-mod Instants
-mod Rows
-mod OwnRows
-mod SiteRows
-mod Observers
-mod OwnThroughout
-mod Outputs
+pub mod Meaning
+pub mod Moved
+pub mod Sites
+pub mod OwnSite
+pub mod CalledSites
+pub mod Told
+pub mod Instants
+pub mod Rows
+pub mod OwnRows
+pub mod SiteRows
+pub mod Observers
+pub mod OwnThroughout
+pub mod Outputs

@@ -12,7 +12,6 @@ use Rattle.hp_meaning.specs.Causal.OneReaction.{SamePasts}
 use Rattle.law_wellmade.proofs.TimelyLemmas.KindLaws.{are_of}
 use Rattle.law_wellmade.specs.Timely.Tested.{ConstructorsDiffer}
 use Rattle.law_choices.specs.Places.Laws.{places_of}
-use Rattle.law_choices.proofs.PlayingLemmas.Programs.{differ}
 use Rattle.hp_tree.specs.Reaction.{Each}
 use Rattle.law_automata.specs.Lowered.Standing.{Along}
 use Rattle.law_equations.specs.Flattened.Flatten.{At, FlatName, ats}
@@ -27,8 +26,8 @@ use Rattle.law_equations.specs.Meaning.Instants as flows
 use Rattle.law_wellmade.specs.Timely.Kinds as timely
 
 pub rows-of : (types : List TypeDecl) (ds : List Decl) (rows : List (List Value)) → ConstructorsDiffer types → AllByRecursion (AreOfKinds (timely.kinds_of_decls types ds)) rows → AllByRecursion (AreOf types ds) rows
-rows-of types ds [] differ h = tt
-rows-of types ds (row ∷ rows) differ h = (are_of types ds row differ h.0, rows-of types ds rows differ h.1)
+rows-of types ds [] apart h = tt
+rows-of types ds (row ∷ rows) apart h = (are_of types ds row apart h.0, rows-of types ds rows apart h.1)
 
 -- ---- the variables of what a walk finds have the values of its places
 

@@ -70,9 +70,9 @@ walked-have P b es h =
 
 -- a comparison that brings a truth value compares integers
 pub of-integers : (t : Ty) → of_compared (Some t) ≡ ty.Bool ∷ [] → t ≡ ty.Int
-pub of-integers ty.Int e = refl
-pub of-integers ty.Bool e = absurd cc
-pub of-integers (ty.Enum x) e = absurd cc
+of-integers ty.Int e = refl
+of-integers ty.Bool e = absurd cc
+of-integers (ty.Enum x) e = absurd cc
 
 -- ---- the node that is watched
 
