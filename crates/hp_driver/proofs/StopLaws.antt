@@ -1,21 +1,22 @@
 -- From why a sweep stops to what the call did.
 use Rattle.std.proofs.Common.{ℕ, List, [], ◌∷◌, ◌++◌}
 use Rattle.std.specs.Prelude.{Option}
+use Rattle.hp_base.specs.declared.limit.Limit.{Limit}
 use Rattle.hp_compile.specs.declared.refusal.Refusal.{Refusal}
 use Rattle.hp_io.specs.Told.{Grows}
 use Rattle.hp_verdicts.specs.declared.error.ContractErr.{ContractErr}
-use Rattle.hp_driver.specs.Command.{not_built_line}
+use Rattle.hp_driver.specs.Command.{no_node_line}
 use Rattle.hp_driver.specs.Compiled.{HasCircuit, IsNotCompiled}
-use Rattle.hp_driver.specs.Diagnostics.{contract_line, refusal_line}
+use Rattle.hp_driver.specs.Diagnostics.{contract_line, executor_line, refusal_line}
 use Rattle.hp_driver.specs.Follows.{SweepOutcome}
 use Rattle.hp_driver.specs.Outcome.{Outcome}
 use Rattle.hp_driver.specs.Stopping.{Stops}
-use Rattle.hp_driver.specs.Sweeping.{tasks_text}
+use Rattle.hp_driver.specs.Sweeping.{tasks_name, tasks_text}
 use Rattle.hp_driver.specs.Swept.{IsNotSwept}
 use Rattle.hp_driver.specs.declared.compile_error.CompileErr.{CompileErr}
 use Rattle.hp_driver.specs.declared.compile_error.CompileErr.TheVariants.{Refused, Contract}
 use Rattle.hp_driver.specs.declared.sweep.Stop.{Stop}
-use Rattle.hp_driver.specs.declared.sweep.Stop.TheVariants.{NotCompiled, NotRun}
+use Rattle.hp_driver.specs.declared.sweep.Stop.TheVariants.{NoMachine, NotCompiled, TooLarge}
 
 -- ---- the program is not compiled
 
@@ -52,8 +53,11 @@ stop_failed why line b rest status f tasks instants h words files w = Outcome.li
 pub stop_memory : (why : Stop) → Stopped why [] 6
 stop_memory why tasks instants h words files w = Outcome.no_memory
 
-pub stop_not_run : Stopped NotRun not_built_line 1
-stop_not_run tasks instants h words files w = Outcome.not_swept w (IsNotSwept.not_run h.1 h.2)
+pub stop_no_machine : Stopped NoMachine (no_node_line tasks_name) 1
+stop_no_machine tasks instants h words files w = Outcome.not_swept w (IsNotSwept.no_machine h.1 h.2)
+
+pub stop_too_large : (limit : Limit) → Stopped (TooLarge limit) (executor_line limit) 1
+stop_too_large limit tasks instants h words files w = Outcome.not_swept w (IsNotSwept.too_large limit h.1 h.2)
 
 pub stop_uncompiled : (before after : Option (List ℕ)) (cause : CompileErr) (status : ℕ) → ToldCause before after cause status → ToldStop before after (NotCompiled cause) status
 stop_uncompiled before after cause status told = (told.0, told.1, λ tasks instants h. told.2 tasks instants h.0)

@@ -182,9 +182,6 @@ IsNoCommand words = IsNoFileCommand words × ((tasks instants : ℕ) → IsSweep
 abbrev pub usage_line : List ℕ
 usage_line = codes "usage: hept check run compile exec prove verify sweep past save resume\n"
 
-abbrev pub not_built_line : List ℕ
-not_built_line = codes "E2 not built\n"
-
 -- the program has no such node
 abbrev pub no_node_line : List ℕ → List ℕ
 no_node_line node = codes "E12 " ++ node ++ codes "\n"

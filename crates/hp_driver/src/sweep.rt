@@ -1,5 +1,5 @@
 //! The command `sweep`: a program of some tasks of which one may be active at a time is made, compiled and run on a trace that is made too, and what was true is counted.
-ghost use Rattle.std.specs.Prelude.{◌≡◌, ◌≢◌, ◌≤◌, ◌++◌, ◌+◌, ◌*◌, ℕ, true, false, List, [], length, take, drop, replicate, codes, decimal, IfOk, MatchResult, OnOk};
+ghost use Rattle.std.specs.Prelude.{◌≡◌, ◌≢◌, ◌≤◌, ◌++◌, ◌+◌, ℕ, List, [], length, take, drop, replicate, codes, decimal, IfOk, MatchResult, OnOk};
 ghost use Rattle.hp_exec.specs.Executors.{Runs, kept};
 ghost use Rattle.hp_io.specs.Faults.{Same};
 ghost use Rattle.hp_io.specs.Told.{Grows};
@@ -10,19 +10,18 @@ ghost use Rattle.hp_driver.specs.Faults.{BothPutFaults, PutFaults};
 ghost use Rattle.hp_driver.specs.Follows.{SweepOutcome};
 ghost use Rattle.hp_driver.specs.Happened.{Happened};
 ghost use Rattle.hp_driver.specs.Status.{code_of};
-ghost use Rattle.hp_driver.specs.Stopping.{AreCounts, HasMany, HasOthers, IsOfTasks, Stops, StopsAt};
+ghost use Rattle.hp_driver.specs.Stopping.{IsSummary, Stops, StopsAt};
 ghost use Rattle.hp_driver.specs.Sweeping.{row, numbered, names_text, inputs_text, pair_text, apart_text, guarantee_text, results_text, call_text, task_text, outputs_text, heading_text, contract_text, body_text, tasks_text};
-ghost use Rattle.hp_driver.specs.Sweeping.{is_input, inputs_at, one_more, counted, counts_behind, sweep_text, HasTasks};
+ghost use Rattle.hp_driver.specs.Sweeping.{is_input, inputs_at, one_more, counted, counts_behind};
 ghost use Rattle.hp_driver.specs.Swept.{IsSwept};
 
 use crate::compile_error::CompileErr;
 use crate::compiling::compile;
-use crate::diagnostic::NOT_BUILT;
-use crate::refuse::{report_contract, report_refusal};
-use crate::report::report;
+use crate::machines::report_large;
+use crate::refuse::{report_contract, report_no_node, report_refusal};
 use crate::source::say_all;
 use crate::status::Status;
-use hp_base::Value;
+use hp_base::{Limit, Value};
 use hp_exec::{Exec, ExecErr};
 use hp_io::{Console, Sink};
 use hp_obc::Obc;
@@ -58,8 +57,10 @@ const TASKS: &str = "tasks";
 pub(crate) enum Stop {
     /// The program of the tasks is not compiled.
     NotCompiled(CompileErr),
-    /// The machine of the tasks cannot be run.
-    NotRun,
+    /// The machine of the tasks is not among those of the program.
+    NoMachine,
+    /// The machine of the tasks passes a limit of what is executed.
+    TooLarge(Limit),
     OutOfMemory,
 }
 
@@ -82,8 +83,8 @@ impl From<ExecErr> for Stop {
 
     fn from(error: ExecErr) -> Stop {
         match error {
-            ExecErr::NoNode => Stop::NotRun,
-            ExecErr::Limit(_) => Stop::NotRun,
+            ExecErr::NoNode => Stop::NoMachine,
+            ExecErr::Limit(limit) => Stop::TooLarge(limit),
             ExecErr::OutOfMemory => Stop::OutOfMemory,
         }
     }
@@ -305,8 +306,7 @@ fn program_of(alloc: Global, tasks: u64) -> Result<Vec<u8>, AllocError>
 
 /// Whether a task is requested at an instant, or ends: every third, or every fourth instant.
 fn is_input(place: usize, instant: u64) -> bool
-    requires place { place ≤ 16 }
-    requires instant { instant ≤ 1000000 }
+    requires { instant ≤ 1000000 }
     ensures { result ≡ is_input place instant }
 {
     let task = (place / 2) as u64 + 1;
@@ -316,8 +316,7 @@ fn is_input(place: usize, instant: u64) -> bool
 
 /// Fills in the inputs of an instant.
 fn fill(instant: u64, inputs: &mut [Value])
-    requires places { length inputs.old ≤ 16 }
-    requires instant { instant ≤ 1000000 }
+    requires { instant ≤ 1000000 }
     ensures { inputs.new ≡ inputs_at instant (length inputs.old) }
 {
     for i in 0..inputs.len() {
@@ -355,16 +354,16 @@ struct Room {
 }
 
 impl Room {
-    /// Room for so many inputs and as many outputs.
-    fn new(alloc: Global, many: usize) -> Result<Room, AllocError>
-        ensures inputs { IfOk result (λ room. length room.inputs.items ≡ many) }
-        ensures outputs { IfOk result (λ room. length room.outputs.items ≡ many) }
-        ensures counts { IfOk result (λ room. room.counts.items ≡ replicate many 0) }
+    /// Room for so many inputs and outputs.
+    fn new(alloc: Global, inputs: usize, outputs: usize) -> Result<Room, AllocError>
+        ensures inputs { IfOk result (λ room. length room.inputs.items ≡ inputs) }
+        ensures outputs { IfOk result (λ room. length room.outputs.items ≡ outputs) }
+        ensures counts { IfOk result (λ room. room.counts.items ≡ replicate outputs 0) }
     {
         Ok(Room {
-            inputs: vec![in alloc; Value::B(false); many]?,
-            outputs: vec![in alloc; Value::B(false); many]?,
-            counts: vec![in alloc; 0; many]?,
+            inputs: vec![in alloc; Value::B(false); inputs]?,
+            outputs: vec![in alloc; Value::B(false); outputs]?,
+            counts: vec![in alloc; 0; outputs]?,
         })
     }
 
@@ -373,7 +372,6 @@ impl Room {
         requires inputs { length self.old.inputs.items ≡ length exec.old.signature.inputs }
         requires outputs { length self.old.outputs.items ≡ length exec.old.signature.outputs }
         requires counts { length self.old.counts.items ≡ length self.old.outputs.items }
-        requires places { length self.old.inputs.items ≤ 16 }
         requires instant { instant ≤ 1000000 }
         ensures inputs { length self.new.inputs.items ≡ length self.old.inputs.items }
         ensures outputs { length self.new.outputs.items ≡ length self.old.outputs.items }
@@ -395,63 +393,25 @@ fn run_instants(exec: &mut Exec, instants: u64, room: &mut Room)
     requires inputs { length room.old.inputs.items ≡ length exec.old.signature.inputs }
     requires outputs { length room.old.outputs.items ≡ length exec.old.signature.outputs }
     requires counts { length room.old.counts.items ≡ length room.old.outputs.items }
-    requires places { length room.old.inputs.items ≤ 16 }
     requires instants { instants ≤ 1000000 }
-    ensures long { length room.new.counts.items ≡ length room.old.counts.items }
-    ensures counted { (b : Behaviour) → Runs exec.old b → kept exec.old ≡ b.reset → room.old.counts.items ≡ replicate (length room.old.inputs.items) 0
-        → room.new.counts.items ≡ counts_behind b (length room.old.inputs.items) instants }
+    ensures { (b : Behaviour) → Runs exec.old b → kept exec.old ≡ b.reset → room.old.counts.items ≡ replicate (length room.old.outputs.items) 0
+        → room.new.counts.items ≡ counts_behind b (length room.old.inputs.items) (length room.old.outputs.items) instants }
 {
     for i in 0..instants {
         room.step(exec, i + 1);
     }
 }
 
-/// How often each output of a machine of so many inputs and outputs is true.
-fn counts_by(
-    alloc: Global,
-    exec: &mut Exec,
-    many: usize,
-    instants: u64,
-) -> Result<Vec<u64>, AllocError>
-    requires inputs { many ≡ length exec.old.signature.inputs }
-    requires outputs { many ≡ length exec.old.signature.outputs }
-    requires places { many ≤ 16 }
-    requires instants { instants ≤ 1000000 }
-    ensures long { IfOk result (λ counts. length counts.items ≡ many) }
-    ensures counted { (b : Behaviour) → Runs exec.old b → kept exec.old ≡ b.reset → IfOk result (λ counts. counts.items ≡ counts_behind b many instants) }
-{
-    let mut room = Room::new(alloc, many)?;
-    run_instants(exec, instants, &mut room);
-    Ok(room.counts)
-}
-
-/// Whether a machine has so many inputs and as many outputs.
-fn has_many(exec: &Exec, many: usize) -> bool
-    ensures yes { result ≡ true → HasMany many exec.now.signature }
-    ensures no { result ≡ false → HasOthers many exec.now.signature }
+/// How often each output of a machine is true.
+fn counts_by(alloc: Global, exec: &mut Exec, instants: u64) -> Result<Vec<u64>, AllocError>
+    requires { instants ≤ 1000000 }
+    ensures { (b : Behaviour) → Runs exec.old b → kept exec.old ≡ b.reset
+        → IfOk result (λ counts. counts.items ≡ counts_behind b (length exec.old.signature.inputs) (length exec.old.signature.outputs) instants) }
 {
     let signature = exec.signature();
-    signature.inputs.len() == many && signature.outputs.len() == many
-}
-
-/// An executor of the machine of the tasks, if it has so many inputs and as many outputs.
-fn exec_of(alloc: Global, machines: &Obc, many: usize) -> Result<Exec, Stop>
-    ensures { MatchResult result (IsOfTasks many machines.now) (StopsAt many machines.now) }
-{
-    let exec = Exec::new(alloc, machines, TASKS)?;
-    let has = has_many(&exec, many);
-    if has { Ok(exec) } else { Err(Stop::NotRun) }
-}
-
-/// How often each output of the machine of the tasks was true.
-fn counts_of(alloc: Global, machines: &Obc, many: usize, instants: u64) -> Result<Vec<u64>, Stop>
-    requires places { many ≤ 16 }
-    requires instants { instants ≤ 1000000 }
-    ensures { MatchResult result (λ counts. AreCounts many instants machines.now counts.items) (StopsAt many machines.now) }
-{
-    let mut exec = exec_of(alloc, machines, many)?;
-    let counts = counts_by(alloc, &mut exec, many, instants)?;
-    Ok(counts)
+    let mut room = Room::new(alloc, signature.inputs.len(), signature.outputs.len())?;
+    run_instants(exec, instants, &mut room);
+    Ok(room.counts)
 }
 
 /// Adds numbers, each with a space in front.
@@ -475,12 +435,12 @@ fn add_line(text: &mut Vec<u8>, letter: &[u8], numbers: &[u64]) -> Result<(), Al
 
 /// The text of these numbers, of which the first so many stand in the first line.
 fn text_of(alloc: Global, counts: &[u64], tasks: usize) -> Result<Vec<u8>, AllocError>
-    requires { tasks ≤ length counts.now }
     ensures { IfOk result (λ text. text.items ≡ summary_text (take tasks counts.now) (drop tasks counts.now)) }
 {
+    let first = tasks.min(counts.len());
     let mut text = Vec::new(alloc);
-    add_line(&mut text, b"a", &counts[..tasks])?;
-    add_line(&mut text, b"s", &counts[tasks..])?;
+    add_line(&mut text, b"a", &counts[..first])?;
+    add_line(&mut text, b"s", &counts[first..])?;
     Ok(text)
 }
 
@@ -497,13 +457,12 @@ fn machines_of_tasks(alloc: Global, tasks: u64) -> Result<Obc, Stop>
 
 /// The summary of a run of these machines: how often each task was active, and how often each started.
 fn summary_by(alloc: Global, sweep: Sweep, machines: &Obc) -> Result<Vec<u8>, Stop>
-    requires tasks { sweep.tasks ≤ 8 }
-    requires instants { sweep.instants ≤ 1000000 }
-    ensures { MatchResult result (λ text. HasTasks (2 * sweep.tasks) machines.now × (text.items ≡ sweep_text machines.now sweep.tasks sweep.instants)) (StopsAt (2 * sweep.tasks) machines.now) }
+    requires { sweep.instants ≤ 1000000 }
+    ensures { MatchResult result (λ text. IsSummary sweep.tasks sweep.instants machines.now text.items) (StopsAt machines.now) }
 {
-    let tasks = sweep.tasks as usize;
-    let counts = counts_of(alloc, machines, 2 * tasks, sweep.instants)?;
-    let text = text_of(alloc, &counts, tasks)?;
+    let mut exec = Exec::new(alloc, machines, TASKS)?;
+    let counts = counts_by(alloc, &mut exec, sweep.instants)?;
+    let text = text_of(alloc, &counts, sweep.tasks as usize)?;
     Ok(text)
 }
 
@@ -543,7 +502,8 @@ fn report_stop<E: Sink>(alloc: Global, diag: &mut E, stop: &Stop) -> Status
 {
     match stop {
         Stop::NotCompiled(cause) => report_cause(alloc, diag, cause),
-        Stop::NotRun => report(diag, NOT_BUILT, Status::Refused),
+        Stop::NoMachine => report_no_node(alloc, diag, TASKS),
+        Stop::TooLarge(limit) => report_large(alloc, diag, *limit),
         Stop::OutOfMemory => Status::NoMemory,
     }
 }
