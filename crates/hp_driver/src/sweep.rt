@@ -402,14 +402,27 @@ fn run_instants(exec: &mut Exec, instants: u64, room: &mut Room)
     }
 }
 
+/// How many inputs a machine has.
+fn input_count(exec: &Exec) -> usize
+    ensures { result ≡ length exec.now.signature.inputs }
+{
+    exec.signature().inputs.len()
+}
+
+/// How many outputs a machine has.
+fn output_count(exec: &Exec) -> usize
+    ensures { result ≡ length exec.now.signature.outputs }
+{
+    exec.signature().outputs.len()
+}
+
 /// How often each output of a machine is true.
 fn counts_by(alloc: Global, exec: &mut Exec, instants: u64) -> Result<Vec<u64>, AllocError>
     requires { instants ≤ 1000000 }
     ensures { (b : Behaviour) → Runs exec.old b → kept exec.old ≡ b.reset
         → IfOk result (λ counts. counts.items ≡ counts_behind b (length exec.old.signature.inputs) (length exec.old.signature.outputs) instants) }
 {
-    let signature = exec.signature();
-    let mut room = Room::new(alloc, signature.inputs.len(), signature.outputs.len())?;
+    let mut room = Room::new(alloc, input_count(exec), output_count(exec))?;
     run_instants(exec, instants, &mut room);
     Ok(room.counts)
 }
