@@ -11,7 +11,6 @@ use Rattle.hp_driver.specs.Compiled.{AreMachinesFor, IsCompiled, IsFound, IsNotC
 use Rattle.hp_driver.specs.Controls.{has_controls}
 use Rattle.hp_driver.specs.declared.compile_error.CompileErr.{CompileErr}
 use Rattle.hp_driver.specs.declared.compile_error.CompileErr.TheVariants.{Refused, Contract, OutOfMemory}
-use Rattle.hp_machines.specs.Machined.{AreMachinesOf}
 use Rattle.hp_obc.specs.Machines.{Obc}
 use Rattle.hp_tree.specs.Programs.{Node}
 use Rattle.hp_tree.specs.declared.program.Item.{Item}
@@ -41,12 +40,12 @@ module _ (law : TextLaw) (run_law : RunLaw) (text : List ℕ) (files : Option Fi
   abbrev held : IsHeld files file c.program
   held = held_by text files file gives c.program c.ordered c.found
 
-  abbrev own_machines : {own : Obc} → has_controls c.program ≡ false → AreMachinesOf c.ordered own → (o ≡ own) ⊎ AreWithContracts c.ordered own o → AreWritten files file o
-  own_machines {own} none machines others = record {
+  abbrev own_machines : {own : Obc} → has_controls c.program ≡ false → AreWithContracts c.ordered own o → AreWritten files file o
+  own_machines {own} none with_contracts = record {
     own = own;
     compiled =
-        record { program = c.program; held = held; uncontrolled = none; kept = c.kept; agree = agree_with_nodes law run_law files file c.program held none c.kept own machines; machines = machines };
-    others = others;
+        record { program = c.program; held = held; uncontrolled = none; kept = c.kept; agree = agree_with_nodes law run_law files file c.program held none c.kept own with_contracts.own_machines; machines = with_contracts.own_machines };
+    with_contracts = with_contracts;
   }
 
   abbrev chosen_machines : has_controls c.program ≡ true → AreControlledMachines c.ordered o → AreChosen files file o
@@ -55,9 +54,9 @@ module _ (law : TextLaw) (run_law : RunLaw) (text : List ℕ) (files : Option Fi
   module _ (words : List (List ℕ)) (out : List ℕ) (w : IsCompileOf words file out) where
     -- its machines were written, or could not be
     pub written : AreMachinesFor c.program c.ordered o → (status : ℕ) → (status ≡ 0) ⊎ (status ≡ 5) ⊎ (status ≡ 6) → Outcome words files [] [] status
-    written (AreMachinesFor.of_nodes none machines others) status (inl h) = subst (Outcome words files [] []) (sym h) (Outcome.compiled w (own_machines none machines others))
-    written (AreMachinesFor.of_nodes none machines others) status (inr (inl h)) = subst (Outcome words files [] []) (sym h) (Outcome.not_written w (own_machines none machines others))
-    written (AreMachinesFor.of_nodes none machines others) status (inr (inr h)) = subst (Outcome words files [] []) (sym h) Outcome.no_memory
+    written (AreMachinesFor.of_nodes none with_contracts) status (inl h) = subst (Outcome words files [] []) (sym h) (Outcome.compiled w (own_machines none with_contracts))
+    written (AreMachinesFor.of_nodes none with_contracts) status (inr (inl h)) = subst (Outcome words files [] []) (sym h) (Outcome.not_written w (own_machines none with_contracts))
+    written (AreMachinesFor.of_nodes none with_contracts) status (inr (inr h)) = subst (Outcome words files [] []) (sym h) Outcome.no_memory
     written (AreMachinesFor.that_choose some machines) status (inl h) = subst (Outcome words files [] []) (sym h) (Outcome.chosen_compiled w (chosen_machines some machines) some)
     written (AreMachinesFor.that_choose some machines) status (inr (inl h)) = subst (Outcome words files [] []) (sym h) (Outcome.chosen_not_written w (chosen_machines some machines) some)
     written (AreMachinesFor.that_choose some machines) status (inr (inr h)) = subst (Outcome words files [] []) (sym h) Outcome.no_memory
@@ -65,8 +64,8 @@ module _ (law : TextLaw) (run_law : RunLaw) (text : List ℕ) (files : Option Fi
     -- what is left then
     pub left : AreMachinesFor c.program c.ordered o → (after : Option Files) (status : ℕ) → WritesMachines o out files after status → Leaves words files after status
     left machines after status (WritesMachines.nothing same) = Leaves.as_they_were same (λ y v h. omega (arith, h))
-    left (AreMachinesFor.of_nodes none machines others) after status (WritesMachines.whole printed all) = Leaves.written w (own_machines none machines others) printed all
-    left (AreMachinesFor.of_nodes none machines others) after status (WritesMachines.part why printed others_same this) = Leaves.in_part why w (own_machines none machines others) printed others_same this
+    left (AreMachinesFor.of_nodes none with_contracts) after status (WritesMachines.whole printed all) = Leaves.written w (own_machines none with_contracts) printed all
+    left (AreMachinesFor.of_nodes none with_contracts) after status (WritesMachines.part why printed others_same this) = Leaves.in_part why w (own_machines none with_contracts) printed others_same this
     left (AreMachinesFor.that_choose some machines) after status (WritesMachines.whole printed all) = Leaves.chosen_written w (chosen_machines some machines) some printed all
     left (AreMachinesFor.that_choose some machines) after status (WritesMachines.part why printed others_same this) = Leaves.chosen_in_part why w (chosen_machines some machines) some printed others_same this
 
