@@ -10,7 +10,7 @@ use Rattle.hp_driver.proofs.AcceptedLaws.{none_or}
 use Rattle.hp_driver.specs.Compiled.{AreMachinesFor, IsCompiled, IsFound, IsNotCompiled}
 use Rattle.hp_driver.specs.Controls.{has_controls}
 use Rattle.hp_driver.specs.declared.compile_error.CompileErr.{CompileErr}
-use Rattle.hp_driver.specs.declared.compile_error.CompileErr.TheVariants.{Refused, Contract, OutOfMemory}
+use Rattle.hp_driver.specs.declared.compile_error.CompileErr.TheVariants.{Refused, Contract}
 use Rattle.hp_obc.specs.Machines.{Obc}
 use Rattle.hp_tree.specs.Programs.{Node}
 use Rattle.hp_tree.specs.declared.program.Item.{Item}

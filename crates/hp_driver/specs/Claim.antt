@@ -1,7 +1,7 @@
 -- What a call does over files and an input in memory, a row for each ending. The rows speak of texts, runs and games,
 -- and not of passes of the compiler; their terms stand in `ClaimTerms`.
 -- Source: own; a statement of exit status, output and files in one is that of CakeML's programs.
-use Rattle.std.specs.Prelude.{◌≡◌, ◌≢◌, ◌≤◌, ◌<◌, ◌⊎◌, ◌*◌, ℕ, Bool, true, false, List, [], length, Option, None, Some}
+use Rattle.std.specs.Prelude.{◌≡◌, ◌≢◌, ◌≤◌, ◌<◌, ◌⊎◌, ℕ, Bool, true, false, List, [], length, Option, None, Some}
 use Rattle.std.specs.FinMap as map
 use Rattle.hp_base.specs.Limits.{most}
 use Rattle.hp_base.specs.declared.limit.Limit.{Limit}
@@ -26,7 +26,6 @@ use Rattle.hp_cert.specs.declared.certtext.error.CertErr.TheVariants.{OutOfMemor
 use Rattle.hp_cert.specs.declared.checking.Proved.{Proved}
 use Rattle.hp_cert.specs.declared.checking.Proved.TheVariants.{Lose}
 use Rattle.hp_verdicts.specs.declared.error.ContractErr.{ContractErr}
-use Rattle.hp_verdicts.specs.declared.error.ContractErr.TheVariants as contract
 use Rattle.law_decided.specs.Laws.{HoldsOf, IsForcedFirst, IsVerdictOf}
 use Rattle.hp_driver.specs.Command.{IsRunOf, IsTellOf, IsCheckOf, IsCompileOf, IsPastOf, IsExecOf, IsProveOf, IsVerifyOf, IsSegmentOf, IsSweepOf, IsOverSource, IsOverContract, ReadsSource, IsNoCommand, usage_line, no_node_line, accepted_text, verdict_text}
 use Rattle.hp_driver.specs.Controls.{has_controls}

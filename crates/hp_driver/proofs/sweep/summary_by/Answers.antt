@@ -1,7 +1,7 @@
 use Rattle.std.proofs.Common.{◌∙◌, List, ℕ, ap, drop, take}
 use Rattle.hp_obc.specs.Steps.{machine_behaviour}
 use Rattle.hp_driver.specs.Command.{summary_text}
-use Rattle.hp_driver.specs.Stopping.{IsSummary, StopsAt, of_exec}
+use Rattle.hp_driver.specs.Stopping.{StopsAt, of_exec}
 use Rattle.hp_driver.specs.Sweeping.{tasks_name}
 use Rattle.hp_driver.specs.declared.sweep.Stop.TheVariants.{OutOfMemory}
 use Rattle.hp_driver.proofs.HandedLaws.{handed_match}
