@@ -1,8 +1,9 @@
 -- What `sweep` runs: a program of some tasks, of which one may be active at a time, on inputs that come again and again.
 -- Source: own; delayable tasks, after Delaval, Marchand and Rutten (LCTES 2010).
-use Rattle.std.specs.Prelude.{ℕ, zero, suc, ◌+◌, ◌-◌, ◌/◌, ◌%◌, ◌^◌, min, nat_eq, if◌then◌else◌, Bool, true, List, [], ◌∷◌, ◌++◌, length, take, drop, replicate, codes, decimal}
+use Rattle.std.specs.Prelude.{◌≡◌, ℕ, zero, suc, ◌+◌, ◌-◌, ◌*◌, ◌/◌, ◌%◌, ◌^◌, min, nat_eq, if◌then◌else◌, Bool, true, List, [], ◌∷◌, ◌++◌, length, take, drop, replicate, codes, Some}
 use Rattle.hp_base.specs.declared.value.Value.{Value}
 use Rattle.hp_base.specs.declared.value.Value.TheVariants.{B}
+use Rattle.hp_obc.specs.Form.{machine_named}
 use Rattle.hp_obc.specs.Machines.{Machine, Obc}
 use Rattle.hp_obc.specs.Steps.{Behaviour, Memory, machine_behaviour}
 use Rattle.hp_driver.specs.Command.{summary_text}
@@ -15,9 +16,9 @@ row between part zero = []
 row between part (suc zero) = part 1
 row between part (suc (suc n)) = row between part (suc n) ++ (between ++ part (suc (suc n)))
 
--- a name with a number
+-- a name with the digit of a task, of which there are at most nine
 abbrev pub numbered : List ℕ → ℕ → List ℕ
-numbered name n = name ++ decimal n
+numbered name n = name ++ (48 + n) ∷ []
 
 -- a name with the number of each of so many tasks
 abbrev pub names_text : List ℕ → ℕ → List ℕ
@@ -112,7 +113,14 @@ module _ (b : Behaviour) (inputs : ℕ) where
 abbrev pub tasks_name : List ℕ
 tasks_name = codes "tasks"
 
--- How often each output of that machine was true, behind so many instants: the first of its outputs tell which task is active, the others which one starts.
-abbrev pub sweep_text : Obc → Machine → ℕ → ℕ → List ℕ
-sweep_text o m tasks instants =
-    let counts = counts_behind (machine_behaviour o tasks_name) (length m.inputs) (length m.outputs) instants in summary_text (take tasks counts) (drop tasks counts)
+-- The machine of the tasks is among these, with so many inputs and as many outputs.
+pub record HasTasks (many : ℕ) (o : Obc) : Type 0 where
+  pub machine : Machine
+  pub named : machine_named o.machines tasks_name ≡ Some machine
+  pub inputs : length machine.inputs ≡ many
+  pub outputs : length machine.outputs ≡ many
+
+-- How often each task was active, and how often each started, behind so many instants of that machine: of its outputs the first tell which task is active.
+abbrev pub sweep_text : Obc → ℕ → ℕ → List ℕ
+sweep_text o tasks instants =
+    let counts = counts_behind (machine_behaviour o tasks_name) (2 * tasks) (2 * tasks) instants in summary_text (take tasks counts) (drop tasks counts)

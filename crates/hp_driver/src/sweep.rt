@@ -1,24 +1,26 @@
 //! The command `sweep`: a program of some tasks of which one may be active at a time is made, compiled and run on a trace that is made too, and what was true is counted.
-ghost use Rattle.std.specs.Prelude.{◌≡◌, ◌≢◌, ◌≤◌, ◌++◌, ◌+◌, ℕ, List, [], length, take, drop, replicate, codes, decimal, IfOk, MatchResult, OnOk};
+ghost use Rattle.std.specs.Prelude.{◌≡◌, ◌≢◌, ◌≤◌, ◌++◌, ◌+◌, ◌*◌, ℕ, List, [], length, take, drop, replicate, codes, decimal, IfOk, IsSome, MatchResult, OnOk};
+ghost use Rattle.hp_exec.specs.Answers.{Executes};
 ghost use Rattle.hp_exec.specs.Executors.{Runs, kept};
 ghost use Rattle.hp_io.specs.Faults.{Same};
 ghost use Rattle.hp_io.specs.Told.{Grows};
+ghost use Rattle.hp_obc.specs.Form.{machine_named};
 ghost use Rattle.hp_obc.specs.Steps.{Behaviour};
 ghost use Rattle.hp_driver.specs.Command.{counted_line, spaced_numbers, summary_text};
-ghost use Rattle.hp_driver.specs.Compiled.{HasCircuit, IsCompiled, IsNotCompiled};
+ghost use Rattle.hp_driver.specs.Compiled.{IsCompiled};
 ghost use Rattle.hp_driver.specs.Faults.{BothPutFaults, PutFaults};
 ghost use Rattle.hp_driver.specs.Follows.{SweepOutcome};
 ghost use Rattle.hp_driver.specs.Happened.{Happened};
 ghost use Rattle.hp_driver.specs.Status.{code_of};
-ghost use Rattle.hp_driver.specs.Stopping.{IsSummary, Stops, StopsAt};
+ghost use Rattle.hp_driver.specs.Stopping.{Stops, StopsAt};
 ghost use Rattle.hp_driver.specs.Sweeping.{row, numbered, names_text, inputs_text, pair_text, apart_text, guarantee_text, results_text, call_text, task_text, outputs_text, heading_text, contract_text, body_text, tasks_text};
-ghost use Rattle.hp_driver.specs.Sweeping.{is_input, inputs_at, one_more, counted, counts_behind};
+ghost use Rattle.hp_driver.specs.Sweeping.{is_input, inputs_at, one_more, counted, counts_behind, sweep_text, tasks_name, HasTasks};
 ghost use Rattle.hp_driver.specs.Swept.{IsSwept};
 
 use crate::compile_error::CompileErr;
 use crate::compiling::compile;
 use crate::machines::report_large;
-use crate::refuse::{report_contract, report_no_node, report_refusal};
+use crate::refuse::report_uncompiled;
 use crate::source::say_all;
 use crate::status::Status;
 use hp_base::{Limit, Value};
@@ -26,6 +28,7 @@ use hp_exec::{Exec, ExecErr};
 use hp_io::{Console, Sink};
 use hp_obc::Obc;
 use itoa::Buffer;
+use law_controlled::nodes_have_their_machines;
 use std::alloc::{AllocError, Global};
 
 /// How many tasks, and over how many instants.
@@ -57,8 +60,6 @@ const TASKS: &str = "tasks";
 pub(crate) enum Stop {
     /// The program of the tasks is not compiled.
     NotCompiled(CompileErr),
-    /// The machine of the tasks is not among those of the program.
-    NoMachine,
     /// The machine of the tasks passes a limit of what is executed.
     TooLarge(Limit),
     OutOfMemory,
@@ -72,21 +73,6 @@ impl From<AllocError> for Stop {
 
     fn from(_error: AllocError) -> Stop {
         Stop::OutOfMemory
-    }
-}
-
-impl From<ExecErr> for Stop {
-    ghost use Rattle.std.specs.Prelude.{◌≡◌};
-    ghost use Rattle.hp_driver.specs.Stopping.{of_exec};
-
-    ghost from_gives = { λ error e. e ≡ of_exec error };
-
-    fn from(error: ExecErr) -> Stop {
-        match error {
-            ExecErr::NoNode => Stop::NoMachine,
-            ExecErr::Limit(limit) => Stop::TooLarge(limit),
-            ExecErr::OutOfMemory => Stop::OutOfMemory,
-        }
     }
 }
 
@@ -114,8 +100,9 @@ fn add_number(text: &mut Vec<u8>, number: u64) -> Result<(), AllocError>
     text.extend_from_slice(buffer.format(number).as_bytes())
 }
 
-/// Adds a name with a number.
+/// Adds a name with the digit of a task.
 fn add_name(text: &mut Vec<u8>, name: &[u8], task: u64) -> Result<(), AllocError>
+    requires { task ≤ 9 }
     ensures { OnOk result (text.new.items ≡ text.old.items ++ numbered name.now task) }
 {
     add(text, name)?;
@@ -124,7 +111,8 @@ fn add_name(text: &mut Vec<u8>, name: &[u8], task: u64) -> Result<(), AllocError
 
 /// Adds this name with the number of each task, with a comma between.
 fn add_names(text: &mut Vec<u8>, name: &[u8], tasks: u64) -> Result<(), AllocError>
-    requires { 1 ≤ tasks }
+    requires some { 1 ≤ tasks }
+    requires few { tasks ≤ 8 }
     ensures { OnOk result (text.new.items ≡ text.old.items ++ names_text name.now tasks) }
 {
     add_name(text, name, 1)?;
@@ -137,6 +125,7 @@ fn add_names(text: &mut Vec<u8>, name: &[u8], tasks: u64) -> Result<(), AllocErr
 
 /// Adds the request and the end of a task.
 fn add_pair_of_inputs(text: &mut Vec<u8>, task: u64) -> Result<(), AllocError>
+    requires { task ≤ 8 }
     ensures { OnOk result (text.new.items ≡ text.old.items ++ inputs_text task) }
 {
     add_name(text, b"r", task)?;
@@ -145,7 +134,8 @@ fn add_pair_of_inputs(text: &mut Vec<u8>, task: u64) -> Result<(), AllocError>
 
 /// Adds the inputs: the request and the end of each task.
 fn add_inputs(text: &mut Vec<u8>, tasks: u64) -> Result<(), AllocError>
-    requires { 1 ≤ tasks }
+    requires some { 1 ≤ tasks }
+    requires few { tasks ≤ 8 }
     ensures { OnOk result (text.new.items ≡ text.old.items ++ row (codes ", ") inputs_text tasks) }
 {
     add_pair_of_inputs(text, 1)?;
@@ -158,6 +148,8 @@ fn add_inputs(text: &mut Vec<u8>, tasks: u64) -> Result<(), AllocError>
 
 /// Adds that two tasks are not active at once.
 fn add_pair(text: &mut Vec<u8>, other: u64, task: u64) -> Result<(), AllocError>
+    requires other { other ≤ 9 }
+    requires task { task ≤ 9 }
     ensures { OnOk result (text.new.items ≡ text.old.items ++ pair_text other task) }
 {
     add_name(text, b"not (a", other)?;
@@ -198,6 +190,7 @@ fn add_guarantee(text: &mut Vec<u8>, tasks: u64) -> Result<(), AllocError>
 
 /// Adds what a task gives.
 fn add_results(text: &mut Vec<u8>, task: u64) -> Result<(), AllocError>
+    requires { task ≤ 8 }
     ensures { OnOk result (text.new.items ≡ text.old.items ++ results_text task) }
 {
     add_name(text, b"  (a", task)?;
@@ -207,6 +200,7 @@ fn add_results(text: &mut Vec<u8>, task: u64) -> Result<(), AllocError>
 
 /// Adds what a task takes.
 fn add_call(text: &mut Vec<u8>, task: u64) -> Result<(), AllocError>
+    requires { task ≤ 8 }
     ensures { OnOk result (text.new.items ≡ text.old.items ++ call_text task) }
 {
     add_name(text, b"inlined delayable(r", task)?;
@@ -217,6 +211,7 @@ fn add_call(text: &mut Vec<u8>, task: u64) -> Result<(), AllocError>
 
 /// Adds what a task does.
 fn add_task(text: &mut Vec<u8>, task: u64) -> Result<(), AllocError>
+    requires { task ≤ 8 }
     ensures { OnOk result (text.new.items ≡ text.old.items ++ task_text task) }
 {
     add_results(text, task)?;
@@ -225,7 +220,8 @@ fn add_task(text: &mut Vec<u8>, task: u64) -> Result<(), AllocError>
 
 /// Adds what the tasks do.
 fn add_tasks(text: &mut Vec<u8>, tasks: u64) -> Result<(), AllocError>
-    requires { 1 ≤ tasks }
+    requires some { 1 ≤ tasks }
+    requires few { tasks ≤ 8 }
     ensures { OnOk result (text.new.items ≡ text.old.items ++ row (codes ";\n") task_text tasks) }
 {
     add_task(text, 1)?;
@@ -238,7 +234,8 @@ fn add_tasks(text: &mut Vec<u8>, tasks: u64) -> Result<(), AllocError>
 
 /// Adds the outputs of the tasks: whether each is active, and whether each starts.
 fn add_outputs(text: &mut Vec<u8>, tasks: u64) -> Result<(), AllocError>
-    requires { 1 ≤ tasks }
+    requires some { 1 ≤ tasks }
+    requires few { tasks ≤ 8 }
     ensures { OnOk result (text.new.items ≡ text.old.items ++ outputs_text tasks) }
 {
     add(text, b" : bool) returns (")?;
@@ -250,7 +247,8 @@ fn add_outputs(text: &mut Vec<u8>, tasks: u64) -> Result<(), AllocError>
 
 /// Adds the inputs and outputs of the tasks.
 fn add_heading(text: &mut Vec<u8>, tasks: u64) -> Result<(), AllocError>
-    requires { 1 ≤ tasks }
+    requires some { 1 ≤ tasks }
+    requires few { tasks ≤ 8 }
     ensures { OnOk result (text.new.items ≡ text.old.items ++ heading_text tasks) }
 {
     add(text, b"node tasks(")?;
@@ -273,7 +271,8 @@ fn add_contract(text: &mut Vec<u8>, tasks: u64) -> Result<(), AllocError>
 
 /// Adds what all tasks do.
 fn add_body(text: &mut Vec<u8>, tasks: u64) -> Result<(), AllocError>
-    requires { 1 ≤ tasks }
+    requires some { 1 ≤ tasks }
+    requires few { tasks ≤ 8 }
     ensures { OnOk result (text.new.items ≡ text.old.items ++ body_text tasks) }
 {
     add(text, b"let\n")?;
@@ -432,7 +431,8 @@ fn add_numbers(text: &mut Vec<u8>, numbers: &[u64]) -> Result<(), AllocError>
     ensures { OnOk result (text.new.items ≡ text.old.items ++ spaced_numbers numbers.now) }
 {
     for i in 0..numbers.len() {
-        add_name(text, b" ", numbers[i])?;
+        add(text, b" ")?;
+        add_number(text, numbers[i])?;
     }
     Ok(())
 }
@@ -468,12 +468,26 @@ fn machines_of_tasks(alloc: Global, tasks: u64) -> Result<Obc, Stop>
     Ok(machines)
 }
 
+/// The executor of the machine of the tasks, which is among these.
+fn exec_of_tasks(alloc: Global, machines: &Obc) -> Result<Exec, Stop>
+    requires { IsSome (machine_named machines.now.machines tasks_name) }
+    ensures { MatchResult result (Executes machines.now tasks_name) (StopsAt machines.now) }
+{
+    match Exec::new(alloc, machines, TASKS) {
+        Ok(exec) => Ok(exec),
+        Err(ExecErr::NoNode) => unreachable!(),
+        Err(ExecErr::Limit(limit)) => Err(Stop::TooLarge(limit)),
+        Err(ExecErr::OutOfMemory) => Err(Stop::OutOfMemory),
+    }
+}
+
 /// The summary of a run of these machines: how often each task was active, and how often each started.
 fn summary_by(alloc: Global, sweep: Sweep, machines: &Obc) -> Result<Vec<u8>, Stop>
-    requires { sweep.instants ≤ 1000000 }
-    ensures { MatchResult result (λ text. IsSummary sweep.tasks sweep.instants machines.now text.items) (StopsAt machines.now) }
+    requires instants { sweep.instants ≤ 1000000 }
+    requires has { HasTasks (2 * sweep.tasks) machines.now }
+    ensures { MatchResult result (λ text. text.items ≡ sweep_text machines.now sweep.tasks sweep.instants) (StopsAt machines.now) }
 {
-    let mut exec = Exec::new(alloc, machines, TASKS)?;
+    let mut exec = exec_of_tasks(alloc, machines)?;
     let counts = counts_by(alloc, &mut exec, sweep.instants)?;
     let text = text_of(alloc, &counts, sweep.tasks as usize)?;
     Ok(text)
@@ -486,23 +500,10 @@ fn summary_of(alloc: Global, sweep: Sweep) -> Result<Vec<u8>, Stop>
     requires instants { sweep.instants ≤ 1000000 }
     ensures { MatchResult result (λ text. IsSwept sweep.tasks sweep.instants text.items) (Stops sweep.tasks) }
 {
+    // A law: the node of the tasks has a machine of its name, with as many inputs and outputs.
+    nodes_have_their_machines();
     let machines = machines_of_tasks(alloc, sweep.tasks)?;
     summary_by(alloc, sweep, &machines)
-}
-
-/// Reports why the program of the tasks is not compiled, or that there is no memory.
-fn report_cause<E: Sink>(alloc: Global, diag: &mut E, error: &CompileErr) -> Status
-    requires { HasCircuit error.now }
-    ensures told { (line : List ℕ) × Grows (E.took diag.old) (E.took diag.new) line
-        × ((tasks instants : ℕ) → IsNotCompiled (tasks_text tasks) error.now → SweepOutcome tasks instants [] line (code_of result)) }
-    ensures status { code_of result ≢ 4 }
-    ensures faults { PutFaults (code_of result) (E.faults diag.old) (E.faults diag.new) }
-{
-    match error {
-        CompileErr::Refused(refusal) => report_refusal(alloc, diag, refusal),
-        CompileErr::Contract(cause) => report_contract(alloc, diag, cause),
-        CompileErr::OutOfMemory => Status::NoMemory,
-    }
 }
 
 /// Reports why a sweep says nothing, or that there is no memory.
@@ -514,8 +515,7 @@ fn report_stop<E: Sink>(alloc: Global, diag: &mut E, stop: &Stop) -> Status
     ensures faults { PutFaults (code_of result) (E.faults diag.old) (E.faults diag.new) }
 {
     match stop {
-        Stop::NotCompiled(cause) => report_cause(alloc, diag, cause),
-        Stop::NoMachine => report_no_node(alloc, diag, TASKS),
+        Stop::NotCompiled(cause) => report_uncompiled(alloc, diag, cause),
         Stop::TooLarge(limit) => report_large(alloc, diag, *limit),
         Stop::OutOfMemory => Status::NoMemory,
     }
