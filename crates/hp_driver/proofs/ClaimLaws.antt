@@ -211,7 +211,6 @@ refuses_tasks : (tasks : ℕ) (line : List ℕ) → IsNotSwept tasks line → Re
 refuses_tasks tasks line (IsNotSwept.refused cause why) =
     let told = refused_text (tasks_text tasks) (compile.Refused cause) why in RefusesTasks.refused cause told.0 told.1
 refuses_tasks tasks line (IsNotSwept.contract_refused cause why) = RefusesTasks.contract_refused cause
-refuses_tasks tasks line (IsNotSwept.no_machine compiled none) = RefusesTasks.no_machine
 refuses_tasks tasks line (IsNotSwept.too_large limit compiled passed) = RefusesTasks.too_large limit
 
 -- ---- contracts
@@ -248,7 +247,7 @@ module _ (words : List (List ℕ)) (files left : Files) (input : List ℕ) where
       let o = summary.machines in
       let compiled = summary.compiled in
       subst (λ z. Does words files input z [] files 0) (sym summary.spelled)
-      (Does.swept (tasks_program files tasks o compiled) summary.machine w (implemented files tasks o compiled (has_controls compiled.program) refl) summary.named)
+      (Does.swept (tasks_program files tasks o compiled) w (implemented files tasks o compiled (has_controls compiled.program) refl) summary.has)
 
   module _ (law : WrittenLaw) (none : IsNoSegment words) where
     does_the_same : (file text : List ℕ) (o : Obc) (written : AreWritten (Some files) file o) → IsPrinted o text → DoesTheSame text written.compiled.held.clocked

@@ -5,9 +5,9 @@ use Rattle.hp_compile.specs.declared.refusal.Refusal.{Refusal}
 use Rattle.hp_controlled.specs.Chosen.{AreControlledMachines}
 use Rattle.hp_controlled.specs.Joining.{AreWithContracts}
 use Rattle.hp_io.specs.Files.{Files}
-use Rattle.hp_io.specs.Told.{Grows}
 use Rattle.hp_driver.proofs.AcceptedLaws.{none_or}
 use Rattle.hp_driver.specs.Compiled.{AreMachinesFor, IsCompiled, IsFound, IsNotCompiled}
+use Rattle.hp_driver.specs.CompileErrors.{TellsCause}
 use Rattle.hp_driver.specs.Controls.{has_controls}
 use Rattle.hp_driver.specs.declared.compile_error.CompileErr.{CompileErr}
 use Rattle.hp_driver.specs.declared.compile_error.CompileErr.TheVariants.{Refused, Contract}
@@ -72,19 +72,10 @@ module _ (law : TextLaw) (run_law : RunLaw) (text : List ℕ) (files : Option Fi
 -- ---- it is not
 
 -- whatever is to be written
-abbrev pub Uncompiled : CompileErr → List ℕ → ℕ → Type 0
+abbrev Uncompiled : CompileErr → List ℕ → ℕ → Type 0
 Uncompiled error line status = (out : List ℕ) → RefusedCompile out error line status
 
-abbrev pub Told : Option (List ℕ) → Option (List ℕ) → CompileErr → ℕ → Type 0
-Told before after error status = (line : List ℕ) × Grows before after line × Uncompiled error line status
-
-pub uncompiled_failed : (error : CompileErr) (line : List ℕ) (b : ℕ) (rest : List ℕ) (status : ℕ) → Uncompiled error (line ++ b ∷ rest) status → Uncompiled error line 5
-uncompiled_failed error line b rest status f out words files file text w gives n = Outcome.line_failed line b rest (f out words files file text w gives n)
-
-pub uncompiled_memory : (error : CompileErr) → Uncompiled error [] 6
-uncompiled_memory error out words files file text w gives n = Outcome.no_memory
-
-pub text_refused : (cause : Refusal) → Uncompiled (Refused cause) (refusal_line cause) 1
+text_refused : (cause : Refusal) → Uncompiled (Refused cause) (refusal_line cause) 1
 text_refused cause out words files file text w gives (IsNotCompiled.refused causes none) = Outcome.refused text cause (ReadsSource.of_program (IsOverSource.to_compile w)) gives causes none
 
 -- a contract that is refused is there
@@ -100,9 +91,17 @@ contract_among : (before behind : List Item) (n : Node) → IsTrue (is_some n.co
 contract_among [] behind n some none = let parts = none_or (is_some n.contract) (has_contract behind) none in let e = parts.0 in absurd (cc (some, e))
 contract_among (item ∷ before) behind n some none = contract_among before behind n some (none_or (own_contract item) (has_contract (before ++ NodeItem n ∷ behind)) none).1
 
-pub contract_refused : (cause : ContractErr) → Uncompiled (Contract cause) (contract_line cause) 1
+contract_refused : (cause : ContractErr) → Uncompiled (Contract cause) (contract_line cause) 1
 contract_refused cause out words files file text w gives (IsNotCompiled.contract_refused {program = program} {ordered = ordered} found differs refuses) =
     let r = refuses.refused in
     let some : has_contract ordered ≡ false → ⊥ = λ none. contract_among r.before r.behind r.node (its_contract ordered r.node cause differs r.refused) (subst (λ z. has_contract z ≡ false) r.stands none) in
     let held = held_by text files file gives program ordered found in
     Outcome.contract_refused cause (IsOverSource.to_compile w) held (has_one files file program held some) differs refuses
+
+-- what is told of it
+pub uncompiled : (error : CompileErr) (line : List ℕ) (status : ℕ) → TellsCause error line status → (out : List ℕ) → RefusedCompile out error line status
+uncompiled error line status (TellsCause.refused cause e) = subst (λ z. Uncompiled z (refusal_line cause) 1) (sym e) (text_refused cause)
+uncompiled error line status (TellsCause.contract_refused cause e) = subst (λ z. Uncompiled z (contract_line cause) 1) (sym e) (contract_refused cause)
+uncompiled error line status TellsCause.no_memory = λ out words files file text w gives n. Outcome.no_memory
+uncompiled error line status (TellsCause.line_failed front b rest before told) =
+    λ out words files file text w gives n. Outcome.line_failed front b rest (uncompiled error (front ++ b ∷ rest) before told out words files file text w gives n)

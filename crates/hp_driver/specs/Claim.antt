@@ -1,7 +1,7 @@
 -- What a call does over files and an input in memory, a row for each ending. The rows speak of texts, runs and games,
 -- and not of passes of the compiler; their terms stand in `ClaimTerms`.
 -- Source: own; a statement of exit status, output and files in one is that of CakeML's programs.
-use Rattle.std.specs.Prelude.{◌≡◌, ◌≢◌, ◌≤◌, ◌<◌, ◌⊎◌, ℕ, Bool, true, false, List, [], length, Option, None, Some}
+use Rattle.std.specs.Prelude.{◌≡◌, ◌≢◌, ◌≤◌, ◌<◌, ◌⊎◌, ◌*◌, ℕ, Bool, true, false, List, [], length, Option, None, Some}
 use Rattle.std.specs.FinMap as map
 use Rattle.hp_base.specs.Limits.{most}
 use Rattle.hp_base.specs.declared.limit.Limit.{Limit}
@@ -32,7 +32,7 @@ use Rattle.hp_driver.specs.Controls.{has_controls}
 use Rattle.hp_driver.specs.Diagnostics.{checkpoint_line, refusal_line, too_long_line, no_text_line, no_form_line, executor_line, forced_line, contract_line, no_contract_line, certificate_line, certificate_status}
 use Rattle.hp_driver.specs.Lines.{lines_of}
 use Rattle.hp_driver.specs.PastOutcome.{unfolded_text}
-use Rattle.hp_driver.specs.Sweeping.{sweep_text, tasks_name, tasks_text}
+use Rattle.hp_driver.specs.Sweeping.{HasTasks, sweep_text, tasks_text}
 use Rattle.hp_driver.specs.Systems.{System, of_node, of_machine}
 use Rattle.hp_obc.specs.Steps.{Memory}
 use Rattle.hp_driver.specs.Asking.{AsksToRun, IsRunFor, run_words}
@@ -131,8 +131,8 @@ module _ (words : List (List ℕ)) (files : Files) (input : List ℕ) where
     -- A sweep says how often each task was active, and how often each started, in a run of the machine of its tasks.
     -- Their text has a program as though a file held it, and the machines implement it.
     swept : {tasks instants : ℕ} {file : List ℕ} {o : Obc} (p : Program (map.insert files file (tasks_text tasks)) file) →
-        (m : Machine) → IsSweepOf words tasks instants → Implement p o → machine_named o.machines tasks_name ≡ Some m →
-        Does (sweep_text o m tasks instants) [] files 0
+        IsSweepOf words tasks instants → Implement p o → HasTasks (2 * tasks) o →
+        Does (sweep_text o tasks instants) [] files 0
     -- or it says nothing. No sweep has shown it; `run_tool` says why (`hp_driver/specs/Outcome`)
     not_swept : {tasks instants : ℕ} {line : List ℕ} → IsSweepOf words tasks instants → RefusesTasks tasks line →
         Does [] line files 1

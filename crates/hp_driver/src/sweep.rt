@@ -426,13 +426,20 @@ fn counts_by(alloc: Global, exec: &mut Exec, instants: u64) -> Result<Vec<u64>, 
     Ok(room.counts)
 }
 
+/// Adds a number with a space in front.
+fn add_spaced(text: &mut Vec<u8>, number: u64) -> Result<(), AllocError>
+    ensures { OnOk result (text.new.items ≡ text.old.items ++ (codes " " ++ decimal number)) }
+{
+    add(text, b" ")?;
+    add_number(text, number)
+}
+
 /// Adds numbers, each with a space in front.
 fn add_numbers(text: &mut Vec<u8>, numbers: &[u64]) -> Result<(), AllocError>
     ensures { OnOk result (text.new.items ≡ text.old.items ++ spaced_numbers numbers.now) }
 {
     for i in 0..numbers.len() {
-        add(text, b" ")?;
-        add_number(text, numbers[i])?;
+        add_spaced(text, numbers[i])?;
     }
     Ok(())
 }

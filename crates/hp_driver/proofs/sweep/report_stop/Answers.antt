@@ -1,17 +1,15 @@
 use Rattle.std.proofs.Common.{◌≡◌, [], rules, sym, subst}
 use Rattle.hp_io.proofs.ToldLaws.{Grows-nil}
-use Rattle.hp_driver.specs.Command.{no_node_line}
 use Rattle.hp_driver.specs.Diagnostics.{executor_line}
 use Rattle.hp_driver.specs.Status.{code_of}
 use Rattle.hp_driver.specs.Stopping.{Stops}
-use Rattle.hp_driver.specs.Sweeping.{tasks_name}
-use Rattle.hp_driver.specs.declared.sweep.Stop.TheVariants.{NoMachine, NotCompiled, OutOfMemory, TooLarge}
+use Rattle.hp_driver.specs.declared.sweep.Stop.TheVariants.{NotCompiled, OutOfMemory, TooLarge}
 use Rattle.hp_driver.proofs.OutcomeLaws.{told_or_not}
-use Rattle.hp_driver.proofs.StopLaws.{Stopped, ToldStop, has_its_circuit, stop_failed, stop_memory, stop_no_machine, stop_too_large, stop_uncompiled}
+use Rattle.hp_driver.proofs.StopLaws.{Stopped, ToldStop, has_its_circuit, stop_failed, stop_memory, stop_too_large, stop_uncompiled}
 use Rattle.hp_driver.proofs.sweep.report_stop.Goals as goal
 
-pub report_cause-requires : goal.report_cause-requires
-report_cause-requires g c =
+pub report_uncompiled-requires : goal.report_uncompiled-requires
+report_uncompiled-requires g c =
     let cause = c.in-NotCompiled.cause in
     let same : c.args.stop.now ≡ NotCompiled cause = search rules in
     has_its_circuit c.requires.0 cause (subst (Stops c.requires.0) same c.requires.1)
@@ -20,17 +18,9 @@ pub returns-in-NotCompiled-clause-told : goal.returns-in-NotCompiled-clause-told
 returns-in-NotCompiled-clause-told g c =
     let cause = c.in-NotCompiled.cause in
     let same : c.args.stop.now ≡ NotCompiled cause = search rules in
-    let status = code_of c.report_cause.result in
-    subst (λ why. ToldStop (g.E.Sink.took c.args.diag.now) (g.E.Sink.took c.report_cause.new.diag) why status) (sym same)
-    (stop_uncompiled (g.E.Sink.took c.args.diag.now) (g.E.Sink.took c.report_cause.new.diag) cause status c.report_cause.ensures.told)
-
-pub returns-in-NoMachine-clause-told : goal.returns-in-NoMachine-clause-told
-returns-in-NoMachine-clause-told g c =
-    let same : c.args.stop.now ≡ NoMachine = search rules in
-    let status = code_of c.report_no_node.result in
-    subst (λ why. ToldStop (g.E.Sink.took c.args.diag.now) (g.E.Sink.took c.report_no_node.new.diag) why status) (sym same)
-    (told_or_not (Stopped NoMachine) (stop_failed NoMachine) (stop_memory NoMachine) (g.E.Sink.took c.args.diag.now) (g.E.Sink.took c.report_no_node.new.diag) (no_node_line tasks_name) 1 status
-    c.report_no_node.ensures.reports stop_no_machine)
+    let status = code_of c.report_uncompiled.result in
+    subst (λ why. ToldStop (g.E.Sink.took c.args.diag.now) (g.E.Sink.took c.report_uncompiled.new.diag) why status) (sym same)
+    (stop_uncompiled (g.E.Sink.took c.args.diag.now) (g.E.Sink.took c.report_uncompiled.new.diag) cause status c.report_uncompiled.ensures.told)
 
 pub returns-in-TooLarge-clause-told : goal.returns-in-TooLarge-clause-told
 returns-in-TooLarge-clause-told g c =
