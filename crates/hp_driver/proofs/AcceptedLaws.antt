@@ -40,7 +40,7 @@ is_empty : (ds : List Decl) → some_variable ds ≡ false → ds ≡ []
 is_empty [] e = refl
 is_empty (d ∷ ds) e = absurd cc
 
-no_controls : (items : List Item) → has_controls items ≡ false → NoControls items
+pub no_controls : (items : List Item) → has_controls items ≡ false → NoControls items
 no_controls [] e = tt
 no_controls (TypeItem t ∷ items) e = no_controls items e
 no_controls (NodeItem n ∷ items) e =

@@ -211,7 +211,7 @@ refuses_tasks : (tasks : ℕ) (line : List ℕ) → IsNotSwept tasks line → Re
 refuses_tasks tasks line (IsNotSwept.refused cause why) =
     let told = refused_text (tasks_text tasks) (compile.Refused cause) why in RefusesTasks.refused cause told.0 told.1
 refuses_tasks tasks line (IsNotSwept.contract_refused cause why) = RefusesTasks.contract_refused cause
-refuses_tasks tasks line (IsNotSwept.not_run compiled why) = RefusesTasks.not_run
+refuses_tasks tasks line (IsNotSwept.too_large limit compiled passed) = RefusesTasks.too_large limit
 
 -- ---- contracts
 

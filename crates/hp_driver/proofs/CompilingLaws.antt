@@ -1,12 +1,13 @@
 -- From what each step answers to what a text is compiled to, or why it is not.
-use Rattle.std.proofs.Common.{◌≡◌, ◌≢◌, ℕ, true, false, List}
+use Rattle.std.proofs.Common.{◌≡◌, ◌≢◌, ℕ, Bool, true, false, List, refl}
 use Rattle.hp_compile.proofs.FormLaws.{formed}
 use Rattle.hp_compile.specs.Refusals.{IsRefused}
 use Rattle.hp_compile.specs.declared.refusal.Refusal.{Refusal}
 use Rattle.hp_compile.specs.declared.refusal.Refusal.TheVariants as refusal
 use Rattle.hp_controlled.specs.Among.{FormLaw}
+use Rattle.hp_controlled.specs.Chosen.{AreControlledMachines}
 use Rattle.hp_controlled.specs.Joining.{SameLaw}
-use Rattle.hp_driver.proofs.AcceptedLaws.{accepted_by, accepted_plain}
+use Rattle.hp_driver.proofs.AcceptedLaws.{accepted_by, accepted_plain, no_controls}
 use Rattle.hp_driver.proofs.OwnLaws.{run_nodes}
 use Rattle.hp_driver.specs.Agreeing.{RunNodes}
 use Rattle.hp_driver.specs.Compiled.{AreMachinesFor, HasCircuit, IsCompiled, IsFound, IsNotCompiled}
@@ -19,8 +20,10 @@ use Rattle.hp_verdicts.specs.Decided.{AreKept, Refuses}
 use Rattle.hp_verdicts.specs.declared.error.ContractErr.{ContractErr}
 use Rattle.hp_verdicts.specs.declared.error.ContractErr.TheVariants as contract
 use Rattle.law_controlled.specs.Greatest.{AllSayGreatest}
+use Rattle.law_controlled.specs.Headed.{PlainLaw}
 use Rattle.law_controlled.specs.Said.{GreatestSaidLaw}
 use Rattle.law_decided.specs.Outcomes.{AreKeptInGames, AreSaid, OutcomesLaw}
+use Rattle.law_history.proofs.StreamsLemmas.Texts.{none_controlled}
 use Rattle.law_history.specs.Streams.Texts.{BuiltLaw, TextLaw}
 
 -- ---- refusals
@@ -56,13 +59,13 @@ module _ (text : List ℕ) (program ordered : List Item) (found : IsFound text p
 
   module _ (law : OutcomesLaw) (kept : AreKept ordered ordered) (text_law : TextLaw) (built : BuiltLaw) (form_law : FormLaw) (same_law : SameLaw) (said_law : GreatestSaidLaw) where
     runs_of : (o : Obc) → AreMachinesFor program ordered o → has_controls program ≡ false → RunNodes ordered o
-    runs_of o (AreMachinesFor.of_nodes {own = own} none machines others) e =
+    runs_of o (AreMachinesFor.of_nodes {own = own} none with_contracts) e =
         let judged = found.judged in
-        run_nodes text judged.program_of.tokens program ordered found.ranks (accepted_plain text program ordered found.ranks judged found.arranged none) own machines text_law built form_law same_law o others
+        run_nodes text judged.program_of.tokens program ordered found.ranks (accepted_plain text program ordered found.ranks judged found.arranged none) own with_contracts.own_machines text_law built form_law same_law o with_contracts
     runs_of o (AreMachinesFor.that_choose some machines) e = absurd (cc (some, e))
 
     says_of : (o : Obc) → AreMachinesFor program ordered o → has_controls program ≡ true → AllSayGreatest ordered o
-    says_of o (AreMachinesFor.of_nodes none machines others) e = absurd (cc (none, e))
+    says_of o (AreMachinesFor.of_nodes none with_contracts) e = absurd (cc (none, e))
     says_of o (AreMachinesFor.that_choose some machines) e =
         let j = found.judged in
         let a = found.arranged in
@@ -70,6 +73,14 @@ module _ (text : List ℕ) (program ordered : List Item) (found : IsFound text p
 
     pub compiled_by : (o : Obc) → AreMachinesFor program ordered o → IsCompiled text o
     compiled_by o machines = record { program = program; ordered = ordered; found = found; kept = in_games law kept; machines = machines; runs = runs_of o machines; says = says_of o machines }
+
+-- the machines that are made are those that the program is compiled to
+pub machines_for : PlainLaw → (program ordered : List Item) → IsArrangedText program ordered → (o : Obc) → AreControlledMachines ordered o → AreMachinesFor program ordered o
+machines_for law program ordered t o are = by (has_controls program) refl
+  where
+    by : (b : Bool) → has_controls program ≡ b → AreMachinesFor program ordered o
+    by true some = AreMachinesFor.that_choose some are
+    by false none = AreMachinesFor.of_nodes none (law ordered o are (none_controlled program ordered t.3.clocks (no_controls program none))).1
 
 -- a contract is not refused because its circuit is not built
 pub has_circuit : OutcomesLaw → (program ordered : List Item) → IsArrangedText program ordered → (cause : ContractErr) → Refuses ordered cause → HasCircuit (of_contract cause)

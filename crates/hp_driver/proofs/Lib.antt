@@ -8,6 +8,8 @@ pub mod CallLaws
 pub mod TellLaws
 pub mod Shown
 pub mod SweepTexts
+pub mod TextTokens
+pub mod TaskPrograms
 pub mod SweepLaws
 pub mod StopLaws
 pub mod ChoosingLaws

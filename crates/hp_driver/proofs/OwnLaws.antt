@@ -1,5 +1,5 @@
 -- The machines of a program without controllable variables run its nodes, also among those of its contracts.
-use Rattle.std.proofs.Common.{◌≡◌, ◌⊎◌, ℕ, Bool, true, false, List, [], Some, inl, inr, refl, sym, ap, subst, ◌∙◌}
+use Rattle.std.proofs.Common.{◌≡◌, ℕ, Bool, true, false, List, [], Some, refl, sym, ap, subst, ◌∙◌}
 use Rattle.std.specs.Prelude.{IsTrue}
 use Rattle.std.specs.List.{AllByRecursion}
 use Rattle.hp_base.specs.Kinds.{AreOfKinds}
@@ -38,21 +38,16 @@ module _ (text : List ℕ) (tokens : List Token) (program ordered : List Item) (
           let made = subst (λ (ts : List ObcType). AreMade ts machines.nodes own.machines) machines.types machines.made in
           absurd (built text tokens program ordered ranks accepted (HasNoMachines.formless machines.nodes own.machines (record { flat = machines.flat; made = machines.equations }) made none))
 
-  pub does_there : BuiltLaw → FormLaw → SameLaw → (o : Obc) → (o ≡ own) ⊎ AreWithContracts ordered own o → (node : List ℕ) (m : Machine) → machine_named own.machines node ≡ Some m → DoesThere o own node m
-  does_there built form_law same_law o (inl e) node m named = record {
-    types = ap (λ (z : Obc). z.types) e;
-    named = ap (λ (z : Obc). machine_named z.machines node) e ∙ named;
-    does = ap (λ (z : Obc). machine_behaviour z node) e;
-  }
-  does_there built form_law same_law o (inr w) node m named =
+  pub does_there : BuiltLaw → FormLaw → SameLaw → (o : Obc) → AreWithContracts ordered own o → (node : List ℕ) (m : Machine) → machine_named own.machines node ≡ Some m → DoesThere o own node m
+  does_there built form_law same_law o w node m named =
       let same = same_law ordered own o w (calls_own built form_law) node m named in
       record { types = w.types; named = same.0; does = same.1 }
 
-  pub run_nodes : TextLaw → BuiltLaw → FormLaw → SameLaw → (o : Obc) → (o ≡ own) ⊎ AreWithContracts ordered own o → RunNodes ordered o
-  run_nodes law built form_law same_law o others f n named =
+  pub run_nodes : TextLaw → BuiltLaw → FormLaw → SameLaw → (o : Obc) → AreWithContracts ordered own o → RunNodes ordered o
+  run_nodes law built form_law same_law o w f n named =
       let found = machine_of_node ordered own.machines f n machines.machines named in
       let m = found.0 in
-      let there = does_there built form_law same_law o others f m found.1 in
+      let there = does_there built form_law same_law o w f m found.1 in
       let r : RunsNode ordered own f m = law text tokens program ordered ranks own accepted machines f m found.1 in (
         m,
         there.named,

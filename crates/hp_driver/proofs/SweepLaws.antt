@@ -1,21 +1,22 @@
 -- The inputs of a sweep, its counts, and why it stops.
-use Rattle.std.proofs.Common.{◌≡◌, ℕ, zero, suc, ◌+◌, ◌<◌, ◌*◌, List, [], ◌∷◌, ◌++◌, inl, inr, length, take, drop, set, get_or, refl, sym, ap, subst, ◌∙◌, arith}
+use Rattle.std.proofs.Common.{◌≡◌, ℕ, zero, suc, ◌+◌, ◌*◌, ◌<◌, false, true, List, [], ◌∷◌, ◌++◌, None, Some, length, take, drop, set, get_or, refl, sym, ap, subst, ◌∙◌, arith}
+use Rattle.std.specs.Prelude.{IsSome, is_some}
 use Rattle.std.proofs.lemmas.List.{append_assoc, drop_more, length-map, length_push, set_at}
 use Rattle.hp_base.specs.Kinds.{SignatureData}
 use Rattle.hp_base.specs.declared.value.Value.{Value}
 use Rattle.hp_base.specs.declared.value.Value.TheVariants.{Absent, B}
-use Rattle.hp_exec.specs.Answers.{Executes, Refuses}
+use Rattle.hp_exec.specs.Answers.{Executes}
 use Rattle.hp_exec.specs.Executors.{Executor}
 use Rattle.hp_exec.specs.Signatures.{kind_in_file}
-use Rattle.hp_exec.specs.declared.error.ExecErr.{ExecErr}
-use Rattle.hp_exec.specs.declared.error.ExecErr.TheVariants as executor
-use Rattle.hp_obc.specs.Machines.{Obc}
-use Rattle.hp_obc.specs.Steps.{Behaviour, Memory, Stepped}
+use Rattle.hp_obc.specs.Form.{machine_named}
+use Rattle.hp_obc.specs.Machines.{Machine, Obc}
+use Rattle.hp_obc.specs.Steps.{Behaviour, Memory, Stepped, machine_behaviour}
 use Rattle.hp_obc.specs.declared.machine.Var.{Var}
+use Rattle.hp_driver.specs.Command.{summary_text}
 use Rattle.hp_driver.specs.Compiled.{HasCircuit, IsCompiled, IsNotCompiled}
-use Rattle.hp_driver.specs.Stopping.{HasMany, HasOthers, Stops, StopsAt, of_exec}
-use Rattle.hp_driver.specs.Sweeping.{counted, counts_behind, inputs_at, is_input, memory_behind, one_more, sweep_text, tasks_name, tasks_text, HasTasks}
-use Rattle.hp_driver.specs.Swept.{IsNotRun, IsSwept}
+use Rattle.hp_driver.specs.Stopping.{Stops, StopsAt}
+use Rattle.hp_driver.specs.Sweeping.{HasTasks, counted, counts_behind, inputs_at, is_input, memory_behind, one_more, sweep_text, tasks_name, tasks_text}
+use Rattle.hp_driver.specs.Swept.{IsSwept}
 use Rattle.hp_driver.specs.declared.compile_error.CompileErr.{CompileErr}
 use Rattle.hp_driver.specs.declared.sweep.Stop.{Stop}
 use Rattle.hp_driver.specs.declared.sweep.Stop.TheVariants as stop
@@ -69,42 +70,56 @@ module _ (b : Behaviour) (many n places : ℕ) (now : Memory) (e : places ≡ ma
   pub memory_next : (b.step now (inputs_at (n + 1) places)).kept ≡ memory_behind b many (n + 1)
   memory_next = let next : suc n ≡ n + 1 = omega arith in ap (λ (s : Stepped). s.kept) step_next ∙ ap (memory_behind b many) next
 
-  pub counts_next : (counts : List ℕ) → counts ≡ counts_behind b many n → counted counts (b.step now (inputs_at (n + 1) places)).outputs ≡ counts_behind b many (n + 1)
-  counts_next counts f =
+  pub counts_next : (outputs : ℕ) (counts : List ℕ) → counts ≡ counts_behind b many outputs n → counted counts (b.step now (inputs_at (n + 1) places)).outputs ≡ counts_behind b many outputs (n + 1)
+  counts_next outputs counts f =
       let next : suc n ≡ n + 1 = omega arith in
-      ap (λ z. counted z (b.step now (inputs_at (n + 1) places)).outputs) f ∙ ap (λ (s : Stepped). counted (counts_behind b many n) s.outputs) step_next ∙ ap (counts_behind b many) next
+      ap (λ z. counted z (b.step now (inputs_at (n + 1) places)).outputs) f ∙ ap (λ (s : Stepped). counted (counts_behind b many outputs n) s.outputs) step_next ∙ ap (counts_behind b many outputs) next
 
 -- ---- the machine of the tasks
 
--- why it has no executor
-pub stops_by : (many : ℕ) (o : Obc) (error : ExecErr) → Refuses o tasks_name error → StopsAt many o (of_exec error)
-stops_by many o executor.NoNode none = IsNotRun.no_machine none
-stops_by many o (executor.Limit limit) passed = IsNotRun.too_large limit passed
-stops_by many o executor.OutOfMemory h = tt
+-- where it is among some, it is there
+pub is_there : (many : ℕ) (o : Obc) → HasTasks many o → IsSome (machine_named o.machines tasks_name)
+is_there many o has = let named = has.named in ap (λ m. is_some m) named
+
+-- and is not refused for its name
+pub has_name : (o : Obc) → IsSome (machine_named o.machines tasks_name) → machine_named o.machines tasks_name ≡ None → ⊥
+has_name o some none = let both : false ≡ true = sym (ap (λ m. is_some m) none) ∙ some in cc
 
 -- its executor has so many inputs and outputs as it has
-module _ (many : ℕ) (o : Obc) (e : Executor) (h : Executes o tasks_name e) where
-  length_inputs : length e.signature.inputs ≡ length h.machine.inputs
-  length_inputs = ap (λ (s : SignatureData). length s.inputs) h.signature ∙ length-map h.machine.inputs (λ (x : Var). (x.name, kind_in_file o.types x.ty))
+module _ (o : Obc) (e : Executor) (h : Executes o tasks_name e) (many : ℕ) (has : HasTasks many o) where
+  same_machine : h.machine ≡ has.machine
+  same_machine = let both : Some h.machine ≡ Some has.machine = sym h.named ∙ has.named in cc
 
-  length_outputs : length e.signature.outputs ≡ length h.machine.outputs
-  length_outputs = ap (λ (s : SignatureData). length s.outputs) h.signature ∙ length-map h.machine.outputs (λ (x : Var). (x.name, kind_in_file o.types x.ty))
+  length_inputs : length e.signature.inputs ≡ many
+  length_inputs =
+      ap (λ (s : SignatureData). length s.inputs) h.signature ∙ length-map h.machine.inputs (λ (x : Var). (x.name, kind_in_file o.types x.ty))
+      ∙ ap (λ (m : Machine). length m.inputs) same_machine ∙ has.inputs
 
-  pub has_tasks : HasMany many e.signature → HasTasks many o
-  has_tasks f = record { machine = h.machine; named = h.named; inputs = sym length_inputs ∙ f.0; outputs = sym length_outputs ∙ f.1 }
+  length_outputs : length e.signature.outputs ≡ many
+  length_outputs =
+      ap (λ (s : SignatureData). length s.outputs) h.signature ∙ length-map h.machine.outputs (λ (x : Var). (x.name, kind_in_file o.types x.ty))
+      ∙ ap (λ (m : Machine). length m.outputs) same_machine ∙ has.outputs
 
-  pub has_others : HasOthers many e.signature → IsNotRun many o
-  has_others (inl f) = IsNotRun.other_inputs h.machine h.named (λ g. f (length_inputs ∙ g))
-  has_others (inr f) = IsNotRun.other_outputs h.machine h.named (λ g. f (length_outputs ∙ g))
+  -- the counts of its steps
+  pub its_counts : (instants : ℕ) (counts : List ℕ) → counts ≡ counts_behind (machine_behaviour o tasks_name) (length e.signature.inputs) (length e.signature.outputs) instants
+      → counts ≡ counts_behind (machine_behaviour o tasks_name) many many instants
+  its_counts instants counts counted =
+      let b = machine_behaviour o tasks_name in
+      counted ∙ ap (λ n. counts_behind b n (length e.signature.outputs) instants) length_inputs ∙ ap (λ n. counts_behind b many n instants) length_outputs
+
+-- their text is that of a sweep
+pub is_summary : (o : Obc) (tasks instants : ℕ) (text counts : List ℕ) → text ≡ summary_text (take tasks counts) (drop tasks counts)
+    → counts ≡ counts_behind (machine_behaviour o tasks_name) (2 * tasks) (2 * tasks) instants → text ≡ sweep_text o tasks instants
+is_summary o tasks instants text counts spelled counted = spelled ∙ ap (λ (z : List ℕ). summary_text (take tasks z) (drop tasks z)) counted
 
 -- ---- the whole sweep
 
 module _ (tasks instants : ℕ) (o : Obc) (compiled : IsCompiled (tasks_text tasks) o) where
-  pub swept_by : (text : List ℕ) → HasTasks (2 * tasks) o × (text ≡ sweep_text o tasks instants) → IsSwept tasks instants text
-  swept_by text h = record { machines = o; compiled = compiled; has = h.0; spelled = h.1 }
+  pub swept_by : HasTasks (2 * tasks) o → (text : List ℕ) → text ≡ sweep_text o tasks instants → IsSwept tasks instants text
+  swept_by has text spelled = record { machines = o; compiled = compiled; has = has; spelled = spelled }
 
-  pub stops_so : (why : Stop) → StopsAt (2 * tasks) o why → Stops tasks why
-  stops_so stop.NotRun h = (o, compiled, h)
+  pub stops_so : (why : Stop) → StopsAt o why → Stops tasks why
+  stops_so (stop.TooLarge limit) h = (o, compiled, h)
   stops_so stop.OutOfMemory h = tt
   stops_so (stop.NotCompiled cause) h = absurd h
 

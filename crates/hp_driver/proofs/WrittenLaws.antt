@@ -94,7 +94,7 @@ written_agrees built form_law same_law files file o read text node m written pri
     let compiled = written.compiled in
     let held = compiled.held in
     let accepted = accepted_program files file compiled.program held compiled.uncontrolled in
-    let there = does_there held.text held.judged.program_of.tokens compiled.program held.clocked held.ranks accepted own compiled.machines built form_law same_law o written.others node m named in
+    let there = does_there held.text held.judged.program_of.tokens compiled.program held.clocked held.ranks accepted own compiled.machines built form_law same_law o written.with_contracts node m named in
     let program = compiled.held.clocked in
     let among = agrees_too o own node there.types (there.named ∙ sym named) there.does (of_node program node) (compiled.agree node m named) in
     (ap (λ (z : Obc). machine_named z.machines node) same ∙ there.named, subst (λ z. AgreesWith (of_machine z node) (of_node program node)) (sym same) among)

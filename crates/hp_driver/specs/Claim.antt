@@ -26,7 +26,6 @@ use Rattle.hp_cert.specs.declared.certtext.error.CertErr.TheVariants.{OutOfMemor
 use Rattle.hp_cert.specs.declared.checking.Proved.{Proved}
 use Rattle.hp_cert.specs.declared.checking.Proved.TheVariants.{Lose}
 use Rattle.hp_verdicts.specs.declared.error.ContractErr.{ContractErr}
-use Rattle.hp_verdicts.specs.declared.error.ContractErr.TheVariants as contract
 use Rattle.law_decided.specs.Laws.{HoldsOf, IsForcedFirst, IsVerdictOf}
 use Rattle.hp_driver.specs.Command.{IsRunOf, IsTellOf, IsCheckOf, IsCompileOf, IsPastOf, IsExecOf, IsProveOf, IsVerifyOf, IsSegmentOf, IsSweepOf, IsOverSource, IsOverContract, ReadsSource, IsNoCommand, usage_line, no_node_line, accepted_text, verdict_text}
 use Rattle.hp_driver.specs.Controls.{has_controls}

@@ -3,6 +3,7 @@
 use Rattle.std.specs.Prelude.{◌≡◌, ◌≤◌, ℕ, true, false, List, [], ◌∷◌, ◌++◌, length, reverse, codes, Option, None, Some, is_some, IsTrue}
 use Rattle.std.specs.FinMap as map
 use Rattle.hp_base.specs.Limits.{most}
+use Rattle.hp_base.specs.declared.limit.Limit.{Limit}
 use Rattle.hp_base.specs.declared.limit.What.{What}
 use Rattle.hp_base.specs.declared.limit.What.TheVariants.{Size, Text}
 use Rattle.hp_io.specs.Files.{Files, Holds}
@@ -33,9 +34,9 @@ use Rattle.law_drawing.specs.Mirrors.Limits.{IsOver as PassesLimit}
 use Rattle.hp_driver.specs.Agreeing.{AgreesWith, RunNodes}
 use Rattle.hp_driver.specs.Answers.{IsAnswer}
 use Rattle.hp_driver.specs.BadLines.{bad_line_line}
-use Rattle.hp_driver.specs.Command.{IsPastOf, IsExecOf, IsVerifyOf, IsOver, ReadsSource, not_built_line}
+use Rattle.hp_driver.specs.Command.{IsPastOf, IsExecOf, IsVerifyOf, IsOver, ReadsSource}
 use Rattle.hp_driver.specs.Controls.{has_controls}
-use Rattle.hp_driver.specs.Diagnostics.{contract_line, refusal_line}
+use Rattle.hp_driver.specs.Diagnostics.{contract_line, executor_line, refusal_line}
 use Rattle.hp_driver.specs.Sweeping.{tasks_text}
 use Rattle.hp_driver.specs.Systems.{System, of_node, of_machine, that_tells, from_memory, inputs_of}
 use Rattle.hp_driver.specs.Values.{first_bad}
@@ -146,10 +147,10 @@ pub data IsReadAs (words : List (List ℕ)) (file : List ℕ) : What → Type 0 
 abbrev pub LacksFile : List (List ℕ) → Files → Type 0
 LacksFile words files = (file : List ℕ) × IsOver words file × (map.get files file ≡ None)
 
--- The line tells why a sweep says nothing: the program of its tasks is refused, or its contract is, or its machine cannot
--- be run.
+-- The line tells why a sweep says nothing: the program of its tasks is refused, or its contract is, or its machine passes
+-- a limit.
 pub data RefusesTasks (tasks : ℕ) : List ℕ → Type 0 where
   refused : (cause : Refusal) → ((program : List Item) → IsJudged (tasks_text tasks) program → IsArrangeable program → ⊥) →
       Causes (tasks_text tasks) cause → RefusesTasks tasks (refusal_line cause)
   contract_refused : (cause : ContractErr) → RefusesTasks tasks (contract_line cause)
-  not_run : RefusesTasks tasks not_built_line
+  too_large : (limit : Limit) → RefusesTasks tasks (executor_line limit)

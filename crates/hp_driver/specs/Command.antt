@@ -1,5 +1,5 @@
 -- The words of a call, and the lines of its diagnostics.
-use Rattle.std.specs.Prelude.{◌≡◌, ◌≢◌, ◌≤◌, ◌⊎◌, ◌+◌, ◌*◌, ◌-◌, if◌then◌else◌, Bool, true, false, ℕ, List, [], ◌∷◌, ◌++◌, length, codes, decimal, Option, None, Some}
+use Rattle.std.specs.Prelude.{◌≡◌, ◌≢◌, ◌≤◌, ◌⊎◌, ◌+◌, ◌*◌, ◌-◌, if◌then◌else◌, Bool, true, false, ℕ, List, [], ◌∷◌, ◌++◌, codes, decimal, Option, None, Some}
 use Rattle.hp_base.specs.Bytes.{is_digit}
 use Rattle.hp_cert.specs.declared.checking.Proved.{Proved}
 use Rattle.hp_cert.specs.declared.checking.Proved.TheVariants.{Win, Lose}
@@ -181,9 +181,6 @@ IsNoCommand words = IsNoFileCommand words × ((tasks instants : ℕ) → IsSweep
 
 abbrev pub usage_line : List ℕ
 usage_line = codes "usage: hept check run compile exec prove verify sweep past save resume\n"
-
-abbrev pub not_built_line : List ℕ
-not_built_line = codes "E2 not built\n"
 
 -- the program has no such node
 abbrev pub no_node_line : List ℕ → List ℕ

@@ -1,6 +1,6 @@
 -- What a text is compiled to, and why it is not.
 -- Source: own.
-use Rattle.std.specs.Prelude.{◌≡◌, ◌≢◌, ◌⊎◌, ⊤, ℕ, true, false, List}
+use Rattle.std.specs.Prelude.{◌≡◌, ◌≢◌, ⊤, ℕ, true, false, List}
 use Rattle.hp_tree.specs.declared.program.Item.{Item}
 use Rattle.hp_compile.specs.Arranged.{IsArranged}
 use Rattle.hp_compile.specs.Judged.{IsJudged}
@@ -8,7 +8,6 @@ use Rattle.hp_compile.specs.Refusals.{Causes}
 use Rattle.hp_compile.specs.declared.refusal.Refusal.{Refusal}
 use Rattle.hp_controlled.specs.Chosen.{AreControlledMachines}
 use Rattle.hp_controlled.specs.Joining.{AreWithContracts}
-use Rattle.hp_machines.specs.Machined.{AreMachinesOf}
 use Rattle.hp_obc.specs.Machines.{Obc}
 use Rattle.hp_verdicts.specs.declared.error.ContractErr.{ContractErr}
 use Rattle.hp_verdicts.specs.declared.error.ContractErr.TheVariants as contract
@@ -27,9 +26,9 @@ pub record IsFound (text : List ℕ) (program ordered : List Item) : Type 0 wher
   pub ranks : List (List ℕ)
   pub arranged : IsArranged program ordered ranks
 
--- Machines of an arranged program whose contracts are kept: without controllable variables those of its nodes, alone or with those of its contracts between them; else machines whose nodes choose.
+-- Machines of an arranged program whose contracts are kept: without controllable variables those of its nodes, with those of its contracts between them; else machines whose nodes choose.
 pub data AreMachinesFor (program ordered : List Item) (o : Obc) : Type 0 where
-  of_nodes : {own : Obc} → has_controls program ≡ false → AreMachinesOf ordered own → (o ≡ own) ⊎ AreWithContracts ordered own o → AreMachinesFor program ordered o
+  of_nodes : {own : Obc} → has_controls program ≡ false → AreWithContracts ordered own o → AreMachinesFor program ordered o
   that_choose : has_controls program ≡ true → AreControlledMachines ordered o → AreMachinesFor program ordered o
 
 -- What a text is compiled to. It has one program, which breaks no rule and of which each contract is kept. Its machines run its nodes; those of a program with controllable variables say what it allows, with the greatest permitted values as far as `AllSayGreatest` has it.

@@ -1,5 +1,5 @@
 -- What a call does, and why: a row for each cause.
-use Rattle.std.specs.Prelude.{◌≡◌, ◌≢◌, ◌≤◌, ◌⊎◌, Bool, is_some, IsTrue, ℕ, true, false, List, [], ◌∷◌, ◌++◌, codes, Option, None, Some}
+use Rattle.std.specs.Prelude.{◌≡◌, ◌≢◌, ◌≤◌, Bool, is_some, IsTrue, ℕ, true, false, List, [], ◌∷◌, ◌++◌, codes, Option, None, Some}
 use Rattle.hp_base.specs.Limits.{most}
 use Rattle.hp_base.specs.declared.limit.Limit.{Limit}
 use Rattle.hp_base.specs.declared.limit.What.TheVariants.{Size, Text}
@@ -84,11 +84,11 @@ pub record AreCompiled (files : Option Files) (file : List ℕ) (o : Obc) : Type
   pub agree : AgreeWithNodes held.clocked o
   pub machines : AreMachinesOf held.clocked o
 
--- the machines of such a program as they are written: those of its nodes alone, or between them those of its contracts too. That they are ever left out is not said here; no program has shown it
+-- the machines of such a program as they are written: those of its nodes, and between them those of its contracts
 pub record AreWritten (files : Option Files) (file : List ℕ) (o : Obc) : Type 0 where
   pub own : Obc
   pub compiled : AreCompiled files file own
-  pub others : (o ≡ own) ⊎ AreWithContracts compiled.held.clocked own o
+  pub with_contracts : AreWithContracts compiled.held.clocked own o
 
 -- machines of the program that the file holds, of which each contract is kept; some node of it chooses the values of its controllable variables, or it is asked what contracts assume and enforce. What the machines of nodes say, the program allows; and where nothing is free in a node but its inputs, and comparisons of integers and outputs of calls in its body, these variables have the greatest permitted values, so the node keeps its contract while the nodes that it calls keep theirs
 pub record AreChosen (files : Option Files) (file : List ℕ) (o : Obc) : Type 0 where

@@ -11,7 +11,6 @@ use Rattle.hp_driver.specs.Given.{Gives}
 use Rattle.hp_driver.specs.Leaves.{Leaves}
 use Rattle.hp_driver.specs.Leaving.{WritesText}
 use Rattle.hp_driver.specs.Outcome.{Outcome}
-use Rattle.hp_driver.specs.PastOutcome.{unfolded_text}
 
 abbrev pub UnfoldsText : List ℕ → List ℕ → List ℕ → ℕ → Type 0
 UnfoldsText out text line status = (words : List (List ℕ)) (files : Option Files) (file : List ℕ) → IsPastOf words file out → Gives files file text → Outcome words files [] line status

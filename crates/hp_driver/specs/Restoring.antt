@@ -10,10 +10,9 @@ use Rattle.hp_io.specs.Files.{Files}
 use Rattle.hp_io.specs.Reads.{Reading}
 use Rattle.hp_io.specs.Told.{Grows}
 use Rattle.hp_io.specs.declared.console.Event.{Event}
-use Rattle.hp_obc.specs.Form.{machine_named}
 use Rattle.hp_obc.specs.Kinded.{machine_keeps}
-use Rattle.hp_obc.specs.Machines.{Machine, Obc}
-use Rattle.hp_obc.specs.Steps.{Memory, machine_behaviour}
+use Rattle.hp_obc.specs.Machines.{Obc}
+use Rattle.hp_obc.specs.Steps.{machine_behaviour}
 use Rattle.hp_obctext.specs.declared.memory.error.MemErr.{MemErr}
 use Rattle.hp_compile.specs.Judged.{IsJudged}
 use Rattle.hp_tree.specs.declared.program.Item.{Item}

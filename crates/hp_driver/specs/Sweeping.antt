@@ -1,6 +1,6 @@
 -- What `sweep` runs: a program of some tasks, of which one may be active at a time, on inputs that come again and again.
 -- Source: own; delayable tasks, after Delaval, Marchand and Rutten (LCTES 2010).
-use Rattle.std.specs.Prelude.{◌≡◌, ℕ, zero, suc, ◌+◌, ◌-◌, ◌*◌, ◌/◌, ◌%◌, ◌^◌, min, nat_eq, if◌then◌else◌, Bool, true, List, [], ◌∷◌, ◌++◌, length, take, drop, replicate, codes, decimal, Some}
+use Rattle.std.specs.Prelude.{◌≡◌, ℕ, zero, suc, ◌+◌, ◌-◌, ◌*◌, ◌/◌, ◌%◌, ◌^◌, min, nat_eq, if◌then◌else◌, Bool, true, List, [], ◌∷◌, ◌++◌, length, take, drop, replicate, codes, Some}
 use Rattle.hp_base.specs.declared.value.Value.{Value}
 use Rattle.hp_base.specs.declared.value.Value.TheVariants.{B}
 use Rattle.hp_obc.specs.Form.{machine_named}
@@ -16,9 +16,9 @@ row between part zero = []
 row between part (suc zero) = part 1
 row between part (suc (suc n)) = row between part (suc n) ++ (between ++ part (suc (suc n)))
 
--- a name with a number
+-- a name with the digit of a task, of which there are at most nine
 abbrev pub numbered : List ℕ → ℕ → List ℕ
-numbered name n = name ++ decimal n
+numbered name n = name ++ (48 + n) ∷ []
 
 -- a name with the number of each of so many tasks
 abbrev pub names_text : List ℕ → ℕ → List ℕ
@@ -97,17 +97,17 @@ abbrev pub counted : List ℕ → List Value → List ℕ
 counted (count ∷ counts) (v ∷ outputs) = one_more count v ∷ counted counts outputs
 counted counts outputs = counts
 
--- a machine of so many inputs and as many outputs
-module _ (b : Behaviour) (many : ℕ) where
+-- a machine of so many inputs
+module _ (b : Behaviour) (inputs : ℕ) where
   -- its memory behind so many instants
   abbrev pub memory_behind : ℕ → Memory
   memory_behind zero = b.reset
-  memory_behind (suc n) = (b.step (memory_behind n) (inputs_at (suc n) many)).kept
+  memory_behind (suc n) = (b.step (memory_behind n) (inputs_at (suc n) inputs)).kept
 
-  -- how often each output was true by then
-  abbrev pub counts_behind : ℕ → List ℕ
-  counts_behind zero = replicate many 0
-  counts_behind (suc n) = counted (counts_behind n) (b.step (memory_behind n) (inputs_at (suc n) many)).outputs
+  -- how often each of so many outputs was true by then
+  abbrev pub counts_behind : ℕ → ℕ → List ℕ
+  counts_behind outputs zero = replicate outputs 0
+  counts_behind outputs (suc n) = counted (counts_behind outputs n) (b.step (memory_behind n) (inputs_at (suc n) inputs)).outputs
 
 -- the machine of the tasks
 abbrev pub tasks_name : List ℕ
@@ -123,4 +123,4 @@ pub record HasTasks (many : ℕ) (o : Obc) : Type 0 where
 -- How often each task was active, and how often each started, behind so many instants of that machine: of its outputs the first tell which task is active.
 abbrev pub sweep_text : Obc → ℕ → ℕ → List ℕ
 sweep_text o tasks instants =
-    let counts = counts_behind (machine_behaviour o tasks_name) (2 * tasks) instants in summary_text (take tasks counts) (drop tasks counts)
+    let counts = counts_behind (machine_behaviour o tasks_name) (2 * tasks) (2 * tasks) instants in summary_text (take tasks counts) (drop tasks counts)

@@ -1,69 +1,29 @@
-ghost use Rattle.std.specs.Prelude.{◌≡◌, ◌⊎◌, ℕ, List, IfOk, IfErr, MatchResult};
+ghost use Rattle.std.specs.Prelude.{ℕ, List, IfOk, IfErr, MatchResult};
 ghost use Rattle.hp_compile.specs.Judged.{IsJudged};
 ghost use Rattle.hp_controlled.specs.Chosen.{AreControlledMachines};
-ghost use Rattle.hp_controlled.specs.Joining.{AreWithContracts};
-ghost use Rattle.hp_machines.specs.Machined.{AreMachinesOf};
-ghost use Rattle.hp_obc.specs.Machines.{Obc as ObcSeen};
 ghost use Rattle.hp_tree.specs.declared.program.Item.{Item};
 ghost use Rattle.hp_verdicts.specs.Decided.{AreKept};
 ghost use Rattle.hp_driver.specs.Compiled.{AreMachinesFor, HasCircuit, IsCompiled, IsFound, IsNotCompiled};
-ghost use Rattle.hp_driver.specs.Texts.{IsArrangedText, IsOnly, IsPlainText};
+ghost use Rattle.hp_driver.specs.Texts.{IsArrangedText, IsOnly};
 
 use crate::compile_error::CompileErr;
-use crate::controls::{has_contract, has_controls};
 use hp_cause::Ordered;
 use hp_compile::{arrange, judge};
 use hp_controlled::{
-    ControlledErr, controlled_machines, machines_do_the_same_among_others, machines_with_contracts,
-    own_machines_do_the_same,
+    ControlledErr, controlled_machines, machines_do_the_same_among_others, own_machines_do_the_same,
 };
-use hp_machines::{MachineErr, machines};
 use hp_obc::Obc;
 use hp_tree::Program;
 use hp_verdicts::decide;
-use law_controlled::{machines_of_texts_choose_the_greatest, machines_that_choose_are_built};
+use law_controlled::{
+    machines_of_texts_choose_the_greatest, machines_that_choose_are_built,
+    machines_without_choices_are_of_nodes,
+};
 use law_decided::outcomes_are_so;
 use law_history::streams::{machines_of_texts_are_built, machines_run_the_nodes_of_texts};
 use std::alloc::{AllocError, Global};
 
-/// The machines of the nodes of an arranged program without controllable variables.
-fn own_machines(alloc: Global, ordered: Ordered) -> Result<Obc, AllocError>
-    requires { IsPlainText ordered.program }
-    ensures { IfOk result (AreMachinesOf ordered.program) }
-{
-    // A law: nothing is in the way of the machines.
-    machines_of_texts_are_built();
-    match machines(alloc, ordered.program) {
-        Ok(machines) => Ok(machines),
-        Err(MachineErr::NotBuilt) => unreachable!(),
-        Err(MachineErr::OutOfMemory) => Err(AllocError),
-    }
-}
-
-/// The same, with those of its contracts between them, or without them where they are not built. No program has shown that.
-fn among_contracts(alloc: Global, ordered: Ordered) -> Result<Obc, AllocError>
-    requires { IsPlainText ordered.program }
-    ensures { IfOk result (λ o. (own : ObcSeen) × AreMachinesOf ordered.program own × ((o ≡ own) ⊎ AreWithContracts ordered.program own o)) }
-{
-    match machines_with_contracts(alloc, &ordered.program) {
-        Ok(machines) => Ok(machines),
-        Err(ControlledErr::NotBuilt) => own_machines(alloc, ordered),
-        Err(ControlledErr::OutOfMemory) => Err(AllocError),
-    }
-}
-
-/// The machines of an arranged program without controllable variables: those of its nodes, and of its contracts, if it has any.
-fn plain_machines(alloc: Global, ordered: Ordered) -> Result<Obc, AllocError>
-    requires { IsPlainText ordered.program }
-    ensures { IfOk result (λ o. (own : ObcSeen) × AreMachinesOf ordered.program own × ((o ≡ own) ⊎ AreWithContracts ordered.program own o)) }
-{
-    if has_contract(&ordered.program) {
-        return among_contracts(alloc, ordered);
-    }
-    own_machines(alloc, ordered)
-}
-
-/// The machines of an arranged program whose contracts are kept, in which nodes choose the values of their controllable variables.
+/// The machines of an arranged program whose contracts are kept: of its nodes, which choose the values of their controllable variables, and of its contracts between them.
 pub(crate) fn chosen_machines(alloc: Global, ordered: &Program) -> Result<Obc, AllocError>
     requires arranged { (program : List Item) × IsArrangedText program ordered.now }
     requires kept { AreKept ordered.now ordered.now }
@@ -78,16 +38,15 @@ pub(crate) fn chosen_machines(alloc: Global, ordered: &Program) -> Result<Obc, A
     }
 }
 
-/// The machines of an arranged program whose contracts are kept.
-fn machines_of(alloc: Global, program: &Program, ordered: Ordered) -> Result<Obc, AllocError>
-    requires arranged { IsArrangedText program.now ordered.program }
-    requires kept { AreKept ordered.program ordered.program }
-    ensures { IfOk result (AreMachinesFor program.now ordered.program) }
+/// The same, as `compile` writes them.
+fn machines_of(alloc: Global, ordered: &Program) -> Result<Obc, AllocError>
+    requires arranged { (program : List Item) × IsArrangedText program ordered.now }
+    requires kept { AreKept ordered.now ordered.now }
+    ensures { (program : List Item) → IsArrangedText program ordered.now → IfOk result (AreMachinesFor program ordered.now) }
 {
-    if has_controls(program) {
-        return chosen_machines(alloc, &ordered.program);
-    }
-    plain_machines(alloc, ordered)
+    // A law: without controllable variables they are those of its nodes, with those of its contracts between them.
+    machines_without_choices_are_of_nodes();
+    chosen_machines(alloc, ordered)
 }
 
 /// The machines of an arranged program, if its contracts are kept.
@@ -104,7 +63,7 @@ fn compile_ordered(alloc: Global, program: &Program, ordered: Ordered) -> Result
     own_machines_do_the_same();
     machines_of_texts_choose_the_greatest();
     decide(alloc, &ordered.program)?;
-    let machines = machines_of(alloc, program, ordered)?;
+    let machines = machines_of(alloc, &ordered.program)?;
     Ok(machines)
 }
 

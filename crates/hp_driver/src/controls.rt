@@ -1,7 +1,6 @@
 ghost use Rattle.std.specs.Prelude.{◌≡◌};
 ghost use Rattle.hp_driver.specs.Controls.{has_controls, own_controls, some_variable};
 ghost use Rattle.hp_tree.specs.Meaning.{controls_of};
-ghost use Rattle.hp_verdicts.specs.Decided.{has_contract, own_contract};
 
 use hp_tree::{Contract, Item, Program};
 
@@ -30,27 +29,6 @@ pub fn has_controls(program: &Program) -> bool
 {
     for item in &program.items {
         if has_own_controls(item) {
-            return true;
-        }
-    }
-    false
-}
-
-fn has_own_contract(item: &Item) -> bool
-    ensures { result ≡ own_contract item.now }
-{
-    match item {
-        Item::TypeItem(_) => false,
-        Item::NodeItem(node) => node.contract.is_some(),
-    }
-}
-
-/// Whether a node of the program has a contract.
-pub(crate) fn has_contract(program: &Program) -> bool
-    ensures { result ≡ has_contract program.now }
-{
-    for item in &program.items {
-        if has_own_contract(item) {
             return true;
         }
     }

@@ -20,8 +20,6 @@ use hp_verdicts::ContractErr;
 use itoa::Buffer;
 use std::alloc::{AllocError, Global};
 
-pub(crate) const NOT_BUILT: &[u8] = b"E2 not built\n";
-
 /// Writes a number behind what a line holds.
 fn add_number(line: &mut Vec<u8>, number: u64) -> Result<(), AllocError>
     ensures { OnOk result (line.new.items ≡ line.old.items ++ decimal number) }

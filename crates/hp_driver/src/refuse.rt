@@ -1,15 +1,18 @@
 //! Reports of what is refused before a trace begins.
-ghost use Rattle.std.specs.Prelude.{◌≡◌, ◌≢◌, [], IfOk};
+ghost use Rattle.std.specs.Prelude.{◌≡◌, ◌≢◌, ℕ, List, [], IfOk};
 ghost use Rattle.hp_io.specs.Told.{Grows};
 ghost use Rattle.hp_compile.specs.declared.refusal.Place.TheVariants.{Whole};
 ghost use Rattle.hp_compile.specs.declared.refusal.Refusal.TheVariants.{OutOfMemory};
 ghost use Rattle.hp_driver.specs.Command.{no_node_line};
+ghost use Rattle.hp_driver.specs.Compiled.{HasCircuit};
+ghost use Rattle.hp_driver.specs.CompileErrors.{TellsCause};
 ghost use Rattle.hp_driver.specs.Diagnostics.{contract_line, limit_line, too_long_line, refusal_line};
 ghost use Rattle.hp_driver.specs.Ran.{ReportsOrNot};
 ghost use Rattle.hp_verdicts.specs.declared.error.ContractErr.TheVariants as contract;
 ghost use Rattle.hp_driver.specs.Faults.{PutFaults};
 ghost use Rattle.hp_driver.specs.Status.{code_of};
 
+use crate::compile_error::CompileErr;
 use crate::diagnostic::{contract_line, refusal_line};
 use crate::report::report;
 use crate::status::Status;
@@ -67,6 +70,21 @@ pub(crate) fn report_contract<E: Sink>(alloc: Global, diag: &mut E, error: &Cont
     match contract_line(alloc, error) {
         Ok(line) => report(diag, line.as_slice(), Status::Refused),
         Err(_) => Status::NoMemory,
+    }
+}
+
+/// Reports why a text is not compiled, or that there is no memory.
+pub(crate) fn report_uncompiled<E: Sink>(alloc: Global, diag: &mut E, error: &CompileErr) -> Status
+    requires { HasCircuit error.now }
+    ensures told { (line : List ℕ) × Grows (E.took diag.old) (E.took diag.new) line × TellsCause error.now line (code_of result) }
+    ensures fails { code_of result ≢ 0 }
+    ensures status { code_of result ≢ 4 }
+    ensures faults { PutFaults (code_of result) (E.faults diag.old) (E.faults diag.new) }
+{
+    match error {
+        CompileErr::Refused(refusal) => report_refusal(alloc, diag, refusal),
+        CompileErr::Contract(cause) => report_contract(alloc, diag, cause),
+        CompileErr::OutOfMemory => Status::NoMemory,
     }
 }
 

@@ -15,12 +15,11 @@ ghost use Rattle.hp_driver.specs.Happened.{Happened};
 ghost use Rattle.hp_driver.specs.Status.{code_of};
 
 use crate::choosing::{run_choosing, tell_choosing};
-use crate::compile_error::CompileErr;
 use crate::compiling::compile_program;
 use crate::controls::has_controls;
 use crate::follow::say;
 use crate::machines::run_machines;
-use crate::refuse::{report_contract, report_refusal};
+use crate::refuse::{report_contract, report_refusal, report_uncompiled};
 use crate::resources::Resources;
 use crate::status::Status;
 use crate::words::Task;
@@ -259,21 +258,6 @@ pub(crate) fn write_machines<F: Folder>(
     match print_obc(alloc, machines) {
         Ok(text) => write_text(text.as_slice(), out, files),
         Err(_) => Status::NoMemory,
-    }
-}
-
-/// Reports why a program is not compiled, or that there is no memory.
-fn report_uncompiled<E: Sink>(alloc: Global, diag: &mut E, error: &CompileErr) -> Status
-    requires { HasCircuit error.now }
-    ensures told { (line : List ℕ) × Grows (E.took diag.old) (E.took diag.new) line × ((out : List ℕ) → RefusedCompile out error.now line (code_of result)) }
-    ensures fails { code_of result ≢ 0 }
-    ensures status { code_of result ≢ 4 }
-    ensures faults { PutFaults (code_of result) (E.faults diag.old) (E.faults diag.new) }
-{
-    match error {
-        CompileErr::Refused(refusal) => report_refusal(alloc, diag, refusal),
-        CompileErr::Contract(cause) => report_contract(alloc, diag, cause),
-        CompileErr::OutOfMemory => Status::NoMemory,
     }
 }
 

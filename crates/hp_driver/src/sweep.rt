@@ -1,32 +1,34 @@
 //! The command `sweep`: a program of some tasks of which one may be active at a time is made, compiled and run on a trace that is made too, and what was true is counted.
-ghost use Rattle.std.specs.Prelude.{◌≡◌, ◌≢◌, ◌≤◌, ◌++◌, ◌+◌, ◌*◌, ℕ, true, false, List, [], length, take, drop, replicate, codes, decimal, IfOk, MatchResult, OnOk};
+ghost use Rattle.std.specs.Prelude.{◌≡◌, ◌≢◌, ◌≤◌, ◌++◌, ◌+◌, ◌*◌, ℕ, List, [], length, take, drop, replicate, codes, decimal, IfOk, IsSome, MatchResult, OnOk};
+ghost use Rattle.hp_exec.specs.Answers.{Executes};
 ghost use Rattle.hp_exec.specs.Executors.{Runs, kept};
 ghost use Rattle.hp_io.specs.Faults.{Same};
 ghost use Rattle.hp_io.specs.Told.{Grows};
+ghost use Rattle.hp_obc.specs.Form.{machine_named};
 ghost use Rattle.hp_obc.specs.Steps.{Behaviour};
 ghost use Rattle.hp_driver.specs.Command.{counted_line, spaced_numbers, summary_text};
-ghost use Rattle.hp_driver.specs.Compiled.{HasCircuit, IsCompiled, IsNotCompiled};
+ghost use Rattle.hp_driver.specs.Compiled.{IsCompiled};
 ghost use Rattle.hp_driver.specs.Faults.{BothPutFaults, PutFaults};
 ghost use Rattle.hp_driver.specs.Follows.{SweepOutcome};
 ghost use Rattle.hp_driver.specs.Happened.{Happened};
 ghost use Rattle.hp_driver.specs.Status.{code_of};
-ghost use Rattle.hp_driver.specs.Stopping.{AreCounts, HasMany, HasOthers, IsOfTasks, Stops, StopsAt};
+ghost use Rattle.hp_driver.specs.Stopping.{Stops, StopsAt};
 ghost use Rattle.hp_driver.specs.Sweeping.{row, numbered, names_text, inputs_text, pair_text, apart_text, guarantee_text, results_text, call_text, task_text, outputs_text, heading_text, contract_text, body_text, tasks_text};
-ghost use Rattle.hp_driver.specs.Sweeping.{is_input, inputs_at, one_more, counted, counts_behind, sweep_text, HasTasks};
+ghost use Rattle.hp_driver.specs.Sweeping.{is_input, inputs_at, one_more, counted, counts_behind, sweep_text, tasks_name, HasTasks};
 ghost use Rattle.hp_driver.specs.Swept.{IsSwept};
 
 use crate::compile_error::CompileErr;
 use crate::compiling::compile;
-use crate::diagnostic::NOT_BUILT;
-use crate::refuse::{report_contract, report_refusal};
-use crate::report::report;
+use crate::machines::report_large;
+use crate::refuse::report_uncompiled;
 use crate::source::say_all;
 use crate::status::Status;
-use hp_base::Value;
+use hp_base::{Limit, Value};
 use hp_exec::{Exec, ExecErr};
 use hp_io::{Console, Sink};
 use hp_obc::Obc;
 use itoa::Buffer;
+use law_controlled::nodes_have_their_machines;
 use std::alloc::{AllocError, Global};
 
 /// How many tasks, and over how many instants.
@@ -58,8 +60,8 @@ const TASKS: &str = "tasks";
 pub(crate) enum Stop {
     /// The program of the tasks is not compiled.
     NotCompiled(CompileErr),
-    /// The machine of the tasks cannot be run.
-    NotRun,
+    /// The machine of the tasks passes a limit of what is executed.
+    TooLarge(Limit),
     OutOfMemory,
 }
 
@@ -71,21 +73,6 @@ impl From<AllocError> for Stop {
 
     fn from(_error: AllocError) -> Stop {
         Stop::OutOfMemory
-    }
-}
-
-impl From<ExecErr> for Stop {
-    ghost use Rattle.std.specs.Prelude.{◌≡◌};
-    ghost use Rattle.hp_driver.specs.Stopping.{of_exec};
-
-    ghost from_gives = { λ error e. e ≡ of_exec error };
-
-    fn from(error: ExecErr) -> Stop {
-        match error {
-            ExecErr::NoNode => Stop::NotRun,
-            ExecErr::Limit(_) => Stop::NotRun,
-            ExecErr::OutOfMemory => Stop::OutOfMemory,
-        }
     }
 }
 
@@ -113,8 +100,9 @@ fn add_number(text: &mut Vec<u8>, number: u64) -> Result<(), AllocError>
     text.extend_from_slice(buffer.format(number).as_bytes())
 }
 
-/// Adds a name with a number.
+/// Adds a name with the digit of a task.
 fn add_name(text: &mut Vec<u8>, name: &[u8], task: u64) -> Result<(), AllocError>
+    requires { task ≤ 9 }
     ensures { OnOk result (text.new.items ≡ text.old.items ++ numbered name.now task) }
 {
     add(text, name)?;
@@ -123,7 +111,8 @@ fn add_name(text: &mut Vec<u8>, name: &[u8], task: u64) -> Result<(), AllocError
 
 /// Adds this name with the number of each task, with a comma between.
 fn add_names(text: &mut Vec<u8>, name: &[u8], tasks: u64) -> Result<(), AllocError>
-    requires { 1 ≤ tasks }
+    requires some { 1 ≤ tasks }
+    requires few { tasks ≤ 8 }
     ensures { OnOk result (text.new.items ≡ text.old.items ++ names_text name.now tasks) }
 {
     add_name(text, name, 1)?;
@@ -136,6 +125,7 @@ fn add_names(text: &mut Vec<u8>, name: &[u8], tasks: u64) -> Result<(), AllocErr
 
 /// Adds the request and the end of a task.
 fn add_pair_of_inputs(text: &mut Vec<u8>, task: u64) -> Result<(), AllocError>
+    requires { task ≤ 8 }
     ensures { OnOk result (text.new.items ≡ text.old.items ++ inputs_text task) }
 {
     add_name(text, b"r", task)?;
@@ -144,7 +134,8 @@ fn add_pair_of_inputs(text: &mut Vec<u8>, task: u64) -> Result<(), AllocError>
 
 /// Adds the inputs: the request and the end of each task.
 fn add_inputs(text: &mut Vec<u8>, tasks: u64) -> Result<(), AllocError>
-    requires { 1 ≤ tasks }
+    requires some { 1 ≤ tasks }
+    requires few { tasks ≤ 8 }
     ensures { OnOk result (text.new.items ≡ text.old.items ++ row (codes ", ") inputs_text tasks) }
 {
     add_pair_of_inputs(text, 1)?;
@@ -157,6 +148,8 @@ fn add_inputs(text: &mut Vec<u8>, tasks: u64) -> Result<(), AllocError>
 
 /// Adds that two tasks are not active at once.
 fn add_pair(text: &mut Vec<u8>, other: u64, task: u64) -> Result<(), AllocError>
+    requires other { other ≤ 9 }
+    requires task { task ≤ 9 }
     ensures { OnOk result (text.new.items ≡ text.old.items ++ pair_text other task) }
 {
     add_name(text, b"not (a", other)?;
@@ -197,6 +190,7 @@ fn add_guarantee(text: &mut Vec<u8>, tasks: u64) -> Result<(), AllocError>
 
 /// Adds what a task gives.
 fn add_results(text: &mut Vec<u8>, task: u64) -> Result<(), AllocError>
+    requires { task ≤ 8 }
     ensures { OnOk result (text.new.items ≡ text.old.items ++ results_text task) }
 {
     add_name(text, b"  (a", task)?;
@@ -206,6 +200,7 @@ fn add_results(text: &mut Vec<u8>, task: u64) -> Result<(), AllocError>
 
 /// Adds what a task takes.
 fn add_call(text: &mut Vec<u8>, task: u64) -> Result<(), AllocError>
+    requires { task ≤ 8 }
     ensures { OnOk result (text.new.items ≡ text.old.items ++ call_text task) }
 {
     add_name(text, b"inlined delayable(r", task)?;
@@ -216,6 +211,7 @@ fn add_call(text: &mut Vec<u8>, task: u64) -> Result<(), AllocError>
 
 /// Adds what a task does.
 fn add_task(text: &mut Vec<u8>, task: u64) -> Result<(), AllocError>
+    requires { task ≤ 8 }
     ensures { OnOk result (text.new.items ≡ text.old.items ++ task_text task) }
 {
     add_results(text, task)?;
@@ -224,7 +220,8 @@ fn add_task(text: &mut Vec<u8>, task: u64) -> Result<(), AllocError>
 
 /// Adds what the tasks do.
 fn add_tasks(text: &mut Vec<u8>, tasks: u64) -> Result<(), AllocError>
-    requires { 1 ≤ tasks }
+    requires some { 1 ≤ tasks }
+    requires few { tasks ≤ 8 }
     ensures { OnOk result (text.new.items ≡ text.old.items ++ row (codes ";\n") task_text tasks) }
 {
     add_task(text, 1)?;
@@ -237,7 +234,8 @@ fn add_tasks(text: &mut Vec<u8>, tasks: u64) -> Result<(), AllocError>
 
 /// Adds the outputs of the tasks: whether each is active, and whether each starts.
 fn add_outputs(text: &mut Vec<u8>, tasks: u64) -> Result<(), AllocError>
-    requires { 1 ≤ tasks }
+    requires some { 1 ≤ tasks }
+    requires few { tasks ≤ 8 }
     ensures { OnOk result (text.new.items ≡ text.old.items ++ outputs_text tasks) }
 {
     add(text, b" : bool) returns (")?;
@@ -249,7 +247,8 @@ fn add_outputs(text: &mut Vec<u8>, tasks: u64) -> Result<(), AllocError>
 
 /// Adds the inputs and outputs of the tasks.
 fn add_heading(text: &mut Vec<u8>, tasks: u64) -> Result<(), AllocError>
-    requires { 1 ≤ tasks }
+    requires some { 1 ≤ tasks }
+    requires few { tasks ≤ 8 }
     ensures { OnOk result (text.new.items ≡ text.old.items ++ heading_text tasks) }
 {
     add(text, b"node tasks(")?;
@@ -272,7 +271,8 @@ fn add_contract(text: &mut Vec<u8>, tasks: u64) -> Result<(), AllocError>
 
 /// Adds what all tasks do.
 fn add_body(text: &mut Vec<u8>, tasks: u64) -> Result<(), AllocError>
-    requires { 1 ≤ tasks }
+    requires some { 1 ≤ tasks }
+    requires few { tasks ≤ 8 }
     ensures { OnOk result (text.new.items ≡ text.old.items ++ body_text tasks) }
 {
     add(text, b"let\n")?;
@@ -305,8 +305,7 @@ fn program_of(alloc: Global, tasks: u64) -> Result<Vec<u8>, AllocError>
 
 /// Whether a task is requested at an instant, or ends: every third, or every fourth instant.
 fn is_input(place: usize, instant: u64) -> bool
-    requires place { place ≤ 16 }
-    requires instant { instant ≤ 1000000 }
+    requires { instant ≤ 1000000 }
     ensures { result ≡ is_input place instant }
 {
     let task = (place / 2) as u64 + 1;
@@ -316,8 +315,7 @@ fn is_input(place: usize, instant: u64) -> bool
 
 /// Fills in the inputs of an instant.
 fn fill(instant: u64, inputs: &mut [Value])
-    requires places { length inputs.old ≤ 16 }
-    requires instant { instant ≤ 1000000 }
+    requires { instant ≤ 1000000 }
     ensures { inputs.new ≡ inputs_at instant (length inputs.old) }
 {
     for i in 0..inputs.len() {
@@ -355,16 +353,16 @@ struct Room {
 }
 
 impl Room {
-    /// Room for so many inputs and as many outputs.
-    fn new(alloc: Global, many: usize) -> Result<Room, AllocError>
-        ensures inputs { IfOk result (λ room. length room.inputs.items ≡ many) }
-        ensures outputs { IfOk result (λ room. length room.outputs.items ≡ many) }
-        ensures counts { IfOk result (λ room. room.counts.items ≡ replicate many 0) }
+    /// Room for so many inputs and outputs.
+    fn new(alloc: Global, inputs: usize, outputs: usize) -> Result<Room, AllocError>
+        ensures inputs { IfOk result (λ room. length room.inputs.items ≡ inputs) }
+        ensures outputs { IfOk result (λ room. length room.outputs.items ≡ outputs) }
+        ensures counts { IfOk result (λ room. room.counts.items ≡ replicate outputs 0) }
     {
         Ok(Room {
-            inputs: vec![in alloc; Value::B(false); many]?,
-            outputs: vec![in alloc; Value::B(false); many]?,
-            counts: vec![in alloc; 0; many]?,
+            inputs: vec![in alloc; Value::B(false); inputs]?,
+            outputs: vec![in alloc; Value::B(false); outputs]?,
+            counts: vec![in alloc; 0; outputs]?,
         })
     }
 
@@ -373,7 +371,6 @@ impl Room {
         requires inputs { length self.old.inputs.items ≡ length exec.old.signature.inputs }
         requires outputs { length self.old.outputs.items ≡ length exec.old.signature.outputs }
         requires counts { length self.old.counts.items ≡ length self.old.outputs.items }
-        requires places { length self.old.inputs.items ≤ 16 }
         requires instant { instant ≤ 1000000 }
         ensures inputs { length self.new.inputs.items ≡ length self.old.inputs.items }
         ensures outputs { length self.new.outputs.items ≡ length self.old.outputs.items }
@@ -395,63 +392,46 @@ fn run_instants(exec: &mut Exec, instants: u64, room: &mut Room)
     requires inputs { length room.old.inputs.items ≡ length exec.old.signature.inputs }
     requires outputs { length room.old.outputs.items ≡ length exec.old.signature.outputs }
     requires counts { length room.old.counts.items ≡ length room.old.outputs.items }
-    requires places { length room.old.inputs.items ≤ 16 }
     requires instants { instants ≤ 1000000 }
-    ensures long { length room.new.counts.items ≡ length room.old.counts.items }
-    ensures counted { (b : Behaviour) → Runs exec.old b → kept exec.old ≡ b.reset → room.old.counts.items ≡ replicate (length room.old.inputs.items) 0
-        → room.new.counts.items ≡ counts_behind b (length room.old.inputs.items) instants }
+    ensures { (b : Behaviour) → Runs exec.old b → kept exec.old ≡ b.reset → room.old.counts.items ≡ replicate (length room.old.outputs.items) 0
+        → room.new.counts.items ≡ counts_behind b (length room.old.inputs.items) (length room.old.outputs.items) instants }
 {
     for i in 0..instants {
         room.step(exec, i + 1);
     }
 }
 
-/// How often each output of a machine of so many inputs and outputs is true.
-fn counts_by(
-    alloc: Global,
-    exec: &mut Exec,
-    many: usize,
-    instants: u64,
-) -> Result<Vec<u64>, AllocError>
-    requires inputs { many ≡ length exec.old.signature.inputs }
-    requires outputs { many ≡ length exec.old.signature.outputs }
-    requires places { many ≤ 16 }
-    requires instants { instants ≤ 1000000 }
-    ensures long { IfOk result (λ counts. length counts.items ≡ many) }
-    ensures counted { (b : Behaviour) → Runs exec.old b → kept exec.old ≡ b.reset → IfOk result (λ counts. counts.items ≡ counts_behind b many instants) }
+/// How many inputs a machine has.
+fn input_count(exec: &Exec) -> usize
+    ensures { result ≡ length exec.now.signature.inputs }
 {
-    let mut room = Room::new(alloc, many)?;
+    exec.signature().inputs.len()
+}
+
+/// How many outputs a machine has.
+fn output_count(exec: &Exec) -> usize
+    ensures { result ≡ length exec.now.signature.outputs }
+{
+    exec.signature().outputs.len()
+}
+
+/// How often each output of a machine is true.
+fn counts_by(alloc: Global, exec: &mut Exec, instants: u64) -> Result<Vec<u64>, AllocError>
+    requires { instants ≤ 1000000 }
+    ensures { (b : Behaviour) → Runs exec.old b → kept exec.old ≡ b.reset
+        → IfOk result (λ counts. counts.items ≡ counts_behind b (length exec.old.signature.inputs) (length exec.old.signature.outputs) instants) }
+{
+    let mut room = Room::new(alloc, input_count(exec), output_count(exec))?;
     run_instants(exec, instants, &mut room);
     Ok(room.counts)
 }
 
-/// Whether a machine has so many inputs and as many outputs.
-fn has_many(exec: &Exec, many: usize) -> bool
-    ensures yes { result ≡ true → HasMany many exec.now.signature }
-    ensures no { result ≡ false → HasOthers many exec.now.signature }
+/// Adds a number with a space in front.
+fn add_spaced(text: &mut Vec<u8>, number: u64) -> Result<(), AllocError>
+    ensures { OnOk result (text.new.items ≡ text.old.items ++ (codes " " ++ decimal number)) }
 {
-    let signature = exec.signature();
-    signature.inputs.len() == many && signature.outputs.len() == many
-}
-
-/// An executor of the machine of the tasks, if it has so many inputs and as many outputs.
-fn exec_of(alloc: Global, machines: &Obc, many: usize) -> Result<Exec, Stop>
-    ensures { MatchResult result (IsOfTasks many machines.now) (StopsAt many machines.now) }
-{
-    let exec = Exec::new(alloc, machines, TASKS)?;
-    let has = has_many(&exec, many);
-    if has { Ok(exec) } else { Err(Stop::NotRun) }
-}
-
-/// How often each output of the machine of the tasks was true.
-fn counts_of(alloc: Global, machines: &Obc, many: usize, instants: u64) -> Result<Vec<u64>, Stop>
-    requires places { many ≤ 16 }
-    requires instants { instants ≤ 1000000 }
-    ensures { MatchResult result (λ counts. AreCounts many instants machines.now counts.items) (StopsAt many machines.now) }
-{
-    let mut exec = exec_of(alloc, machines, many)?;
-    let counts = counts_by(alloc, &mut exec, many, instants)?;
-    Ok(counts)
+    add(text, b" ")?;
+    add_number(text, number)
 }
 
 /// Adds numbers, each with a space in front.
@@ -459,7 +439,7 @@ fn add_numbers(text: &mut Vec<u8>, numbers: &[u64]) -> Result<(), AllocError>
     ensures { OnOk result (text.new.items ≡ text.old.items ++ spaced_numbers numbers.now) }
 {
     for i in 0..numbers.len() {
-        add_name(text, b" ", numbers[i])?;
+        add_spaced(text, numbers[i])?;
     }
     Ok(())
 }
@@ -475,12 +455,12 @@ fn add_line(text: &mut Vec<u8>, letter: &[u8], numbers: &[u64]) -> Result<(), Al
 
 /// The text of these numbers, of which the first so many stand in the first line.
 fn text_of(alloc: Global, counts: &[u64], tasks: usize) -> Result<Vec<u8>, AllocError>
-    requires { tasks ≤ length counts.now }
     ensures { IfOk result (λ text. text.items ≡ summary_text (take tasks counts.now) (drop tasks counts.now)) }
 {
+    let first = tasks.min(counts.len());
     let mut text = Vec::new(alloc);
-    add_line(&mut text, b"a", &counts[..tasks])?;
-    add_line(&mut text, b"s", &counts[tasks..])?;
+    add_line(&mut text, b"a", &counts[..first])?;
+    add_line(&mut text, b"s", &counts[first..])?;
     Ok(text)
 }
 
@@ -495,15 +475,28 @@ fn machines_of_tasks(alloc: Global, tasks: u64) -> Result<Obc, Stop>
     Ok(machines)
 }
 
+/// The executor of the machine of the tasks, which is among these.
+fn exec_of_tasks(alloc: Global, machines: &Obc) -> Result<Exec, Stop>
+    requires { IsSome (machine_named machines.now.machines tasks_name) }
+    ensures { MatchResult result (Executes machines.now tasks_name) (StopsAt machines.now) }
+{
+    match Exec::new(alloc, machines, TASKS) {
+        Ok(exec) => Ok(exec),
+        Err(ExecErr::NoNode) => unreachable!(),
+        Err(ExecErr::Limit(limit)) => Err(Stop::TooLarge(limit)),
+        Err(ExecErr::OutOfMemory) => Err(Stop::OutOfMemory),
+    }
+}
+
 /// The summary of a run of these machines: how often each task was active, and how often each started.
 fn summary_by(alloc: Global, sweep: Sweep, machines: &Obc) -> Result<Vec<u8>, Stop>
-    requires tasks { sweep.tasks ≤ 8 }
     requires instants { sweep.instants ≤ 1000000 }
-    ensures { MatchResult result (λ text. HasTasks (2 * sweep.tasks) machines.now × (text.items ≡ sweep_text machines.now sweep.tasks sweep.instants)) (StopsAt (2 * sweep.tasks) machines.now) }
+    requires has { HasTasks (2 * sweep.tasks) machines.now }
+    ensures { MatchResult result (λ text. text.items ≡ sweep_text machines.now sweep.tasks sweep.instants) (StopsAt machines.now) }
 {
-    let tasks = sweep.tasks as usize;
-    let counts = counts_of(alloc, machines, 2 * tasks, sweep.instants)?;
-    let text = text_of(alloc, &counts, tasks)?;
+    let mut exec = exec_of_tasks(alloc, machines)?;
+    let counts = counts_by(alloc, &mut exec, sweep.instants)?;
+    let text = text_of(alloc, &counts, sweep.tasks as usize)?;
     Ok(text)
 }
 
@@ -514,23 +507,10 @@ fn summary_of(alloc: Global, sweep: Sweep) -> Result<Vec<u8>, Stop>
     requires instants { sweep.instants ≤ 1000000 }
     ensures { MatchResult result (λ text. IsSwept sweep.tasks sweep.instants text.items) (Stops sweep.tasks) }
 {
+    // A law: the node of the tasks has a machine of its name, with as many inputs and outputs.
+    nodes_have_their_machines();
     let machines = machines_of_tasks(alloc, sweep.tasks)?;
     summary_by(alloc, sweep, &machines)
-}
-
-/// Reports why the program of the tasks is not compiled, or that there is no memory.
-fn report_cause<E: Sink>(alloc: Global, diag: &mut E, error: &CompileErr) -> Status
-    requires { HasCircuit error.now }
-    ensures told { (line : List ℕ) × Grows (E.took diag.old) (E.took diag.new) line
-        × ((tasks instants : ℕ) → IsNotCompiled (tasks_text tasks) error.now → SweepOutcome tasks instants [] line (code_of result)) }
-    ensures status { code_of result ≢ 4 }
-    ensures faults { PutFaults (code_of result) (E.faults diag.old) (E.faults diag.new) }
-{
-    match error {
-        CompileErr::Refused(refusal) => report_refusal(alloc, diag, refusal),
-        CompileErr::Contract(cause) => report_contract(alloc, diag, cause),
-        CompileErr::OutOfMemory => Status::NoMemory,
-    }
 }
 
 /// Reports why a sweep says nothing, or that there is no memory.
@@ -542,8 +522,8 @@ fn report_stop<E: Sink>(alloc: Global, diag: &mut E, stop: &Stop) -> Status
     ensures faults { PutFaults (code_of result) (E.faults diag.old) (E.faults diag.new) }
 {
     match stop {
-        Stop::NotCompiled(cause) => report_cause(alloc, diag, cause),
-        Stop::NotRun => report(diag, NOT_BUILT, Status::Refused),
+        Stop::NotCompiled(cause) => report_uncompiled(alloc, diag, cause),
+        Stop::TooLarge(limit) => report_large(alloc, diag, *limit),
         Stop::OutOfMemory => Status::NoMemory,
     }
 }

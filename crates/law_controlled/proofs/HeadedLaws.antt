@@ -1,12 +1,14 @@
 -- What the machines of nodes that choose are called, take and give.
 use Rattle.std.proofs.Common.{◌≡◌, inl, inr, ℕ, zero, suc, ◌+◌, ◌<◌, Bool, true, false, if◌then◌else◌, List, [], ◌∷◌, ◌++◌, length, map, take, drop, Option, None, Some, refl, sym, ap, ap₂, subst, ◌∙◌, arith}
-use Rattle.std.specs.Prelude.{◌-◌, IsSome, IsTrue, is_some, slice_get, slice_index_or}
+use Rattle.std.specs.Prelude.{◌-◌, codes, sum, IsSome, IsTrue, is_some, slice_get, slice_index_or}
 use Rattle.std.specs.Str.{bytes_eq}
 use Rattle.std.proofs.lemmas.List.{append_assoc, append-nil, length-map, map-append, take-append-drop}
 use Rattle.std.proofs.lemmas.Option.{slice_get_within}
 use Rattle.std.proofs.Math.Seq.{take-append_seam}
 use Rattle.hp_obc.specs.Form.{MachineForm, MachinesForm, TypesForm, machine_named, mem_vars, var_kinds, written}
 use Rattle.hp_obc.specs.Machines.{Machine, Obc, ObcType}
+use Rattle.hp_meaning.specs.Causal.Runs.{NoControls}
+use Rattle.hp_tree.specs.Blocks.{Decl}
 use Rattle.hp_tree.specs.Meaning.{controls_of, node_among}
 use Rattle.hp_tree.specs.Programs.{Node}
 use Rattle.hp_tree.specs.declared.program.Item.{Item}
@@ -18,8 +20,9 @@ use Rattle.hp_flat.specs.declared.node.FlatTy.TheVariants.{Bool as FlatBool}
 use Rattle.hp_flat.specs.declared.node.Variable.{Variable}
 use Rattle.hp_flat.specs.Nodes.{FlatNode}
 use Rattle.hp_toobc.specs.Making.{declared}
+use Rattle.hp_toobc.specs.Tables.{variable_at}
 use Rattle.hp_machines.specs.Flattened.{heading_of_flat}
-use Rattle.hp_machines.specs.Machined.{Heading, heading_of_machine, vars_of}
+use Rattle.hp_machines.specs.Machined.{Heading, heading_of_machine, heading_of_node, headings_of, vars_of}
 use Rattle.hp_machines.specs.Making.{AreMade, IsMachineOf}
 use Rattle.hp_machines.proofs.HeadingLaws.{kinds_apart, names_lowered, names_of, names_of_types, same_controls, same_outputs, same_vars}
 use Rattle.hp_machines.proofs.MakingLaws.{heading-made}
@@ -32,12 +35,13 @@ use Rattle.hp_controlled.specs.Choosing.{AreOfContract, IsOwn, Telling, asking, 
 use Rattle.hp_controlled.specs.Choosing.AreNodesOf.{without_contract, with_contract}
 use Rattle.hp_controlled.specs.Choosing.IsOwn.{that_stays, that_chooses}
 use Rattle.hp_controlled.specs.Compiled.{AreNodes}
+use Rattle.hp_controlled.specs.Joining.{AreOfNode, AreOfNodes, ChoosesNothing, Tells}
 use Rattle.hp_controlled.specs.Compiled.AreNodes.{of_none, of_a_type, of_a_node}
 use Rattle.hp_controlled.specs.Parts.{IsIn, IsPart, IsReached, marked, number_at, numbers_from}
 use Rattle.hp_controlled.specs.Parts.IsReached.{reached_input, reached_output}
 use Rattle.law_wellmade.proofs.RegularLemmas.Good.{longer}
 use Rattle.law_choices.proofs.InTurnLemmas.Telling.{copy_next, copy_outputs}
-use Rattle.law_controlled.specs.Headed.{HeadedLaw}
+use Rattle.law_controlled.specs.Headed.{HeadedLaw, PlainLaw}
 use Rattle.law_controlled.specs.Names.{Adds}
 use Rattle.law_controlled.proofs.AddedLaws.{choosing_adds}
 use Rattle.law_controlled.proofs.MadeLaws.{choosing, count, made_choosing, places, suited}
@@ -272,6 +276,15 @@ found_behind (m ∷ earlier) later x h = by (bytes_eq m.name x) h (found_behind 
 is_named : (types : List ObcType) (earlier : List Machine) (m : Machine) (later : List Machine) → MachineForm types earlier m → machine_named (earlier ++ m ∷ later) m.name ≡ Some m
 is_named types earlier m later h = found_behind earlier (m ∷ later) m.name h.new ∙ ap (λ b. if b then Some m else machine_named later m.name) (bytes_same m.name)
 
+none_left : {A : Type 0} (xs : List A) → length xs ≡ 0 → xs ≡ []
+none_left [] h = refl
+none_left (x ∷ xs) h = absurd (omega (arith, h))
+
+-- a node with nothing to choose is that of its own clocked equations
+own_stays : (node : Node) (n own : FlatNode) (c : Telling) → controls_of node.contract ≡ [] → IsOwn node n c own → own ≡ n
+own_stays node n own c none (that_stays nothing same) = same
+own_stays node n own c none (that_chooses some part) = absurd (some none)
+
 module _ (program : List Item) (o : Obc) (form : TypesForm o.types) (enums : Enumerations) (observers : Observing) where
   -- one machine among all: those before it, and those behind
   abbrev Among : List Machine → Machine → List Machine → Type 0
@@ -324,8 +337,8 @@ module _ (program : List Item) (o : Obc) (form : TypesForm o.types) (enums : Enu
           let headed = own_headed chosen.itself m earlier made h in
           record { machine = m; named = there earlier m later e h node.name (ap (λ (g : Heading). g.name) headed); headed = headed }
 
-      told_has : (m : Machine) (earlier later : List Machine) → Among earlier m later → IsMachineOf o.types told m → MachineForm o.types earlier m → IsToldBy (contract_name node.name) o node
-      told_has m earlier later e made h =
+      told_tells : (m : Machine) (earlier : List Machine) → IsMachineOf o.types told m → MachineForm o.types earlier m → Tells node m
+      told_tells m earlier made h =
           let chosen = are.chosen in
           let part = chosen.tells in
           let heading = heading-made o.types told m made in
@@ -336,12 +349,33 @@ module _ (program : List Item) (o : Obc) (form : TypesForm o.types) (enums : Enu
           let telling_one = one program o.types observers node n controller own told named are in
           let more = added_variable (next_variable asking_node) FlatBool ∷ added_variable (next_variable telling_one) FlatBool ∷ [] in
           record {
-            machine = m;
-            named = there earlier m later e h (contract_name node.name) (ap (λ (g : Heading). g.name) heading ∙ part_named t.node (contract_name node.name) (told_outputs t) told part);
+            name = ap (λ (g : Heading). g.name) heading ∙ part_named t.node (contract_name node.name) (told_outputs t) told part;
             inputs = machine_inputs o.types form node told m earlier heading h ins;
             assume = let v = added_variable (next_variable asking_node) FlatBool in v.name;
             enforce = let v = added_variable (next_variable telling_one) FlatBool in v.name;
             outputs = machine_outputs o.types form node told m earlier heading h more outs;
+          }
+
+      told_has : (m : Machine) (earlier later : List Machine) → Among earlier m later → IsMachineOf o.types told m → MachineForm o.types earlier m → IsToldBy (contract_name node.name) o node
+      told_has m earlier later e made h =
+          let tells = told_tells m earlier made h in
+          record { machine = m; named = there earlier m later e h (contract_name node.name) tells.name; inputs = tells.inputs; assume = tells.assume; enforce = tells.enforce; outputs = tells.outputs }
+
+      -- its controller gives nothing, where there is nothing to choose
+      gives_nothing : controls_of node.contract ≡ [] → (m : Machine) → IsMachineOf o.types controller m → ChoosesNothing node m
+      gives_nothing none m made =
+          let a = are.abstraction in
+          let is = are.controls in
+          let machine = are.is_machine in
+          let drawn = are.is_abstraction in
+          let its_machine = drawn.machine in
+          let s = suited program o.types observers node n controller own told named are in
+          let heading = heading-made o.types controller m made in
+          let no_widths : a.machine.widths ≡ [] = none_left a.machine.widths (s.widths ∙ ap (λ (ds : List Decl). length ds) none) in
+          let no_bits : length controller.outputs ≡ 0 = is.outputs ∙ machine.prefer ∙ sym machine.widths ∙ ap sum no_widths in
+          record {
+            name = ap (λ (g : Heading). g.name) heading ∙ is.name ∙ ap (λ f. f ++ codes "$ctl") its_machine.named;
+            outputs = ap (λ (g : Heading). g.outputs) heading ∙ ap (map (λ x. declared o.types (variable_at controller.variables x))) (none_left controller.outputs no_bits);
           }
 
   -- ---- all nodes
@@ -375,6 +409,81 @@ module _ (program : List Item) (o : Obc) (form : TypesForm o.types) (enums : Enu
       let chosen = own_has node p flat.0.signed controller own told of m (earlier ++ c ∷ []) (k ∷ ms) one made.1.0 h.1.0 in
       let tells = told_has node p flat.0.signed controller own told of k ((earlier ++ c ∷ []) ++ m ∷ []) ms two made.1.1.0 h.1.1.0 in
       found_here node rest f n found (chosen, λ some. tells) (each rest others all (((earlier ++ c ∷ []) ++ m ∷ []) ++ k ∷ []) ms three are flat.1 made.1.1.1 h.1.1.1 f n)
+
+  -- ---- own machines
+
+  -- the own machines of some nodes that have nothing to choose, and those of contracts around them
+  record OwnAmong (items : List Item) (plants : List FlatNode) (ms : List Machine) : Type 0 where
+    pub own : List Machine
+    pub made : AreMade o.types plants own
+    pub are : AreOfNodes items own ms
+
+  as_node : (node : Node) (m : Machine) → controls_of node.contract ≡ [] → heading_of_machine m ≡ own_heading node → heading_of_machine m ≡ heading_of_node node
+  as_node node m none headed =
+      let ins : node.inputs ≡ node.inputs ++ controls_of node.contract = sym (append-nil node.inputs) ∙ ap (λ ds. node.inputs ++ ds) (sym none) in
+      headed ∙ (λ i. record { name = node.name; inputs = vars_of (ins i); outputs = vars_of node.outputs })
+
+  owns : (items : List Item) (plants nodes : List FlatNode) (earlier ms : List Machine) → NoControls items → AreNodes program o.types observers items plants nodes
+      → AreFlat numbers (map (lowered_item enums) items) plants → AreMade o.types nodes ms → MachinesForm o.types earlier ms → OwnAmong items plants ms
+  owns items [] nodes earlier [] plain of_none flat made h = record { own = []; made = tt; are = AreOfNodes.of_none }
+  owns items (p ∷ plants) nodes earlier ms plain of_none flat made h = absurd flat
+  owns items [] nodes earlier (m ∷ ms) plain of_none flat made h = absurd made
+  owns items plants nodes earlier ms plain (of_a_type {items = rest} t are) flat made h =
+      let more = owns rest plants nodes earlier ms plain are flat made h in
+      record { own = more.own; made = more.made; are = AreOfNodes.of_a_type t more.are }
+  owns items plants nodes earlier [] plain (of_a_node node p these (without_contract none) are) flat made h = absurd made
+  owns items plants nodes earlier (m ∷ ms) plain (of_a_node {items = rest} {ns = others} {all = all} node p these (without_contract none) are) flat made h =
+      let more = owns rest others all (earlier ++ m ∷ []) ms plain.1 are flat.1 made.1 h.1 in
+      let headed = as_node node m plain.0 (plain_headed node p flat.0.signed plain.0 m earlier made.0 h.0) in
+      record { own = m ∷ more.own; made = (made.0, more.made); are = AreOfNodes.of_a_node node m (m ∷ []) headed (AreOfNode.own_alone none) more.are }
+  owns items plants nodes earlier [] plain (of_a_node node p these (with_contract controller own told some of) are) flat made h = absurd made
+  owns items plants nodes earlier (c ∷ []) plain (of_a_node node p these (with_contract controller own told some of) are) flat made h = absurd made.1
+  owns items plants nodes earlier (c ∷ m ∷ []) plain (of_a_node node p these (with_contract controller own told some of) are) flat made h = absurd made.1.1
+  owns items plants nodes earlier (c ∷ m ∷ k ∷ ms) plain (of_a_node {items = rest} {ns = others} {all = all} node p these (with_contract controller own told some of) are) flat made h =
+      let more = owns rest others all (((earlier ++ c ∷ []) ++ m ∷ []) ++ k ∷ []) ms plain.1 are flat.1 made.1.1.1 h.1.1.1 in
+      let chosen = of.chosen in
+      let same = own_stays node p own (t node p flat.0.signed controller own told of) plain.0 chosen.itself in
+      let its_own = subst (λ f. IsMachineOf o.types f m) same made.1.0 in
+      let headed = as_node node m plain.0 (plain_headed node p flat.0.signed plain.0 m (earlier ++ c ∷ []) its_own h.1.0) in
+      record {
+        own = m ∷ more.own;
+        made = (its_own, more.made);
+        are = AreOfNodes.of_a_node node m (c ∷ m ∷ k ∷ []) headed
+            (AreOfNode.with_contract c k some (gives_nothing node p flat.0.signed controller own told of plain.0 c made.0) (told_tells node p flat.0.signed controller own told of k ((earlier ++ c ∷ []) ++ m ∷ []) made.1.1.0 h.1.1.0)) more.are;
+      }
+
+headings_are : (items : List Item) (own all : List Machine) → AreOfNodes items own all → map heading_of_machine own ≡ headings_of items
+headings_are items own all AreOfNodes.of_none = refl
+headings_are items own all (AreOfNodes.of_a_type {items = rest} t are) = headings_are rest own all are
+headings_are items own all (AreOfNodes.of_a_node {items = rest} {own = others} {all = behind} n m these heading these_are are) =
+    let more = headings_are rest others behind are in
+    λ j. heading j ∷ more j
+
+pub plain_law : PlainLaw
+plain_law program o are plain =
+    let compiled = are.machines in
+    let equations = compiled.equations in
+    let have = compiled.have in
+    let enums = enumerations [] program in
+    let names : type_names (lowered_program program) ≡ names_of o.types = names_lowered enums program ∙ names_of_types program ∙ ap names_of (sym are.types) in
+    let flat = subst (λ xs. AreFlat (numbered 0 xs) (lowered_program program) compiled.plants) names equations.flat in
+    let its = owns program o are.form enums compiled.observers program compiled.plants have.nodes [] o.machines plain have.are flat have.made are.machines_form in (
+      record { types = o.types; machines = its.own },
+      record {
+        own_machines = record {
+          types = are.types;
+          form = are.form;
+          machines = headings_are program its.own o.machines its.are;
+          nodes = compiled.plants;
+          flat = equations.flat;
+          equations = equations.made;
+          made = its.made;
+        };
+        types = refl;
+        form = (are.form, are.machines_form);
+        machines = its.are;
+      },
+    )
 
 pub headed_law : HeadedLaw
 headed_law program o are f n found =

@@ -7,6 +7,8 @@ use Rattle.hp_tree.specs.Programs.{Node}
 use Rattle.hp_tree.specs.declared.program.Item.{Item}
 use Rattle.hp_controlled.specs.Chosen.{AreControlledMachines, IsChosen, IsToldBy}
 use Rattle.hp_controlled.specs.Choosing.{contract_name}
+use Rattle.hp_controlled.specs.Joining.{AreWithContracts}
+use Rattle.hp_meaning.specs.Causal.Runs.{NoControls}
 
 -- The machine of each node's name takes its inputs and gives its outputs; that of the name of its contract, if it has one, takes these too, and gives two truth values more.
 abbrev pub HaveTheirMachines : List Item → Obc → Type 0
@@ -15,3 +17,7 @@ HaveTheirMachines program o = (f : List ℕ) (n : Node) → node_among program f
 -- So it is of the machines that the compiler makes of a program whose nodes choose.
 abbrev pub HeadedLaw : Type 0
 HeadedLaw = (program : List Item) (o : Obc) → AreControlledMachines program o → HaveTheirMachines program o
+
+-- Of a program without controllable variables they are those of its nodes, and between them those of its contracts: of a controller that gives nothing, and of what is assumed and enforced.
+abbrev pub PlainLaw : Type 0
+PlainLaw = (program : List Item) (o : Obc) → AreControlledMachines program o → NoControls program → (own : Obc) × AreWithContracts program own o

@@ -7,7 +7,7 @@ ghost use Rattle.law_controlled.specs.Allowed.{AllowedLaw};
 ghost use Rattle.law_controlled.specs.Built.{ChosenBuiltLaw};
 ghost use Rattle.law_controlled.specs.Early.{CircleLaw, SomeWaitsLaw};
 ghost use Rattle.law_controlled.specs.Embedded.{EmbeddedLaw, OwnContractLaw, OwnEmbeddedLaw};
-ghost use Rattle.law_controlled.specs.Headed.{HeadedLaw};
+ghost use Rattle.law_controlled.specs.Headed.{HeadedLaw, PlainLaw};
 ghost use Rattle.law_controlled.specs.Machines.{MadeMachinesLaw, TurnMachinesLaw};
 ghost use Rattle.law_controlled.specs.Mirrored.{MirroredLaw};
 ghost use Rattle.law_controlled.specs.Names.{NamesLaw, PlantNamesLaw};
@@ -182,6 +182,11 @@ pub fn machines_of_texts_choose_the_greatest()
 /// Each node has a machine of its name, which takes its inputs and gives its outputs; and each contract one that gives two truth values more.
 pub fn nodes_have_their_machines()
     ensures { HeadedLaw }
+{}
+
+/// The machines of a program without controllable variables are those of its nodes, with those of its contracts between them.
+pub fn machines_without_choices_are_of_nodes()
+    ensures { PlainLaw }
 {}
 
 /// A program has one list of machines, as far as one can tell by running them: what the compiler is free in are the commands of controllers, and these give one choice and keep nothing.

@@ -1,4 +1,4 @@
-use Rattle.std.proofs.Common.{[], ◌≡◌, ◌≢◌, ◌++◌, ◌∙◌, ◌⊎◌, ⊎_elim, inl, inr, ℕ, List, true, refl, sym, ap, subst, rules, arith}
+use Rattle.std.proofs.Common.{[], ◌≡◌, ◌≢◌, ◌++◌, ◌∙◌, ⊎_elim, inl, inr, ℕ, List, true, refl, sym, ap, subst, rules, arith}
 use Rattle.std.specs.Vec.{vec_len}
 use Rattle.hp_io.specs.Told.{Grows}
 use Rattle.hp_io.proofs.FaultLaws.{AllSame-refl}

@@ -1,4 +1,4 @@
-use Rattle.std.proofs.Common.{[], ◌⊎◌, ⊎_elim, inl, inr, subst, arith}
+use Rattle.std.proofs.Common.{[], ⊎_elim, inl, inr, subst, arith}
 use Rattle.std.specs.Option.{option_copied}
 use Rattle.hp_io.specs.Told.{Grows}
 use Rattle.hp_io.proofs.FaultLaws.{Same-refl, Same-trans, Rose-behind, AllSame-trans}

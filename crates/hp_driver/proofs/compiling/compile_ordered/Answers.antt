@@ -16,6 +16,9 @@ returns-in_err-decide-clause-circuits c =
     let cause = c.in_err-decide.field-0.0 in
     handed HasCircuit c.from_residual.result (of_contract cause) c.from_residual.ensures.1 (has_circuit c.outcomes_are_so.ensures c.args.program.now c.args.ordered.program c.requires cause c.in_err-decide.ensures.refused)
 
+pub machines_of-requires-clause-arranged : goal.machines_of-requires-clause-arranged
+machines_of-requires-clause-arranged c = (c.args.program.now, c.requires)
+
 pub machines_of-requires-clause-kept : goal.machines_of-requires-clause-kept
 machines_of-requires-clause-kept c = c.in_ok-decide.ensures.kept
 
@@ -26,4 +29,4 @@ returns-in_err-machines-clause-compiled c = λ text found.
 pub returns-clause-compiled : goal.returns-clause-compiled
 returns-clause-compiled c = λ text found.
     compiled_by text c.args.program.now c.args.ordered.program found c.outcomes_are_so.ensures c.in_ok-decide.ensures.kept c.machines_run_the_nodes_of_texts.ensures c.machines_of_texts_are_built.ensures
-    c.machines_do_the_same_among_others.ensures.form c.own_machines_do_the_same.ensures c.machines_of_texts_choose_the_greatest.ensures c.in_ok-machines.machines c.in_ok-machines.ensures
+    c.machines_do_the_same_among_others.ensures.form c.own_machines_do_the_same.ensures c.machines_of_texts_choose_the_greatest.ensures c.in_ok-machines.machines (c.in_ok-machines.ensures c.args.program.now c.requires)

@@ -1,7 +1,7 @@
 use Rattle.std.proofs.Common.{[]}
 use Rattle.hp_io.proofs.ToldLaws.{Grows-nil}
 use Rattle.hp_driver.specs.Status.{code_of}
-use Rattle.hp_driver.proofs.CompileLaws.{left, written}
+use Rattle.hp_driver.proofs.CompileLaws.{left, uncompiled, written}
 use Rattle.hp_driver.proofs.MachineLaws.{nothing_written}
 use Rattle.hp_driver.proofs.source.write_program.Goals as goal
 
@@ -25,7 +25,7 @@ returns-in-Ok-clause-leaves g c = λ words file text judged only gives w.
 pub returns-in-Err-clause-outcome : goal.returns-in-Err-clause-outcome
 returns-in-Err-clause-outcome g c =
     let told = c.report_uncompiled.ensures.told in
-    (told.0, told.1, λ text judged only words files file w gives. told.2 c.args.out.now words files file text w gives (c.in-Err.ensures.compiled text judged only))
+    (told.0, told.1, λ text judged only words files file w gives. uncompiled c.in-Err.error told.0 (code_of c.report_uncompiled.result) told.2 c.args.out.now words files file text w gives (c.in-Err.ensures.compiled text judged only))
 
 pub returns-in-Err-clause-leaves : goal.returns-in-Err-clause-leaves
 returns-in-Err-clause-leaves g c = λ words file text judged only gives w. nothing_written words (g.F.Folder.files c.args.files.now) (code_of c.report_uncompiled.result) c.report_uncompiled.ensures.fails

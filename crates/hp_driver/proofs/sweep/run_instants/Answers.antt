@@ -15,16 +15,13 @@ loop-i-preserved c =
       e.outputs ∙ h.1 ∙ sym (ap (λ (s : SignatureData). length s.outputs) e.signature),
       e.counts ∙ h.2 ∙ sym e.outputs,
       e.inputs ∙ h.3,
-      e.counts ∙ h.4,
+      e.outputs ∙ h.4,
       λ b runs fresh none.
           let before = h.5 b runs fresh none in
-          (e.runs b before.0, e.kept b before.0 ∙ memory_next b many c.loop-i.i places (kept c.loop-i.exec) h.3 before.1, e.counted b before.0 ∙ counts_next b many c.loop-i.i places (kept c.loop-i.exec) h.3 before.1 c.loop-i.room.counts.items before.2),
+          (e.runs b before.0, e.kept b before.0 ∙ memory_next b many c.loop-i.i places (kept c.loop-i.exec) h.3 before.1, e.counted b before.0 ∙ counts_next b many c.loop-i.i places (kept c.loop-i.exec) h.3 before.1 (length c.args.room.now.outputs.items) c.loop-i.room.counts.items before.2),
     )
 
-pub returns-clause-long : goal.returns-clause-long
-returns-clause-long c = c.loop-i.invariant.4
-
-pub returns-clause-counted : goal.returns-clause-counted
-returns-clause-counted c = λ b runs fresh none.
+pub returns : goal.returns
+returns c = λ b runs fresh none.
     let all : c.loop-i.i ≡ c.args.instants = omega arith in
-    (c.loop-i.invariant.5 b runs fresh none).2 ∙ ap (counts_behind b (length c.args.room.now.inputs.items)) all
+    (c.loop-i.invariant.5 b runs fresh none).2 ∙ ap (counts_behind b (length c.args.room.now.inputs.items) (length c.args.room.now.outputs.items)) all

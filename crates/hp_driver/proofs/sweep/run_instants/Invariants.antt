@@ -8,6 +8,6 @@ use Rattle.hp_driver.proofs.sweep.run_instants.Given as goal
 abbrev pub invariant-loop-i : goal.invariant-loop-i
 invariant-loop-i l =
     (length l.room.inputs.items ≡ length l.exec.signature.inputs) × (length l.room.outputs.items ≡ length l.exec.signature.outputs) × (length l.room.counts.items ≡ length l.room.outputs.items)
-    × (length l.room.inputs.items ≡ length l.fn.room.inputs.items) × (length l.room.counts.items ≡ length l.fn.room.counts.items)
-    × ((b : Behaviour) → Runs l.fn.exec b → kept l.fn.exec ≡ b.reset → l.fn.room.counts.items ≡ replicate (length l.fn.room.inputs.items) 0
-    → Runs l.exec b × (kept l.exec ≡ memory_behind b (length l.fn.room.inputs.items) l.i) × (l.room.counts.items ≡ counts_behind b (length l.fn.room.inputs.items) l.i))
+    × (length l.room.inputs.items ≡ length l.fn.room.inputs.items) × (length l.room.outputs.items ≡ length l.fn.room.outputs.items)
+    × ((b : Behaviour) → Runs l.fn.exec b → kept l.fn.exec ≡ b.reset → l.fn.room.counts.items ≡ replicate (length l.fn.room.outputs.items) 0
+    → Runs l.exec b × (kept l.exec ≡ memory_behind b (length l.fn.room.inputs.items) l.i) × (l.room.counts.items ≡ counts_behind b (length l.fn.room.inputs.items) (length l.fn.room.outputs.items) l.i))
