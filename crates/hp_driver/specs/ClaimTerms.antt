@@ -97,9 +97,9 @@ DoesTheSame text program =
     × ((node : List ℕ) (n : Node) → node_among program node ≡ Some n →
     (m : Machine) × (machine_named o.machines node ≡ Some m) × AgreesWith (of_machine o node) (of_node program node))
 
--- Machines of a program whose contracts are kept. What they say over inputs of its kinds the program allows; where nothing
--- is free in a node but its inputs, and comparisons of integers and outputs of calls in its body, it has the greatest
--- permitted values; so it keeps its contract while the nodes that it calls keep theirs.
+-- Machines of a program whose contracts are kept. What they say over inputs of its kinds the program allows; a node that
+-- calls none in whose contract integers are compared has the greatest permitted values; so it keeps its contract while the
+-- nodes that it calls keep theirs.
 pub record Choose {files : Files} {file : List ℕ} (p : Program files file) (o : Obc) : Type 0 where
   pub kept : AllKept p
   pub says : AllSayGreatest p.clocked o

@@ -90,7 +90,7 @@ pub record AreWritten (files : Option Files) (file : List ℕ) (o : Obc) : Type 
   pub compiled : AreCompiled files file own
   pub with_contracts : AreWithContracts compiled.held.clocked own o
 
--- machines of the program that the file holds, of which each contract is kept; some node of it chooses the values of its controllable variables, or it is asked what contracts assume and enforce. What the machines of nodes say, the program allows; and where nothing is free in a node but its inputs, and comparisons of integers and outputs of calls in its body, these variables have the greatest permitted values, so the node keeps its contract while the nodes that it calls keep theirs
+-- machines of the program that the file holds, of which each contract is kept; some node of it chooses the values of its controllable variables, or it is asked what contracts assume and enforce. What the machines of nodes say, the program allows; and in a node that calls none in whose contract integers are compared, these variables have the greatest permitted values, so the node keeps its contract while the nodes that it calls keep theirs
 pub record AreChosen (files : Option Files) (file : List ℕ) (o : Obc) : Type 0 where
   pub program : List Item
   pub held : IsHeld files file program
@@ -116,7 +116,7 @@ pub record IsMachine (node : List ℕ) (o : Obc) : Type 0 where
   pub count : instance_count o.machines node ≤ most_instances
 
 -- The words ask to run this, and the file holds it: a node of a program without controllable variables whose contracts are kept, as it is once it is arranged, whose machine is within the limits; a machine of a text of machines;
--- or a machine of a program whose contracts are kept, which has the inputs and outputs of the node of the name, and says what the program allows. Controllable variables have the greatest permitted values where nothing is free in the node but its inputs, and comparisons of integers and outputs of calls in its body; elsewhere it is said that they have values of their types.
+-- or a machine of a program whose contracts are kept, which has the inputs and outputs of the node of the name, and says what the program allows. Controllable variables have the greatest permitted values in a node that calls none in whose contract integers are compared; elsewhere it is said that they have values of their types.
 pub data IsAskedFor (words : List (List ℕ)) (files : Option Files) : System → Type 0 where
   a_node : {file node : List ℕ} {o : Obc} → IsRunOf words file node → (compiled : AreCompiled files file o) → IsMachine node o → IsAskedFor words files (of_node compiled.held.clocked node)
   a_machine : {file node : List ℕ} {o : Obc} → IsExecOf words file node → AreMachines files file o → IsMachine node o → IsAskedFor words files (of_machine o node)
