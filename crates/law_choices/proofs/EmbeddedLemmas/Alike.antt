@@ -10,7 +10,7 @@ use Rattle.hp_tree.specs.Expressions.{Expr, constant, variable, last_of, one, tw
 use Rattle.hp_tree.specs.Blocks.{Decl, Block, block, Eqns, no_eqn, more_eqns, Eqn, define, switch, reset, automaton, Arms, no_arm, more_arms, States, no_state, more_states}
 use Rattle.hp_tree.specs.Programs.{TypeDecl}
 use Rattle.hp_tree.specs.Operators.{real, is_cons, is_true, if_of, constant_of}
-use Rattle.hp_tree.specs.Instant.{Body, Named, Equations, Head, Tail, Right, Test, Arms as ArmsOf, States as StatesOf, Until, Unless, First, Second, Third, Args, Instant, Past, Given, at, part, parts, top, since, own, newest, at_first, nothing, alone, with_one, with_two, with_three, in_row, with_row, of_two, in_block, in_right, with_arms, with_body, in_state, with_words, Clock, holds, without}
+use Rattle.hp_tree.specs.Instant.{Body, Named, Equations, Head, Tail, Right, Test, Arms as ArmsOf, States as StatesOf, Until, Unless, First, Second, Third, Args, Instant, Past, part, parts, top, since, own, newest, at_first, nothing, alone, with_one, with_two, with_three, in_row, with_row, of_two, in_block, in_right, with_arms, with_body, in_state, with_words, Clock, holds, without}
 use Rattle.hp_tree.specs.Meaning.{Names, Nodes, defines, some_defines, inside, within, lasts, clock_in, clock_of, Jump, state_word, selected, first_true, from_state, expr, merged, conditions, strong, weak, from_arm, right, gives, defined, scope, equations, equation, arm, states}
 use Rattle.hp_meaning.specs.Causal.Clocked.{AllRight, ArmsRight, BlockRight, ClockRight, ConditionsOn, IsOn, OneRight, PartsOn, Standing, StatesRight, base_alone, standing_in}
 use Rattle.hp_meaning.proofs.CausalLemmas.Choices.{chosen}

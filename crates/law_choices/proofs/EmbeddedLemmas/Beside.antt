@@ -1,5 +1,5 @@
 -- Beside the instants of a node with a contract, one after another, there are those of the contract's observer. Nothing is said here of the program in which the node stands, so it serves for instances too.
-use Rattle.std.proofs.Common.{◌≡◌, ℕ, ◌<◌, List, [], ◌∷◌, ◌++◌, map, length, refl, sym, ap, ap₂, subst, ◌∙◌}
+use Rattle.std.proofs.Common.{◌≡◌, ℕ, ◌<◌, List, [], ◌∷◌, ◌++◌, map, length, refl, sym, ap, subst, ◌∙◌}
 use Rattle.std.proofs.Math.Path.{fun_ext}
 use Rattle.std.specs.Prelude.{⊤, false, ◌||◌, if◌then◌else◌, IsTrue, Option, None, Some}
 use Rattle.std.specs.List.{AllByRecursion}

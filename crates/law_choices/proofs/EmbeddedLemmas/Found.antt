@@ -16,13 +16,13 @@ use Rattle.law_drawing.proofs.SteeredLemmas.NothingCalled.{contract_none}
 use Rattle.law_drawing.proofs.SteeredLemmas.Uncalled.{ContractCallsNothing}
 use Rattle.law_equations.specs.Flattened.Flatten.{Prefix, below}
 use Rattle.law_judged.specs.Named.Scoped.{equations_of}
-use Rattle.hp_watch.specs.Observing.{all_handed_on, condition_of, declared, lines_of, observer_of, with_lines}
-use Rattle.hp_watch.specs.Walk.{Walked, behind, walk, walk_block, walk_condition, walk_contract, walk_eqn, walk_eqns}
+use Rattle.hp_watch.specs.Observing.{all_handed_on, condition_of, declared, lines_of, with_lines}
+use Rattle.hp_watch.specs.Walk.{behind, walk, walk_block, walk_condition, walk_eqn, walk_eqns}
 use Rattle.law_choices.specs.Adding.Worked.{nowhere}
 use Rattle.law_choices.specs.Depending.Contracts.{at_assumed, at_enforced, behind_all, found_in_contract, found_told, in_observer}
-use Rattle.law_choices.specs.Embedded.Found.{ContractFoundLaw, ContractWalkLaw, HoldsNoCall, IsSeenBeside}
+use Rattle.law_choices.specs.Embedded.Found.{ContractFoundLaw, ContractWalkLaw, IsSeenBeside}
 use Rattle.law_choices.specs.Embedded.Observed.{IsObserved, SameEqns, SameTold, behind_eqns, eqns_in}
-use Rattle.law_choices.specs.Places.Found.{Both, found_in_block, found_in_eqn, found_in_eqns, found_in_node}
+use Rattle.law_choices.specs.Places.Found.{Both, found_in_block, found_in_eqn, found_in_eqns}
 use Rattle.law_choices.specs.Places.Groups.{AreAlike, IsGroupOf, groups_of_block, groups_of_contract, groups_of_told}
 use Rattle.law_choices.specs.Places.Laws.{places_of}
 use Rattle.law_choices.specs.Places.Spots.{Spot, compared, called}

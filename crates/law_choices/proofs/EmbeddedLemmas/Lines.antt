@@ -1,5 +1,5 @@
 -- What stands in an observer behind the equations of its contract: what is assumed and enforced, and the outputs of the node, handed on from inputs.
-use Rattle.std.proofs.Common.{◌≡◌, ℕ, suc, ◌+◌, ◌<◌, ◌≤◌, List, [], ◌∷◌, ◌++◌, map, length, refl, sym, ap, ap₂, subst, ◌∙◌, arith}
+use Rattle.std.proofs.Common.{◌≡◌, ℕ, ◌+◌, ◌<◌, ◌≤◌, List, [], ◌∷◌, ◌++◌, map, length, refl, sym, ap, ap₂, ◌∙◌, arith}
 use Rattle.std.proofs.lemmas.Fmt.{decimal_injective}
 use Rattle.std.proofs.lemmas.List.{append_cancel_left}
 use Rattle.std.specs.Prelude.{⊤, Bool, true, false, ◌||◌, if◌then◌else◌, IsTrue, Option, None, Some, codes, decimal}
@@ -12,7 +12,7 @@ use Rattle.hp_tree.specs.Blocks.{Decl, Eqns, eqns_of}
 use Rattle.hp_tree.specs.Programs.{TypeDecl, Contract, Node}
 use Rattle.hp_tree.specs.Operators.{real}
 use Rattle.hp_tree.specs.Instant.{Step, Observer, Assume, Enforce, Named, Equations, Head, Tail, Right, Instant, Past, Given, part, parts, top, nothing, alone, of_two, in_right, in_block, holds}
-use Rattle.hp_tree.specs.Meaning.{Names, Nodes, declares, some_defines, clock_in, input_of, defined, equations, expr, right}
+use Rattle.hp_tree.specs.Meaning.{Names, Nodes, declares, some_defines, clock_in, input_of, defined, equations, expr}
 use Rattle.hp_meaning.specs.Causal.Clocked.{Standing, TellsOnBase}
 use Rattle.hp_meaning.proofs.CausalLemmas.Swap.{given}
 use Rattle.law_drawing.proofs.SteeredLemmas.Uncalled.{CallsNothing, ToldCallsNothing}
@@ -21,7 +21,7 @@ use Rattle.hp_watch.specs.Observing.{all_handed_on, assumed, condition_of, enfor
 use Rattle.law_choices.specs.Embedded.Observed.{outputs_of_instant}
 use Rattle.law_choices.proofs.ObservedLemmas.Bodies.{false_unless, or_false}
 use Rattle.law_choices.proofs.EmbeddedLemmas.Alike.{Alike, expr_alike, right_top}
-use Rattle.law_choices.proofs.EmbeddedLemmas.Put.{parts_made, put_behind}
+use Rattle.law_choices.proofs.EmbeddedLemmas.Put.{put_behind}
 
 -- ---- an instant of the observer, made of one of the node
 

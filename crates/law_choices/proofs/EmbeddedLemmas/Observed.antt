@@ -1,18 +1,18 @@
 -- Beside an instant of a node with a contract there is one of the contract's observer, which holds what the contract's part holds.
-use Rattle.std.proofs.Common.{◌≡◌, ◌⊎◌, inl, inr, ℕ, ◌+◌, ◌<◌, List, [], ◌∷◌, ◌++◌, map, length, refl, sym, ap, ap₂, subst, ◌∙◌, arith}
+use Rattle.std.proofs.Common.{◌≡◌, ℕ, ◌<◌, List, [], ◌∷◌, ◌++◌, map, length, refl, sym, ap, ap₂, ◌∙◌, arith}
 use Rattle.std.proofs.Math.Path.{fun_ext}
 use Rattle.std.proofs.lemmas.List.{append-nil}
-use Rattle.std.specs.Prelude.{⊤, Bool, true, false, ◌||◌, if◌then◌else◌, IsTrue, Option, None, Some}
+use Rattle.std.specs.Prelude.{Bool, true, false, ◌||◌, if◌then◌else◌, IsTrue, Option, None, Some}
 use Rattle.std.specs.List.{AllByRecursion}
 use Rattle.std.specs.Str.{bytes_eq}
 use Rattle.hp_base.specs.declared.ty.Const.{Const}
 use Rattle.hp_base.specs.declared.ty.Ty.TheVariants as ty
 use Rattle.hp_base.specs.declared.value.Value.{Value}
 use Rattle.hp_base.specs.declared.value.Value.TheVariants.{Absent, B}
-use Rattle.hp_tree.specs.Blocks.{Decl, Block, block, Eqns, Eqn, eqns_of, list_of_eqns}
+use Rattle.hp_tree.specs.Blocks.{Decl, block, Eqns, Eqn, eqns_of, list_of_eqns}
 use Rattle.hp_tree.specs.Programs.{TypeDecl, Contract, Node}
 use Rattle.hp_tree.specs.Operators.{real, constant_of}
-use Rattle.hp_tree.specs.Instant.{Body, Observer, Assume, Enforce, Named, Fresh, Equations, Head, Tail, Right, Instant, Past, part, parts, own, own_with, in_block, Clock}
+use Rattle.hp_tree.specs.Instant.{Body, Observer, Assume, Enforce, Named, Fresh, Equations, Head, Tail, Right, Instant, Past, part, parts, own, own_with, in_block}
 use Rattle.hp_tree.specs.Meaning.{Names, Nodes, absent, declares, some_defines, inside, previous, lasts, clock_in, input_of, defined, scope, equations}
 use Rattle.hp_meaning.specs.Causal.Clocked.{AllRight, Standing, TellsOnBase, base_alone, on_base, standing_in}
 use Rattle.hp_meaning.proofs.CausalLemmas.Swap.{given}

@@ -1,11 +1,11 @@
 -- Equations with others behind them: where names that stand on clocks have the same values, each part holds what it says by itself.
-use Rattle.std.proofs.Common.{◌≡◌, ℕ, List, [], ◌∷◌, ◌++◌, map, refl, sym, ap, ap₂, subst, ◌∙◌}
+use Rattle.std.proofs.Common.{◌≡◌, ℕ, List, [], ◌∷◌, ◌++◌, map, refl, sym, ap, ap₂, ◌∙◌}
 use Rattle.std.specs.Prelude.{Bool, true, false, ◌||◌, if◌then◌else◌}
 use Rattle.hp_base.specs.declared.value.Value.{Value}
 use Rattle.hp_tree.specs.Blocks.{Decl, Eqns, no_eqn, more_eqns, Eqn, eqns_of, list_of_eqns}
 use Rattle.hp_tree.specs.Programs.{TypeDecl}
 use Rattle.hp_tree.specs.Operators.{real}
-use Rattle.hp_tree.specs.Instant.{Step, Head, Tail, Instant, Past, Place, part, parts, of_two}
+use Rattle.hp_tree.specs.Instant.{Step, Head, Tail, Instant, Past, part, parts, of_two}
 use Rattle.hp_tree.specs.Meaning.{Names, Nodes, defines, some_defines, clock_in, gives, defined, equations, equation}
 use Rattle.hp_meaning.specs.Causal.Clocked.{AllRight, Standing}
 use Rattle.hp_meaning.proofs.CausalLemmas.Swap.{given}

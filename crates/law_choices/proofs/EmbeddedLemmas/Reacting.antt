@@ -6,7 +6,7 @@ use Rattle.hp_tree.specs.declared.program.Item.{Item}
 use Rattle.hp_tree.specs.Programs.{TypeDecl, Contract, Node}
 use Rattle.hp_tree.specs.Operators.{real}
 use Rattle.hp_tree.specs.Instant.{Instant, Given, nothing}
-use Rattle.hp_tree.specs.Meaning.{declares, node, node_among, types_of}
+use Rattle.hp_tree.specs.Meaning.{declares, node_among, types_of}
 use Rattle.hp_meaning.specs.Causal.Clocked.{ClocksRight, ContractRight, on_base}
 use Rattle.hp_meaning.specs.Causal.OneReaction.{ReactionOf}
 use Rattle.hp_meaning.specs.Contract.Forgetting.{ContractsCallNothing}

@@ -5,7 +5,7 @@ use Rattle.hp_base.specs.declared.value.Value.{Value}
 use Rattle.hp_tree.specs.declared.program.Item.{Item}
 use Rattle.hp_tree.specs.Programs.{TypeDecl, Contract, Node}
 use Rattle.hp_tree.specs.Operators.{real}
-use Rattle.hp_tree.specs.Instant.{Instant, Past, nothing}
+use Rattle.hp_tree.specs.Instant.{Past, nothing}
 use Rattle.hp_tree.specs.Meaning.{Nodes}
 use Rattle.hp_meaning.proofs.CausalLemmas.Swap.{given}
 use Rattle.law_automata.specs.Lowered.Standing.{Along}
