@@ -6,7 +6,6 @@ pub mod Beside
 pub mod Programs
 pub mod Reacting
 pub mod Running
-pub mod Rowed
 pub mod Found
 pub mod Meaning
 pub mod Moved

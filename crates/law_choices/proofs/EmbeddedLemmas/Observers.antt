@@ -1,8 +1,7 @@
 -- The observer of a node with a contract, among those of a program.
-use Rattle.std.proofs.Common.{◌≡◌, ℕ, ◌+◌, List, [], ◌∷◌, ◌++◌, map, reverse, Some, refl, sym, ap, subst, ◌∙◌}
+use Rattle.std.proofs.Common.{◌≡◌, ℕ, ◌+◌, List, [], ◌∷◌, ◌++◌, map, Some, refl, sym, ap, subst, ◌∙◌}
 use Rattle.std.specs.List.{AllByRecursion}
 use Rattle.std.specs.Prelude.{Option, None, filter}
-use Rattle.std.proofs.lemmas.Grind.{flat_map-append}
 use Rattle.std.proofs.lemmas.List.{map-append}
 use Rattle.hp_base.specs.Kinds.{AreOfKinds, KindData}
 use Rattle.hp_base.specs.declared.value.Value.{Value}
@@ -10,22 +9,18 @@ use Rattle.hp_tree.specs.declared.program.Item.{Item}
 use Rattle.hp_tree.specs.declared.program.Item.TheVariants.{NodeItem, TypeItem}
 use Rattle.hp_tree.specs.Blocks.{Decl}
 use Rattle.hp_tree.specs.Instant.{Past}
-use Rattle.hp_tree.specs.Meaning.{node_among}
 use Rattle.hp_tree.specs.Programs.{Contract, Node, TypeDecl}
 use Rattle.hp_meaning.specs.Causal.Points.{points_of_contract}
 use Rattle.hp_meaning.specs.Contract.Forgetting.{ContractsCallNothing}
 use Rattle.hp_meaning.specs.Contract.FreePlaces.{is_call}
 use Rattle.hp_automata.specs.Lowering.{Enumerations, lowered_item, lowered_node}
 use Rattle.hp_flat.specs.Nodes.{FlatNode}
-use Rattle.law_automata.proofs.LowerableLemmas.Texts.{onto}
-use Rattle.law_equations.specs.Answered.Answering.{AreApart}
 use Rattle.law_equations.specs.Followed.Programs.{all_answers}
 use Rattle.law_equations.specs.Made.Making.{Known}
-use Rattle.law_history.proofs.StreamsLemmas.NamesApart.{own_found}
 use Rattle.law_judged.specs.Named.Scoped.{EachNode}
 use Rattle.law_wellmade.specs.Timely.Kinds.{kind_of, kinds_of_decls}
 use Rattle.hp_complete.specs.Made.{AreMadeOf, IsMadeOf}
-use Rattle.hp_watch.specs.Observing.{inputs_for, item_of, observer_if, observer_of, observers}
+use Rattle.hp_watch.specs.Observing.{inputs_for, observer_if, observer_of, observers}
 use Rattle.law_choices.specs.Embedded.Observed.{observed_rows, outputs_of_instant}
 use Rattle.law_choices.specs.InTurn.Observed.{EachObserved, contracted_nodes, with_contract}
 
@@ -57,23 +52,6 @@ module _ (k : Known) (enums : Enumerations) (K : FlatNode → Type 0) (P : Node 
       by (Some d) e rest [] made known are = absurd made
       by (Some d) e rest (f ∷ fs) made known are =
           (λ c is. (let same : d ≡ c = (let both = sym e ∙ is in cc) in subst (HasObserver n) same (record { node = f; made = made.0; known = known.0; is = are.0 })), rest fs made.1 known.1 are.1)
-
--- ---- its name
-
-turned : (n : Node) (o : Option Contract) (xs ys : List Item) → onto (observer_if n o ++ xs) ys ≡ onto xs (observer_if n o ++ ys)
-turned n None xs ys = refl
-turned n (Some c) xs ys = refl
-
-observers-turned : (xs ys : List Item) → onto (observers xs) (observers ys) ≡ observers (onto xs ys)
-observers-turned [] ys = refl
-observers-turned (TypeItem t ∷ xs) ys = observers-turned xs (TypeItem t ∷ ys)
-observers-turned (NodeItem n ∷ xs) ys = turned n n.contract (observers xs) (observers ys) ∙ observers-turned xs (NodeItem n ∷ ys)
-
-pub observer-found : (after later earlier : List Item) (n : Node) (c : Contract) → reverse after ≡ later ++ NodeItem n ∷ earlier → n.contract ≡ Some c → AreApart (reverse (observers after)) → node_among (reverse (observers after)) n.name ≡ Some (observer_of n c)
-observer-found after later earlier n c stands is apart =
-    let split : reverse (observers after) ≡ observers later ++ (NodeItem (observer_of n c) ∷ observers earlier) =
-    observers-turned after [] ∙ ap observers stands ∙ flat_map-append item_of later (NodeItem n ∷ earlier) ∙ ap (λ o. observers later ++ (observer_if n o ++ observers earlier)) is in
-    ap (λ xs. node_among xs n.name) split ∙ own_found (observers later) (observers earlier) (observer_of n c) (subst AreApart split apart)
 
 -- ---- contracts call nothing
 

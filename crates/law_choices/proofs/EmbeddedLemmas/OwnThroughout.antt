@@ -1,5 +1,5 @@
 -- Throughout a reaction of a node with a contract, the equations that choose hold values of the free places of the contract.
-use Rattle.std.proofs.Common.{◌≡◌, ℕ, List, [], ◌++◌, length, map, reverse, Some, refl, sym, ap, subst, ◌∙◌}
+use Rattle.std.proofs.Common.{◌≡◌, ℕ, List, [], ◌++◌, length, map, reverse, Some, sym, ap, subst, ◌∙◌}
 use Rattle.std.specs.List.{AllByRecursion}
 use Rattle.std.specs.Prelude.{filter}
 use Rattle.hp_base.specs.Kinds.{AreOfKinds}
@@ -16,8 +16,7 @@ use Rattle.hp_meaning.specs.Contract.Forgetting.{ContractsCallNothing}
 use Rattle.hp_meaning.specs.Contract.FreePlaces.{is_call}
 use Rattle.hp_meaning.specs.Contract.Slots.{free_among, slots_of_contract}
 use Rattle.hp_automata.specs.Lowering.{enumerations, lowered_node, lowered_program}
-use Rattle.law_automata.proofs.LowerableLemmas.Texts.{clocked_of, each_reverse}
-use Rattle.hp_expand.specs.Numbering.{replaced}
+use Rattle.law_automata.proofs.LowerableLemmas.Texts.{each_reverse}
 use Rattle.hp_flat.specs.Nodes.{FlatNode}
 use Rattle.law_equations.specs.Flattened.Flatten.{Prefix, below}
 use Rattle.law_equations.specs.Made.Making.{Known, sketch_node}
@@ -29,7 +28,6 @@ use Rattle.law_games.specs.ReadyGames.Laws.{IsInOrder, Stands}
 use Rattle.law_history.proofs.StreamsLemmas.NamesApart.{each_found}
 use Rattle.law_judged.specs.Named.Scoped.{EachNode}
 use Rattle.law_wellmade.specs.Timely.Kinds.{kinds_of_decls}
-use Rattle.law_wellmade.proofs.BegunLemmas.NamesApart.{lowered_apart}
 use Rattle.hp_complete.specs.Declaring.{known_of}
 use Rattle.hp_watch.specs.Embedding.{shift_of}
 use Rattle.hp_watch.specs.Observing.{observer_of}
@@ -57,14 +55,14 @@ use Rattle.law_choices.proofs.BroughtLemmas.Apiece.{outputs-anywhere, types_apie
 use Rattle.law_choices.proofs.BroughtLemmas.Brought.{Brings, free_types}
 use Rattle.law_choices.proofs.BroughtLemmas.Programs.{calls_bring, observer-apiece}
 use Rattle.law_choices.proofs.EmbeddedLemmas.Instants.{AllTold, instants-told}
-use Rattle.law_choices.proofs.EmbeddedLemmas.Observers.{HasObserver, each-has, each-silent, kinds-of-observer, observer-found}
+use Rattle.law_choices.proofs.EmbeddedLemmas.Observers.{HasObserver, each-has, each-silent, kinds-of-observer}
+use Rattle.law_choices.proofs.EmbeddedLemmas.Programs.{among_observers}
+use Rattle.law_choices.proofs.ObservedLemmas.Accepted.{reverse_observed}
 use Rattle.law_choices.proofs.EmbeddedLemmas.OwnRows.{all-own}
 use Rattle.law_choices.proofs.EmbeddedLemmas.OwnSite.{own-runs}
 use Rattle.law_choices.proofs.EmbeddedLemmas.SiteRows.{HaveInputs, site-rows}
 use Rattle.law_choices.proofs.InTurnLemmas.Contracted.{Ground, NodeLaws}
 use Rattle.law_choices.proofs.InTurnLemmas.Observed.{types_observed}
-use Rattle.law_choices.proofs.ObservedLemmas.Apart.{observers_apart}
-use Rattle.law_choices.proofs.ObservedLemmas.Programs.{with_automata}
 use Rattle.law_choices.proofs.ObservedLemmas.Standing.{enums_same}
 use Rattle.law_choices.proofs.PlacesLemmas.Grouped.{contract-row}
 use Rattle.law_choices.proofs.PlacesLemmas.Slots.{outputs_slots}
@@ -72,7 +70,6 @@ use Rattle.law_choices.proofs.PlayingLemmas.Asking.{seen, survey}
 use Rattle.law_choices.proofs.SeeingLemmas.HeldRows.{HoldRowsThroughout}
 use Rattle.law_choices.specs.Choosing.Meaning.{HasOneMeaningUnder}
 use Rattle.law_choices.specs.OnClocks.WellMade.{callees_of}
-use Rattle.law_equations.specs.Answered.Answering.{AreApart}
 use Rattle.law_choices.specs.Adding.Surveyed.{Suits}
 use Rattle.hp_base.specs.declared.ty.Ty.{Ty}
 use Rattle.law_choices.proofs.PlacesLemmas.Numbers.{AtNumber}
@@ -105,12 +102,6 @@ module _ (laws : ContractLaws) (nodes : NodeLaws) (program after : List Item) (r
 
   keep : (one : HasOneMeaningUnder no_choice (callees_of seen_program) those.nodes) × AllKeepPlaces no_choice seen_program one.answers those.nodes
   keep = laws.keep program after ranks order h.removable h.form h.short silent observable those.nodes those.equations
-
-  apart_low : AreApart (reverse (lowered_program after))
-  apart_low = let ready = h.ready in lowered_apart program after ready.named (clocked_of (replaced program) after ready.clocks)
-
-  apart_seen : AreApart (reverse seen_program)
-  apart_seen = with_automata (enumerations [] seen_program) seen_program [] [] (λ f. refl) tt (observers_apart after apart_low)
 
   abbrev k_seen : Known
   k_seen = known_of (lowered_program seen_program)
@@ -188,7 +179,7 @@ module _ (laws : ContractLaws) (nodes : NodeLaws) (program after : List Item) (r
         let I = its in
         let based = suits.based in
         let name : o.name ≡ n.name = (I.made).name in
-        let there : node_among (reverse seen_program) o.name ≡ Some (observer_of n k) = ap (node_among (reverse seen_program)) name ∙ observer-found after stands.0 earlier n k stands.1 has apart_seen in
+        let there : node_among (reverse seen_program) o.name ≡ Some (observer_of n k) = ap (node_among (reverse seen_program)) name ∙ (ap (λ xs. node_among xs n.name) (reverse_observed after) ∙ among_observers (reverse after) n.name n k own has) in
         let R = observed_rows n.outputs rows past in
         let moved : Reaction answers o R (map (moved_in (length o.variables) (length c.plant.variables)) instants) =
         subst (λ rs. Reaction answers o rs (map (moved_in (length o.variables) (length c.plant.variables)) instants)) (site-rows (length n.inputs) c.plant n.outputs rows past instants inputs outputs)

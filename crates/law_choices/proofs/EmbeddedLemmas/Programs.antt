@@ -1,7 +1,5 @@
 -- Nodes by their names, the observer of one that is found, and what a node does in a program with chosen values.
-use Rattle.std.proofs.Common.{◌≡◌, ℕ, List, [], ◌∷◌, ◌++◌, map, reverse, refl, sym, ap, subst, ◌∙◌}
-use Rattle.std.proofs.lemmas.Grind.{flat_map-append}
-use Rattle.std.proofs.lemmas.List.{append-nil, reverse-append}
+use Rattle.std.proofs.Common.{◌≡◌, ℕ, List, [], ◌∷◌, ◌++◌, map, refl, sym, ap, ◌∙◌}
 use Rattle.std.specs.Prelude.{Bool, true, false, if◌then◌else◌, Option, None, Some}
 use Rattle.std.specs.Str.{bytes_eq}
 use Rattle.hp_base.specs.declared.value.Value.{Value}
@@ -13,9 +11,7 @@ use Rattle.hp_tree.specs.Instant.{Instant, Past, Given, nothing}
 use Rattle.hp_tree.specs.Meaning.{Nodes, node, node_among}
 use Rattle.hp_meaning.specs.Causal.OneReaction.{ReactionOf}
 use Rattle.hp_meaning.proofs.CausalLemmas.Swap.{given}
-use Rattle.law_automata.proofs.LoweredLemmas.Apart.{same_bytes}
-use Rattle.law_judged.specs.Named.Scoped.{EachNode}
-use Rattle.hp_watch.specs.Observing.{item_of, observer_if, observer_of, observers}
+use Rattle.hp_watch.specs.Observing.{observer_if, observer_of, observers}
 use Rattle.law_choices.specs.Choosing.Choices.{Choices}
 use Rattle.law_choices.specs.Runs.Chosen.{chosen_given, chosen_nodes}
 use Rattle.law_choices.proofs.EmbeddedLemmas.Beside.{Goes, GoesAnyhow, IsWatched}
@@ -24,26 +20,6 @@ use Rattle.law_choices.proofs.EmbeddedLemmas.Beside.{Goes, GoesAnyhow, IsWatched
 
 same_node : (m n : Node) → Some m ≡ Some n → m ≡ n
 same_node m n e = cc
-
--- what is so of each node is so of the one that is found
-pub each_found : (P : Node → Type 0) (items : List Item) (f : List ℕ) (n : Node) → EachNode P items → node_among items f ≡ Some n → P n
-each_found P [] f n h e = absurd cc
-each_found P (TypeItem t ∷ items) f n h e = each_found P items f n h e
-each_found P (NodeItem m ∷ items) f n h e = by (bytes_eq m.name f) e (each_found P items f n h.1)
-  where
-    by : (b : Bool) → (if b then Some m else node_among items f) ≡ Some n → (node_among items f ≡ Some n → P n) → P n
-    by true q k = subst P (same_node m n q) h.0
-    by false q k = k q
-
--- it has the name
-pub found_name : (items : List Item) (f : List ℕ) (n : Node) → node_among items f ≡ Some n → f ≡ n.name
-found_name [] f n e = absurd cc
-found_name (TypeItem t ∷ items) f n e = found_name items f n e
-found_name (NodeItem m ∷ items) f n e = by (bytes_eq m.name f) refl e (found_name items f n)
-  where
-    by : (b : Bool) → bytes_eq m.name f ≡ b → (if b then Some m else node_among items f) ≡ Some n → (node_among items f ≡ Some n → f ≡ n.name) → f ≡ n.name
-    by true q e k = sym (same_bytes m.name f q) ∙ ap (λ (z : Node). z.name) (same_node m n e)
-    by false q e k = k e
 
 -- ---- the observer of a node that is found
 
@@ -66,23 +42,6 @@ among_observers (NodeItem m ∷ items) f n c e h = by (bytes_eq m.name f) refl e
         → node_among (observer_if m m.contract ++ observers items) f ≡ Some (observer_of n c)
     by true q e k = let same = same_node m n e in here m.contract (ap (λ (z : Node). z.contract) same ∙ h) q same
     by false q e k = among_if m m.contract (observers items) f (observer_of n c) q (k e)
-
-reverse_few : (x : Item) → reverse (item_of x) ≡ item_of x
-reverse_few (TypeItem t) = refl
-reverse_few (NodeItem n) = few n.contract
-  where
-    few : (o : Option Contract) → reverse (observer_if n o) ≡ observer_if n o
-    few None = refl
-    few (Some c) = refl
-
-pub reverse_observers : (items : List Item) → reverse (observers items) ≡ observers (reverse items)
-reverse_observers [] = refl
-reverse_observers (x ∷ items) =
-    reverse-append (item_of x) (observers items)
-    ∙ ap (λ ys. ys ++ reverse (item_of x)) (reverse_observers items)
-    ∙ ap (λ ys. observers (reverse items) ++ ys) (reverse_few x ∙ sym (append-nil (item_of x)))
-    ∙ sym (flat_map-append item_of (reverse items) (x ∷ []))
-    ∙ ap observers (sym (reverse-append (x ∷ []) items))
 
 -- ---- what a node does in a program
 

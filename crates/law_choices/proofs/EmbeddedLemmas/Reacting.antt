@@ -28,7 +28,9 @@ use Rattle.law_choices.proofs.ObservedLemmas.Clocks.{outputs_based}
 use Rattle.law_choices.proofs.ObservedLemmas.Removable.{AllBase}
 use Rattle.law_choices.proofs.OnClocksLemmas.Programs.{ready_clocks}
 use Rattle.law_choices.proofs.EmbeddedLemmas.Beside.{IsWatched, all_observed, instants_of, observer_goes}
-use Rattle.law_choices.proofs.EmbeddedLemmas.Programs.{among_observers, does_there, each_found, found_name, goes_reacting, reaction_goes, reverse_observers}
+use Rattle.law_choices.proofs.EmbeddedLemmas.Programs.{among_observers, does_there, goes_reacting, reaction_goes}
+use Rattle.law_choices.proofs.ObservedLemmas.Accepted.{reverse_observed}
+use Rattle.law_history.proofs.StreamsLemmas.NamesApart.{each_found, name_found}
 
 -- what is known of a node of a program in order, whose contract can be observed
 pub watched : (program after : List Item) (ranks : List (List ℕ)) → IsInOrder program after ranks → ContractsCallNothing after → EachNode IsObservable after
@@ -63,7 +65,7 @@ observer_reacts_law program after ranks o nothing_called observable choices othe
     let m = observer_of n c in
     let there = does_there choices types (reverse after) f n e in
     let found : node_among (reverse (observers after)) n.name ≡ Some m =
-    ap (λ items. node_among items n.name) (reverse_observers after) ∙ among_observers (reverse after) n.name n c (subst (λ z. node_among (reverse after) z ≡ Some n) (found_name (reverse after) f n e) e) h in
+    ap (λ items. node_among items n.name) (reverse_observed after) ∙ among_observers (reverse after) n.name n c (subst (λ z. node_among (reverse after) z ≡ Some n) (sym (name_found (reverse after) f n e)) e) h in
     let beside = does_there others types (reverse (observers after)) n.name m found in
     let goes = reaction_goes types there.before beside.before n c w choices (chosen_meaning choices real after f) there.does rows (map (λ (vs : List Value). nothing) rows) past reaction in
     let said : List Value → Given → Instant → Instant = (chosen_nodes others types real (reverse (observers after))).instant n.name in
