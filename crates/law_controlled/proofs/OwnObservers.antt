@@ -84,12 +84,12 @@ module _ (k : Known) (enums : Enumerations) where
   as-many [] [] made = tt
   as-many [] (f ∷ fs) made = absurd made
   as-many (TypeItem t ∷ items) fs made = as-many items fs made
-  as-many (NodeItem n ∷ items) fs made = by n.contract fs made
+  as-many (NodeItem n ∷ items) fs made = by n.contract fs made (λ gs m. as-many items gs m)
     where
-      by : (o : Option Contract) (gs : List FlatNode) → AreMadeOf k (low (observer_if n o ++ observers items)) gs → EachObserved Any (with_contract n o ++ contracted_nodes items) gs
-      by None gs m = as-many items gs m
-      by (Some c) [] m = absurd m
-      by (Some c) (g ∷ gs) m = (tt, as-many items gs m.1)
+      by : (o : Option Contract) (gs : List FlatNode) → AreMadeOf k (low (observer_if n o ++ observers items)) gs → ((hs : List FlatNode) → AreMadeOf k (low (observers items)) hs → EachObserved Any (contracted_nodes items) hs) → EachObserved Any (with_contract n o ++ contracted_nodes items) gs
+      by None gs m rest = rest gs m
+      by (Some c) [] m rest = absurd m
+      by (Some c) (g ∷ gs) m rest = (tt, rest gs m.1)
 
 abbrev IsOwn : Node × Contract → Type 0
 IsOwn x = x.0.contract ≡ Some (contract_of x)
@@ -97,11 +97,11 @@ IsOwn x = x.0.contract ≡ Some (contract_of x)
 own-contracts : (items : List Item) → AllByRecursion IsOwn (contracted_nodes items)
 own-contracts [] = tt
 own-contracts (TypeItem t ∷ items) = own-contracts items
-own-contracts (NodeItem n ∷ items) = by n.contract refl
+own-contracts (NodeItem n ∷ items) = by n.contract refl (own-contracts items)
   where
-    by : (o : Option Contract) → n.contract ≡ o → AllByRecursion IsOwn (with_contract n o ++ contracted_nodes items)
-    by None e = own-contracts items
-    by (Some c) e = (e, own-contracts items)
+    by : (o : Option Contract) → n.contract ≡ o → AllByRecursion IsOwn (contracted_nodes items) → AllByRecursion IsOwn (with_contract n o ++ contracted_nodes items)
+    by None e rest = rest
+    by (Some c) e rest = (e, rest)
 
 -- ---- found by their names
 
