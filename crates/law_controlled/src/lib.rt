@@ -44,8 +44,7 @@ use law_choices::on_clocks::programs_have_one_meaning;
 use law_choices::part::{parts_keep_form, parts_keep_reactions};
 use law_choices::places::walks_find_places;
 use law_choices::playing::{
-    copied_gates_tell_what_is_owed, drawn_machines_mirror,
-    nodes_that_know_all_choose_the_greatest,
+    copied_gates_tell_what_is_owed, drawn_machines_mirror, nodes_that_know_all_choose_the_greatest,
 };
 use law_choices::runs::chosen_values_make_one_reaction;
 use law_choices::seeing::{
