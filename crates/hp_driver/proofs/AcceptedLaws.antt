@@ -5,8 +5,7 @@ use Rattle.hp_compile.specs.Arranged.{IsArranged}
 use Rattle.hp_compile.specs.Judged.{IsJudged}
 use Rattle.hp_controlled.specs.Lacking.{HasNoChosenMachines}
 use Rattle.hp_driver.specs.Controls.{some_variable, has_controls}
-use Rattle.hp_driver.specs.Texts.{IsArrangedText, IsPlainText}
-use Rattle.hp_machines.specs.NotBuilt.{HasNoMachines}
+use Rattle.hp_driver.specs.Texts.{IsArrangedText}
 use Rattle.hp_meaning.specs.Causal.Runs.{NoControls}
 use Rattle.hp_tree.specs.Blocks.{Decl}
 use Rattle.hp_tree.specs.Meaning.{controls_of}
@@ -15,7 +14,7 @@ use Rattle.hp_tree.specs.declared.program.Item.TheVariants.{TypeItem, NodeItem}
 use Rattle.hp_verdicts.specs.Decided.{AreKept}
 use Rattle.law_controlled.specs.Built.{ChosenBuiltLaw}
 use Rattle.law_decided.specs.Laws.{IsAcceptedText}
-use Rattle.law_history.specs.Streams.Texts.{BuiltLaw, IsAccepted}
+use Rattle.law_history.specs.Streams.Texts.{IsAccepted}
 
 pub accepted_by : (text : List ℕ) (program ordered : List Item) (ranks : List (List ℕ)) (judged : IsJudged text program) → IsArranged program ordered ranks → IsAcceptedText text judged.program_of.tokens program ordered ranks
 accepted_by text program ordered ranks judged arranged = record {
@@ -60,10 +59,6 @@ accepted_plain text program ordered ranks judged arranged none = record {
   fall = arranged.ordered;
   uncontrolled = no_controls program none;
 }
-
--- nothing is in the way of its machines
-pub is_built : BuiltLaw → (ordered : List Item) → IsPlainText ordered → HasNoMachines ordered → ⊥
-is_built law ordered t none = let text = t.1 in law text.0 text.2.program_of.tokens t.0 ordered text.1 (accepted_plain text.0 t.0 ordered text.1 text.2 text.3 t.2) none
 
 -- nothing is in the way of machines that choose, where contracts are kept
 pub are_built : ChosenBuiltLaw → (ordered : List Item) → (program : List Item) × IsArrangedText program ordered → AreKept ordered ordered → HasNoChosenMachines ordered → ⊥

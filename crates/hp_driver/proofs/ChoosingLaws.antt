@@ -16,20 +16,20 @@ use Rattle.hp_tree.specs.Meaning.{node_among}
 use Rattle.hp_tree.specs.Programs.{Node}
 use Rattle.hp_tree.specs.declared.program.Item.{Item}
 use Rattle.law_controlled.specs.Headed.{HeadedLaw}
-use Rattle.law_controlled.specs.Said.{GreatestSaidLaw}
 use Rattle.law_decided.specs.Outcomes.{AreKeptInGames}
-use Rattle.hp_driver.specs.Command.{no_node_line}
+use Rattle.hp_driver.specs.Command.{IsRunOf, no_node_line}
+use Rattle.hp_driver.specs.Compiled.{IsFound, MachinesLaw}
+use Rattle.hp_driver.specs.Controls.{has_controls}
 use Rattle.hp_driver.specs.Diagnostics.{executor_line}
 use Rattle.hp_driver.specs.Executing.{executing}
-use Rattle.hp_driver.specs.Follows.{Accepts, ChoosingRun, ChoosingTell, ChosenOutcome, NodeRun, NodeTold, RefusedChosen, SweepOutcome}
-use Rattle.hp_driver.specs.Outcome.{Outcome, IsHeld, AreChosen, AsksToRun, IsAskedFor}
+use Rattle.hp_driver.specs.Follows.{Accepts, OrderedRun, OrderedTell, ChosenOutcome, NodeRun, NodeTold, RefusedChosen, SweepOutcome}
+use Rattle.hp_driver.specs.Outcome.{Outcome, IsHeld, AreCompiled, AsksToRun, IsAskedFor}
 use Rattle.hp_driver.specs.Ran.{Ran}
 use Rattle.hp_driver.specs.Swept.{IsSwept}
 use Rattle.hp_driver.specs.Systems.{System, of_machine, that_tells}
 use Rattle.hp_driver.specs.Teller.{teller, telling}
 use Rattle.hp_driver.specs.declared.telling.Ending.{Ending}
 use Rattle.hp_driver.specs.declared.telling.Ending.TheVariants.{Told, Kept}
-use Rattle.hp_driver.proofs.GameLaws.{all_greatest}
 use Rattle.hp_driver.proofs.ExecutionLaws.{teller_says, teller_refuses}
 use Rattle.hp_driver.proofs.MachineLaws.{machine_of, machine_mirrors}
 use Rattle.hp_driver.proofs.OutcomeLaws.{Mirrors, outcome}
@@ -83,52 +83,61 @@ its_machine law ordered o machines name n named = law ordered o machines name n 
 -- ---- a node is run
 
 module _ (o : Obc) (n : Node) (name : List ℕ) where
+  -- no machine of a program without controllable variables passes a limit
+  passes : (words : List (List ℕ)) (files : Option Files) (file : List ℕ) (compiled : AreCompiled files file o) → node_among compiled.held.clocked name ≡ Some n → IsRunOf words file name → (limit : Limit) → IsPassed o name limit
+      → Outcome words files [] (executor_line limit) 1
+  passes words files file compiled named w limit passed = by (has_controls compiled.program) refl
+    where
+      by : (b : Bool) → has_controls compiled.program ≡ b → Outcome words files [] (executor_line limit) 1
+      by true some = Outcome.chosen_too_large limit compiled (AsksToRun.to_run w some) (inl refl) passed
+      by false none = let plain = compiled.are.plain none in absurd (plain.within name n named limit passed)
+
   pub node_ran : (log : List Event) (line : List ℕ) (status : ℕ) → IsChosen name o n → ChosenOutcome (of_machine o name) o name log line status → NodeRun o n name log line status
-  node_ran log line status is f words files file chosen some named w =
-      f words files (λ m. IsAskedFor.a_chosen_node n w chosen some named m is) (λ limit p. Outcome.chosen_too_large limit chosen (AsksToRun.to_run w some) (inl refl) p)
+  node_ran log line status is f words files file compiled named w = f words files (λ m. IsAskedFor.a_node n w compiled named m is) (passes words files file compiled named w)
 
   pub plain_told : (log : List Event) (line : List ℕ) (status : ℕ) → n.contract ≡ None → IsChosen name o n → ChosenOutcome (that_tells Kept o name) o name log line status → NodeTold o n name log line status
-  plain_told log line status none is f words files file chosen named w =
-      f words files (λ m. IsAskedFor.no_contract n w chosen named none m is) (λ limit p. Outcome.chosen_too_large limit chosen (AsksToRun.to_tell w) (inl refl) p)
+  plain_told log line status none is f words files file compiled named w =
+      f words files (λ m. IsAskedFor.no_contract n w compiled named none m is) (λ limit p. Outcome.chosen_too_large limit compiled (AsksToRun.to_tell w) (inl refl) p)
 
   pub contract_told : (log : List Event) (line : List ℕ) (status : ℕ) → IsTrue (is_some n.contract) → IsToldBy (name ++ codes "$contract") o n →
       ChosenOutcome (that_tells Told o (name ++ codes "$contract")) o (name ++ codes "$contract") log line status → NodeTold o n name log line status
-  contract_told log line status some is f words files file chosen named w =
-      f words files (λ m. IsAskedFor.a_contract n w chosen named some m is) (λ limit p. Outcome.chosen_too_large limit chosen (AsksToRun.to_tell w) (inr refl) p)
+  contract_told log line status some is f words files file compiled named w =
+      f words files (λ m. IsAskedFor.a_contract n w compiled named some m is) (λ limit p. Outcome.chosen_too_large limit compiled (AsksToRun.to_tell w) (inr refl) p)
 
 -- ---- of an ordered program
 
 module _ (node : List ℕ) (ordered : List Item) where
-  pub run_failed : (log : List Event) (line : List ℕ) (b : ℕ) (rest : List ℕ) (status : ℕ) → ChoosingRun node ordered log (line ++ b ∷ rest) status → ChoosingRun node ordered log line 5
-  run_failed log line b rest status f words files file program held e some kept w = Outcome.line_failed line b rest (f words files file program held e some kept w)
+  pub run_failed : (log : List Event) (line : List ℕ) (b : ℕ) (rest : List ℕ) (status : ℕ) → OrderedRun node ordered log (line ++ b ∷ rest) status → OrderedRun node ordered log line 5
+  run_failed log line b rest status f words files file program held e kept w = Outcome.line_failed line b rest (f words files file program held e kept w)
 
-  pub run_memory : ChoosingRun node ordered [] [] 6
-  run_memory words files file program held e some kept w = Outcome.no_memory
+  pub run_memory : OrderedRun node ordered [] [] 6
+  run_memory words files file program held e kept w = Outcome.no_memory
 
-  pub run_no_node : node_among ordered node ≡ None → ChoosingRun node ordered [] (no_node_line node) 1
-  run_no_node none words files file program held e some kept w = Outcome.no_node_to_run (AsksToRun.to_run w some) held kept (ap (λ z. node_among z node) e ∙ none)
+  pub run_no_node : node_among ordered node ≡ None → OrderedRun node ordered [] (no_node_line node) 1
+  run_no_node none words files file program held e kept w = Outcome.no_node_to_run (inl w) held kept (ap (λ z. node_among z node) e ∙ none)
 
-  pub tell_failed : (log : List Event) (line : List ℕ) (b : ℕ) (rest : List ℕ) (status : ℕ) → ChoosingTell node ordered log (line ++ b ∷ rest) status → ChoosingTell node ordered log line 5
+  pub tell_failed : (log : List Event) (line : List ℕ) (b : ℕ) (rest : List ℕ) (status : ℕ) → OrderedTell node ordered log (line ++ b ∷ rest) status → OrderedTell node ordered log line 5
   tell_failed log line b rest status f words files file program held e kept w = Outcome.line_failed line b rest (f words files file program held e kept w)
 
-  pub tell_memory : ChoosingTell node ordered [] [] 6
+  pub tell_memory : OrderedTell node ordered [] [] 6
   tell_memory words files file program held e kept w = Outcome.no_memory
 
-  pub tell_no_node : node_among ordered node ≡ None → ChoosingTell node ordered [] (no_node_line node) 1
-  tell_no_node none words files file program held e kept w = Outcome.no_node_to_run (AsksToRun.to_tell w) held kept (ap (λ z. node_among z node) e ∙ none)
+  pub tell_no_node : node_among ordered node ≡ None → OrderedTell node ordered [] (no_node_line node) 1
+  tell_no_node none words files file program held e kept w = Outcome.no_node_to_run (inr w) held kept (ap (λ z. node_among z node) e ∙ none)
 
-  module _ (law : GreatestSaidLaw) (o : Obc) (machines : AreControlledMachines ordered o) where
-    abbrev pub chosen_of : (files : Option Files) (file : List ℕ) (program : List Item) (held : IsHeld files file program) → held.clocked ≡ ordered → AreKeptInGames held.clocked → AreChosen files file o
-    chosen_of files file program held e kept =
+  module _ (law : MachinesLaw) (o : Obc) (machines : AreControlledMachines ordered o) where
+    abbrev pub compiled_of : (files : Option Files) (file : List ℕ) (program : List Item) (held : IsHeld files file program) → held.clocked ≡ ordered → AreKeptInGames held.clocked → AreCompiled files file o
+    compiled_of files file program held e kept =
         let all = subst (λ (z : List Item). AreControlledMachines z o) (sym e) machines in
-        record { program = program; held = held; kept = kept; machines = all; says = all_greatest law files file program held o kept.safe all }
+        let found : IsFound held.text program held.clocked = record { judged = held.judged; only = held.only; ranks = held.ranks; arranged = held.arranged } in
+        record { program = program; held = held; kept = kept; are = law held.text program held.clocked found kept o all }
 
     module _ (n : Node) (named : node_among ordered node ≡ Some n) (log : List Event) (line : List ℕ) (status : ℕ) where
-      pub choosing_ran : NodeRun o n node log line status → ChoosingRun node ordered log line status
-      choosing_ran f words files file program held e some kept w = f words files file (chosen_of files file program held e kept) some (ap (λ z. node_among z node) e ∙ named) w
+      pub ordered_ran : NodeRun o n node log line status → OrderedRun node ordered log line status
+      ordered_ran f words files file program held e kept w = f words files file (compiled_of files file program held e kept) (ap (λ z. node_among z node) e ∙ named) w
 
-      pub choosing_told : NodeTold o n node log line status → ChoosingTell node ordered log line status
-      choosing_told f words files file program held e kept w = f words files file (chosen_of files file program held e kept) (ap (λ z. node_among z node) e ∙ named) w
+      pub ordered_told : NodeTold o n node log line status → OrderedTell node ordered log line status
+      ordered_told f words files file program held e kept w = f words files file (compiled_of files file program held e kept) (ap (λ z. node_among z node) e ∙ named) w
 
 -- ---- a sweep
 

@@ -15,8 +15,7 @@ use Rattle.hp_io.specs.declared.console.Event.TheVariants.{Asked, Heard, Ended, 
 use Rattle.hp_io.specs.Events.{put_events, said_bytes}
 use Rattle.hp_tree.specs.declared.program.Item.{Item}
 use Rattle.hp_tree.specs.Meaning.{node_among}
-use Rattle.hp_obc.specs.Form.{machine_named}
-use Rattle.hp_obc.specs.Machines.{Machine, Obc}
+use Rattle.hp_obc.specs.Machines.{Obc}
 use Rattle.hp_obc.specs.Steps.{Memory}
 use Rattle.hp_cert.specs.declared.checking.Proved.TheVariants.{Lose}
 use Rattle.hp_cert.specs.declared.certtext.error.CertErr.{CertErr}
@@ -28,20 +27,18 @@ use Rattle.hp_verdicts.specs.declared.error.ContractErr.TheVariants as contract
 use Rattle.law_decided.specs.Outcomes.{RefusesInGame, RefusesInGames}
 use Rattle.hp_driver.specs.Answers.{IsAnswer}
 use Rattle.hp_driver.specs.BadLines.{bad_line_line}
-use Rattle.hp_driver.specs.Asking.{AsksToRun}
 use Rattle.hp_driver.specs.Claim.{Does, Ends}
-use Rattle.hp_driver.specs.ClaimTerms.{AllKept, Certifies, Choose, DoesTheSame, Implement, IsNoProof, IsOwnOf, IsReadAs, IsTellerOf, IsTrace, LacksFile, Program, RefusesTasks, Runs, Starts}
+use Rattle.hp_driver.specs.ClaimTerms.{AllKept, Certifies, Implement, IsNoProof, IsOwnOf, IsReadAs, IsTellerOf, IsTrace, LacksFile, Program, RefusesTasks, Runs, Starts}
 use Rattle.hp_driver.specs.Checkpoints.{IsCheckpointOf, memory_past}
 use Rattle.hp_driver.specs.Command.{IsRunOf, IsTellOf, IsCheckOf, IsExecOf, IsPastOf, IsVerifyOf, IsSweepOf, IsNoSegment, IsSegmentOf, IsOver, IsOverSource, IsOverContract, Writes, no_node_line, verdict_text, accepted_text}
 use Rattle.hp_driver.specs.Compiled.{IsCompiled, IsNotCompiled}
-use Rattle.hp_driver.specs.Controls.{has_controls}
 use Rattle.hp_driver.specs.Commanded.{Spells, SpellsSegment, file_of}
 use Rattle.hp_driver.specs.Diagnostics.{behind_forced, certificate_status, contract_line, forced_line, refusal_line, too_long_line}
 use Rattle.hp_driver.specs.Happened.{Happened}
-use Rattle.hp_driver.specs.Leaves.{IsPrinted, Leaves}
+use Rattle.hp_driver.specs.Leaves.{Leaves}
 use Rattle.hp_driver.specs.Lines.{lines_of}
 use Rattle.hp_driver.specs.Log.{heard, said, has_ended}
-use Rattle.hp_driver.specs.Outcome.{Outcome, IsHeld, AreChosen, AreWritten, AreAskedFor, HasContract, IsAskedFor, LacksNode}
+use Rattle.hp_driver.specs.Outcome.{Outcome, IsHeld, AreCompiled, HasContract, IsAskedFor}
 use Rattle.hp_driver.specs.PastOutcome.{PastOutcome, unfolded_text}
 use Rattle.hp_driver.specs.Segments.{AreRun, Begins, CallOutcome, IsRunnable, SegmentRun, Stops, Traced, memory_after, run_words}
 use Rattle.hp_driver.specs.Status.{code_of}
@@ -50,7 +47,6 @@ use Rattle.hp_driver.specs.Swept.{IsNotSwept, IsSwept}
 use Rattle.hp_driver.specs.Systems.{System, inputs_of, Gives}
 use Rattle.hp_driver.specs.Values.{first_bad, inputs_until}
 use Rattle.hp_driver.specs.WrittenText.{WritesText}
-use Rattle.hp_driver.specs.Written.{WrittenLaw}
 use Rattle.hp_driver.specs.Texts.{HasNoProgram}
 use Rattle.hp_driver.specs.declared.compile_error.CompileErr.{CompileErr}
 use Rattle.hp_driver.specs.declared.compile_error.CompileErr.TheVariants as compile
@@ -61,7 +57,6 @@ use Rattle.hp_driver.specs.declared.words.Command.{Command}
 use Rattle.hp_driver.specs.declared.words.Segment.{Segment}
 use Rattle.hp_driver.proofs.GoodLines.{same_up_to}
 use Rattle.hp_driver.proofs.OutcomeLaws.{over_of}
-use Rattle.hp_driver.proofs.NamedLaws.{machine_of_node}
 use Rattle.hp_driver.proofs.ResumedLaws.{get_inserted}
 
 some_same : {A : Type 0} (a b : A) → Some a ≡ Some b → a ≡ b
@@ -118,8 +113,6 @@ module _ (words : List (List ℕ)) (files left : Files) where
   untouched status (Leaves.as_they_were same not) f g h = some_same left files same
   untouched status (Leaves.written {out = o} w written printed same) f g h = absurd (elim h [ inl n ↦ n refl | inr n ↦ n o (Writes.machines w) ])
   untouched status (Leaves.in_part why w written printed b c) f g h = absurd (elim why [ inl e ↦ f e | inr e ↦ g e ])
-  untouched status (Leaves.chosen_written {out = o} w chosen some printed same) f g h = absurd (elim h [ inl n ↦ n refl | inr n ↦ n o (Writes.machines w) ])
-  untouched status (Leaves.chosen_in_part why w chosen some printed b c) f g h = absurd (elim why [ inl e ↦ f e | inr e ↦ g e ])
   untouched status (Leaves.unfolded {out = o} w holds short same) f g h = absurd (elim h [ inl n ↦ n refl | inr n ↦ n o (Writes.a_source w) ])
   untouched status (Leaves.unfolded_in_part why w holds b c) f g h = absurd (elim why [ inl e ↦ f e | inr e ↦ g e ])
   untouched status (Leaves.proved {cert = o} w there proof same) f g h = absurd (elim h [ inl n ↦ n refl | inr n ↦ n o (Writes.a_certificate w) ])
@@ -172,9 +165,9 @@ program_of files file program held = record {
   arranged = held.arranged;
 }
 
--- machines that choose
-choosing : (files : Files) (file : List ℕ) (o : Obc) (chosen : AreChosen (Some files) file o) → Choose (program_of files file chosen.program chosen.held) o
-choosing files file o chosen = record { kept = chosen.kept.safe; says = chosen.says }
+-- their machines
+implementing : (files : Files) (file : List ℕ) (o : Obc) (compiled : AreCompiled (Some files) file o) → Implement (program_of files file compiled.program compiled.held) o
+implementing files file o compiled = record { kept = compiled.kept.safe; says = compiled.are.says; agree = λ none. let plain = compiled.are.plain none in plain.agree }
 
 -- ---- a sweep
 
@@ -192,9 +185,8 @@ module _ (files : Files) (tasks : ℕ) (o : Obc) (compiled : IsCompiled (tasks_t
     arranged = compiled.found.arranged;
   }
 
-  implemented : (b : Bool) → has_controls compiled.program ≡ b → Implement tasks_program o
-  implemented false none = Implement.the_nodes none compiled.kept.safe (compiled.runs none)
-  implemented true some = Implement.that_choose some (record { kept = compiled.kept.safe; says = compiled.says some })
+  implemented : Implement tasks_program o
+  implemented = record { kept = compiled.kept.safe; says = compiled.machines.says; agree = λ none. let plain = compiled.machines.plain none in plain.agree }
 
 -- where a text is refused it has no program, and this is why
 abbrev Refused : List ℕ → CompileErr → Type 0
@@ -247,35 +239,16 @@ module _ (words : List (List ℕ)) (files left : Files) (input : List ℕ) where
       let o = summary.machines in
       let compiled = summary.compiled in
       subst (λ z. Does words files input z [] files 0) (sym summary.spelled)
-      (Does.swept (tasks_program files tasks o compiled) w (implemented files tasks o compiled (has_controls compiled.program) refl) summary.has)
+      (Does.swept (tasks_program files tasks o compiled) w (implemented files tasks o compiled) summary.has)
 
-  module _ (law : WrittenLaw) (none : IsNoSegment words) where
-    does_the_same : (file text : List ℕ) (o : Obc) (written : AreWritten (Some files) file o) → IsPrinted o text → DoesTheSame text written.compiled.held.clocked
-    does_the_same file text o written printed within =
-        let compiled = written.compiled in
-        let stands = printed.stands within in (
-          o,
-          stands,
-          λ node n named.
-              let found = machine_of_node compiled.held.clocked written.own.machines node n compiled.machines.machines named in
-              let same = law (Some files) file o o text node found.0 written printed stands found.1 in
-              (found.0, same.0, same.1),
-        )
-
+  module _ (none : IsNoSegment words) where
     -- a command that writes a file did what it is for
     wrote : (status : ℕ) → Leaves words (Some files) (Some left) status → status ≡ 0 → (out : List ℕ) → Writes words out → Does words files input [] [] left status
     wrote status (Leaves.as_they_were same not) e out w = absurd (not out w e)
-    wrote status (Leaves.written {file = f} {out = o} {text = t} {o = ms} w written printed same) e out x =
-        let compiled = written.compiled in
+    wrote status (Leaves.written {file = f} {out = o} {text = t} {o = ms} w compiled printed same) e out x =
         let z = finmap.insert files o t in
-        at_left z [] [] 0 (some_same left z same)
-        (Does.compiled t (program_of files f compiled.program compiled.held) w compiled.kept.safe compiled.uncontrolled (does_the_same f t ms written printed))
-    wrote status (Leaves.in_part why w written printed b c) e out x = absurd (elim why [ inl k ↦ omega (arith, e, k) | inr k ↦ omega (arith, e, k) ])
-    wrote status (Leaves.chosen_written {file = f} {out = o} {text = t} {o = ms} w chosen some printed same) e out x =
-        let z = finmap.insert files o t in
-        at_left z [] [] 0 (some_same left z same)
-        (Does.chosen_compiled t (program_of files f chosen.program chosen.held) w some (choosing files f ms chosen) printed.stands)
-    wrote status (Leaves.chosen_in_part why w chosen some printed b c) e out x = absurd (elim why [ inl k ↦ omega (arith, e, k) | inr k ↦ omega (arith, e, k) ])
+        at_left z [] [] 0 (some_same left z same) (Does.compiled t (program_of files f compiled.program compiled.held) w (implementing files f ms compiled) printed.stands)
+    wrote status (Leaves.in_part why w compiled printed b c) e out x = absurd (elim why [ inl k ↦ omega (arith, e, k) | inr k ↦ omega (arith, e, k) ])
     wrote status (Leaves.unfolded {file = f} {out = o} {program = p} w holds short same) e out x =
         let z = finmap.insert files o (unfolded_text p) in at_left z [] [] 0 (some_same left z same) (Does.unfolded w holds.gives holds.program_of)
     wrote status (Leaves.unfolded_in_part why w holds b c) e out x = absurd (elim why [ inl k ↦ omega (arith, e, k) | inr k ↦ omega (arith, e, k) ])
@@ -327,30 +300,19 @@ module _ (words : List (List ℕ)) (files left : Files) (input : List ℕ) where
     no_verdict file name contract.NotBuilt k c differs r = absurd r.says
     no_verdict file name contract.OutOfMemory k c differs r = absurd (differs refl)
 
-    no_node_to_run : (file name : List ℕ) (program : List Item) → AsksToRun words file name program → (held : IsHeld (Some files) file program) → AllKept (program_of files file program held) →
+    no_node_to_run : (file name : List ℕ) (program : List Item) → IsRunOf words file name ⊎ IsTellOf words file name → (held : IsHeld (Some files) file program) → AllKept (program_of files file program held) →
         node_among held.clocked name ≡ None → Does words files input [] (no_node_line name) left 1
-    no_node_to_run file name program (AsksToRun.to_run w some) held kept unnamed =
-        at_left files [] (no_node_line name) 1 same (Does.no_node_to_run (program_of files file program held) kept (inl w) unnamed)
-    no_node_to_run file name program (AsksToRun.to_tell w) held kept unnamed =
-        at_left files [] (no_node_line name) 1 same (Does.no_node_to_run (program_of files file program held) kept (inr w) unnamed)
-
-    no_machine : (name : List ℕ) (o : Obc) (asked : AreAskedFor words (Some files) name o) → LacksNode words (Some files) name o asked → Does words files input [] (no_node_line name) left 1
-    no_machine name o (AreAskedFor.in_text w ms) unnamed = at_left files [] (no_node_line name) 1 same (Does.no_machine w ms.held ms.read unnamed)
-    no_machine name o (AreAskedFor.of_program {file = f} w compiled) unnamed =
-        at_left files [] (no_node_line name) 1 same
-        (Does.no_node_to_run (program_of files f compiled.program compiled.held) compiled.kept.safe (inl w) unnamed)
+    no_node_to_run file name program asks held kept unnamed = at_left files [] (no_node_line name) 1 same (Does.no_node_to_run (program_of files file program held) kept asks unnamed)
 
     -- what is run on a trace
     ran : (s : System) (bytes line : List ℕ) (status : ℕ) → IsAskedFor words (Some files) s → IsTrace s (lines_of true input) bytes line status → Does words files input bytes line left status
-    ran s bytes line status (IsAskedFor.a_node {file = f} w compiled there) t =
-        at_left files bytes line status same (Does.ran (program_of files f compiled.program compiled.held) w compiled.kept.safe compiled.uncontrolled t)
+    ran s bytes line status (IsAskedFor.a_node {file = f} {o = o} n w compiled named there is) t =
+        at_left files bytes line status same (Does.ran (program_of files f compiled.program compiled.held) w (implementing files f o compiled) (IsOwnOf.own n named is) t)
     ran s bytes line status (IsAskedFor.a_machine w ms there) t = at_left files bytes line status same (Does.executed there.machine w ms.held ms.read there.named t)
-    ran s bytes line status (IsAskedFor.a_chosen_node {file = f} {o = o} n w chosen some named there is) t =
-        at_left files bytes line status same (Does.chose (program_of files f chosen.program chosen.held) w some (choosing files f o chosen) (IsOwnOf.own n named is) t)
-    ran s bytes line status (IsAskedFor.a_contract {file = f} {o = o} n w chosen named some there is) t =
-        at_left files bytes line status same (Does.told (program_of files f chosen.program chosen.held) w (choosing files f o chosen) (IsTellerOf.with_contract n named some is) t)
-    ran s bytes line status (IsAskedFor.no_contract {file = f} {o = o} n w chosen named without there is) t =
-        at_left files bytes line status same (Does.told (program_of files f chosen.program chosen.held) w (choosing files f o chosen) (IsTellerOf.without n named without is) t)
+    ran s bytes line status (IsAskedFor.a_contract {file = f} {o = o} n w compiled named some there is) t =
+        at_left files bytes line status same (Does.told (program_of files f compiled.program compiled.held) w (implementing files f o compiled) (IsTellerOf.with_contract n named some is) t)
+    ran s bytes line status (IsAskedFor.no_contract {file = f} {o = o} n w compiled named without there is) t =
+        at_left files bytes line status same (Does.told (program_of files f compiled.program compiled.held) w (implementing files f o compiled) (IsTellerOf.without n named without is) t)
 
     -- the program without the formulas of its contracts was not written
     past_refused : (file out line : List ℕ) (status : ℕ) → IsPastOf words file out → PastOutcome (Some files) file line status → status ≢ 0 → status ≢ 5 → Does words files input [] line left status
@@ -361,25 +323,24 @@ module _ (words : List (List ℕ)) (files left : Files) (input : List ℕ) where
     past_refused file out line status w (PastOutcome.not_written holds short) f g = absurd (g refl)
 
   -- a program is written without them, or is not
-  past_ended : (law : WrittenLaw) (none : IsNoSegment words) (file out line : List ℕ) (status : ℕ) → IsPastOf words file out → PastOutcome (Some files) file line status →
+  past_ended : (none : IsNoSegment words) (file out line : List ℕ) (status : ℕ) → IsPastOf words file out → PastOutcome (Some files) file line status →
       Leaves words (Some files) (Some left) status → status ≢ 5 → status ≢ 6 → Does words files input [] line left status
-  past_ended law none file out line status w (PastOutcome.written holds short back tells) leaves g h = wrote law none 0 leaves refl out (Writes.a_source w)
-  past_ended law none file out line status w (PastOutcome.not_written holds short) leaves g h = absurd (g refl)
-  past_ended law none file out line status w (PastOutcome.too_long long) leaves g h =
+  past_ended none file out line status w (PastOutcome.written holds short back tells) leaves g h = wrote none 0 leaves refl out (Writes.a_source w)
+  past_ended none file out line status w (PastOutcome.not_written holds short) leaves g h = absurd (g refl)
+  past_ended none file out line status w (PastOutcome.too_long long) leaves g h =
       past_refused (untouched words files left 1 leaves g h (inl (λ e. omega (arith, e)))) file out (too_long_line Size) 1 w (PastOutcome.too_long long) (λ e. omega (arith, e)) g
-  past_ended law none file out line status w (PastOutcome.refused text cause gives causes unread) leaves g h =
+  past_ended none file out line status w (PastOutcome.refused text cause gives causes unread) leaves g h =
       past_refused (untouched words files left 1 leaves g h (inl (λ e. omega (arith, e)))) file out (refusal_line cause) 1 w (PastOutcome.refused text cause gives causes unread) (λ e. omega (arith, e)) g
-  past_ended law none file out line status w (PastOutcome.too_long_unfolded holds long) leaves g h =
+  past_ended none file out line status w (PastOutcome.too_long_unfolded holds long) leaves g h =
       past_refused (untouched words files left 1 leaves g h (inl (λ e. omega (arith, e)))) file out (too_long_line Size) 1 w (PastOutcome.too_long_unfolded holds long) (λ e. omega (arith, e)) g
 
-  module _ (law : WrittenLaw) (none : IsNoSegment words) where
+  module _ (none : IsNoSegment words) where
     -- the mark of a command that runs something
     asked_mark : (s : System) → IsAskedFor words (Some files) s → (mark words ≡ 3114) ⊎ (mark words ≡ 4101)
-    asked_mark s (IsAskedFor.a_node {file = f} {node = n} w compiled there) = inl (run_mark words f n w)
+    asked_mark s (IsAskedFor.a_node {file = f} {node = k} n w compiled named there is) = inl (run_mark words f k w)
     asked_mark s (IsAskedFor.a_machine {file = f} {node = n} w ms there) = inr (exec_mark words f n w)
-    asked_mark s (IsAskedFor.a_chosen_node {file = f} {node = k} n w chosen some named there is) = inl (run_mark words f k w)
-    asked_mark s (IsAskedFor.a_contract {file = f} {node = k} n w chosen named some there is) = inl (tell_mark words f k w)
-    asked_mark s (IsAskedFor.no_contract {file = f} {node = k} n w chosen named without there is) = inl (tell_mark words f k w)
+    asked_mark s (IsAskedFor.a_contract {file = f} {node = k} n w compiled named some there is) = inl (tell_mark words f k w)
+    asked_mark s (IsAskedFor.no_contract {file = f} {node = k} n w compiled named without there is) = inl (tell_mark words f k w)
 
     runs_write_nothing : (s : System) → IsAskedFor words (Some files) s → (out : List ℕ) → Writes words out → ⊥
     runs_write_nothing s asked = elim (asked_mark s asked) [
@@ -399,9 +360,9 @@ module _ (words : List (List ℕ)) (files left : Files) (input : List ℕ) where
         first_refused (untouched words files left 1 leaves f g (inl (λ k. omega (arith, k)))) x p cause over held differs refuses
     ended log line status (Outcome.no_node_to_run {file = x} {name = y} {program = p} asks held kept unnamed) h leaves e f g =
         no_node_to_run (untouched words files left 1 leaves f g (inl (λ k. omega (arith, k)))) x y p asks held kept.safe unnamed
-    ended log line status (Outcome.chosen_too_large {file = x} {o = o} limit chosen asks for passed) h leaves e f g =
+    ended log line status (Outcome.chosen_too_large {file = x} {o = o} limit compiled asks for passed) h leaves e f g =
         let same = untouched words files left 1 leaves f g (inl (λ k. omega (arith, k))) in
-        at_left files [] line 1 same (Does.chosen_too_large limit (program_of files x chosen.program chosen.held) asks (choosing files x o chosen) for passed)
+        at_left files [] line 1 same (Does.chosen_too_large limit (program_of files x compiled.program compiled.held) asks (implementing files x o compiled) for passed)
     ended log line status (Outcome.accepted {file = x} {program = p} print w held kept) h leaves e f g =
         let same = untouched words files left 0 leaves f g (inr (writes_nothing 5099 (λ k. omega (arith, k)) (λ k. omega (arith, k)) (λ k. omega (arith, k)) words none (check_mark words x print w))) in
         subst (λ z. Does words files input z [] left 0) (sym (said_put (accepted_text print p))) (at_left files (accepted_text print p) [] 0 same (Does.accepted print (program_of files x p held) w kept.safe))
@@ -416,7 +377,7 @@ module _ (words : List (List ℕ)) (files left : Files) (input : List ℕ) where
         let same = untouched words files left 1 leaves f g (inl (λ k. omega (arith, k))) in
         let it = long.certificate in
         at_left files [] line 1 same (Does.not_proved (verdict_of it.claim) (program_of files x c.program c.held) w (it, refl, refl) long.longer)
-    ended log line status (Outcome.proved {cert = o} w c proof) h leaves e f g = wrote law none 0 leaves refl o (Writes.a_certificate w)
+    ended log line status (Outcome.proved {cert = o} w c proof) h leaves e f g = wrote none 0 leaves refl o (Writes.a_certificate w)
     ended log line status (Outcome.proof_not_written w c proof) h leaves e f g = absurd (f refl)
     ended log line status (Outcome.unread_certificate w c has) h leaves e f g = absurd (e refl)
     ended log line status (Outcome.long_certificate w c has long) h leaves e f g =
@@ -432,14 +393,13 @@ module _ (words : List (List ℕ)) (files left : Files) (input : List ℕ) where
     ended log line status (Outcome.long_text w long) h leaves e f g = let same = untouched words files left 1 leaves f g (inl (λ k. omega (arith, k))) in at_left files [] line 1 same (Does.too_long (IsReadAs.machines w) long)
     ended log line status (Outcome.no_text text at w gives r) h leaves e f g = let same = untouched words files left 8 leaves f g (inl (λ k. omega (arith, k))) in at_left files [] line 8 same (Does.no_text at w gives r)
     ended log line status (Outcome.no_form text at w gives b) h leaves e f g = let same = untouched words files left 8 leaves f g (inl (λ k. omega (arith, k))) in at_left files [] line 8 same (Does.no_form at w gives b)
-    ended log line status (Outcome.no_machine {node = y} {o = o} asked unnamed) h leaves e f g = no_machine (untouched words files left 1 leaves f g (inl (λ k. omega (arith, k)))) y o asked unnamed
+    ended log line status (Outcome.no_machine w ms unnamed) h leaves e f g =
+        let same = untouched words files left 1 leaves f g (inl (λ k. omega (arith, k))) in at_left files [] line 1 same (Does.no_machine w ms.held ms.read unnamed)
     ended log line status (Outcome.too_large limit w ms passed) h leaves e f g =
         let same = untouched words files left 1 leaves f g (inl (λ k. omega (arith, k))) in at_left files [] line 1 same (Does.too_large limit w ms.held ms.read passed)
-    ended log line status (Outcome.compiled {out = o} w written) h leaves e f g = wrote law none 0 leaves refl o (Writes.machines w)
+    ended log line status (Outcome.compiled {out = o} w written) h leaves e f g = wrote none 0 leaves refl o (Writes.machines w)
     ended log line status (Outcome.not_written w written) h leaves e f g = absurd (f refl)
-    ended log line status (Outcome.chosen_compiled {out = o} w chosen some) h leaves e f g = wrote law none 0 leaves refl o (Writes.machines w)
-    ended log line status (Outcome.chosen_not_written w chosen some) h leaves e f g = absurd (f refl)
-    ended log line status (Outcome.past {file = x} {out = y} w past) h leaves e f g = past_ended law none x y line status w past leaves f g
+    ended log line status (Outcome.past {file = x} {out = y} w past) h leaves e f g = past_ended none x y line status w past leaves f g
     ended log line status (Outcome.swept {tasks = t} {instants = i} text w summary) h leaves e f g =
         let same = untouched words files left 0 leaves f g (inr (writes_nothing 5115 (λ k. omega (arith, k)) (λ k. omega (arith, k)) (λ k. omega (arith, k)) words none (sweep_mark words t i w))) in
         subst (λ z. Does words files input z [] left 0) (sym (said_put text)) (at_left files text [] 0 same (is_swept text t i w summary))
@@ -474,20 +434,17 @@ answered s log line status (Traced.put_failed rest step answer) e = absurd (omeg
 
 module _ (files : Files) (file node : List ℕ) (o : Obc) where
   -- what is run, and the program
-  runs_by : (s : System) → AreRun (Some files) file node o s → (m : Machine) → machine_named o.machines node ≡ Some m → (p : Program files file) × Runs p o node s
-  runs_by s (AreRun.of_program compiled) m named =
-      (program_of files file compiled.program compiled.held, Runs.the_node compiled.uncontrolled compiled.kept.safe (compiled.agree node m named))
-  runs_by s (AreRun.that_choose n chosen some found is) m named =
-      (program_of files file chosen.program chosen.held, Runs.the_machine some (choosing files file o chosen) (IsOwnOf.own n found is))
+  runs_by : (s : System) → AreRun (Some files) file node o s → (p : Program files file) × Runs p o node s
+  runs_by s (AreRun.own n compiled named is) = (program_of files file compiled.program compiled.held, Runs.the_machine (implementing files file o compiled) (IsOwnOf.own n named is))
 
   runs_of : (there : IsRunnable (Some files) file node o) → (p : Program files file) × Runs p o node there.system
-  runs_of there = runs_by there.system there.are there.machine.machine there.machine.named
+  runs_of there = runs_by there.system there.are
 
   starts_of : (from : Option (List ℕ)) (memory : Memory) (s : System) → Begins (Some files) file node o from memory s → (p : Program files file) × Starts p o node from memory s
   starts_of from memory s (Begins.from_reset there) = let r = runs_of there in (r.0, Starts.anew r.1)
   starts_of from memory s (Begins.from_checkpoint there gives is) = let r = runs_of there in (r.0, Starts.again r.1 gives is)
 
-module _ (words : List (List ℕ)) (files : Files) (input : List ℕ) (law : WrittenLaw) (file node : List ℕ) (from : Option (List ℕ)) (out : List ℕ) (asked : IsSegmentOf words file node from out) where
+module _ (words : List (List ℕ)) (files : Files) (input : List ℕ) (file node : List ℕ) (from : Option (List ℕ)) (out : List ℕ) (asked : IsSegmentOf words file node from out) where
   asked_from : (mem : List ℕ) → from ≡ Some mem → IsSegmentOf words file node (Some mem) out
   asked_from mem e = subst (λ z. IsSegmentOf words file node z out) e asked
 
@@ -505,7 +462,7 @@ module _ (words : List (List ℕ)) (files : Files) (input : List ℕ) (law : Wri
   stops log line status (Stops.not_run o) h d e f g =
       let run = run_words file node in
       Ends.not_run asked
-      (ended run files files [] law (run_is_no_segment file node) [] line status o (record { rest = []; are = refl; end = λ k. refl }) (Leaves.as_they_were refl (λ y w. d)) e f g) d
+      (ended run files files [] (run_is_no_segment file node) [] line status o (record { rest = []; are = refl; end = λ k. refl }) (Leaves.as_they_were refl (λ y w. d)) e f g) d
   stops log line status (Stops.unread_checkpoint k there) h d e f g = absurd (e refl)
   stops log line status (Stops.long_checkpoint {mem = m} k there long) h d e f g = Ends.long_checkpoint (asked_from m k) long
   stops log line status (Stops.checkpoint_refused {mem = m} {o = o} text cause k there gives refuses) h d e f g =
@@ -530,13 +487,13 @@ module _ (words : List (List ℕ)) (files : Files) (input : List ℕ) (law : Wri
       subst (λ y. Ends words files input (said log) [] y 0) (sym (some_same left z same)) (saves o memory s log text begins (answered s log [] 0 traced refl) h is)
   segment_ended left log line status (SegmentRun.written begins traced is (WritesText.part why b c)) h e f g = absurd (elim why [ inl k ↦ f k | inr k ↦ g k ])
 
-module _ (words : List (List ℕ)) (files left : Files) (input : List ℕ) (law : WrittenLaw) where
+module _ (words : List (List ℕ)) (files left : Files) (input : List ℕ) where
   -- the call ends so, where it is not for want of memory
   call_ended : (log : List Event) (line : List ℕ) (status : ℕ) → IsHeard input log → CallOutcome words (Some files) (Some left) log line status → Leaves words (Some files) (Some left) status →
       status ≢ 4 → status ≢ 5 → status ≢ 6 → Ends words files input (said log) line left status
   call_ended log line status h CallOutcome.no_memory leaves e f g = absurd (g refl)
-  call_ended log line status h (CallOutcome.command none o) leaves e f g = Ends.does (ended words files left input law none log line status o h leaves e f g)
-  call_ended log line status h (CallOutcome.segment s) leaves e f g = segment_ended words files input law s.file s.node s.from s.out s.asked left log line status s.ran h e f g
+  call_ended log line status h (CallOutcome.command none o) leaves e f g = Ends.does (ended words files left input none log line status o h leaves e f g)
+  call_ended log line status h (CallOutcome.segment s) leaves e f g = segment_ended words files input s.file s.node s.from s.out s.asked left log line status s.ran h e f g
 
   -- the numbers of a status that is told
   told_status : (log : List Event) (line : List ℕ) (status : ℕ) → IsHeard input log → CallOutcome words (Some files) (Some left) log line status → Leaves words (Some files) (Some left) status →
@@ -557,28 +514,28 @@ same_said (Said b ∷ log) = ap (λ z. b ∷ z) (same_said log)
 
 module _ (words : List (List ℕ)) (files left : Files) (input : List ℕ) where
   -- a call in which no call of the outside failed
-  in_memory : WrittenLaw → (events : List Event) (rest took : List ℕ) (status : ℕ) → Happened (Some []) (Some events) (Some input) (Some rest) (Some []) (Some took) (λ log line. CallOutcome words (Some files) (Some left) log line status) →
+  in_memory : (events : List Event) (rest took : List ℕ) (status : ℕ) → Happened (Some []) (Some events) (Some input) (Some rest) (Some []) (Some took) (λ log line. CallOutcome words (Some files) (Some left) log line status) →
       Leaves words (Some files) (Some left) status → status ≢ 4 → status ≢ 5 → Ends words files input (said_bytes events) took left status
-  in_memory law events rest took status o leaves e f =
+  in_memory events rest took status o leaves e f =
       let log = o.0 in
       let line = o.1 in
       let events_are : events ≡ log = some_same events log o.2 in
       let took_is : took ≡ line = some_same took line o.4 in
       let h : IsHeard input log = record { rest = rest; are = some_same input (heard log ++ rest) o.3.0; end = o.3.1 } in
       subst (λ z. Ends words files input z took left status) (sym (ap said_bytes events_are ∙ same_said log))
-      (subst (λ z. Ends words files input (said log) z left status) (sym took_is) (told_status words files left input law log line status h o.5 leaves e f))
+      (subst (λ z. Ends words files input (said log) z left status) (sym took_is) (told_status words files left input log line status h o.5 leaves e f))
 
   -- what is answered then: what the objects took that were new
-  pub told_answer : WrittenLaw → (none events : List Event) (given rest nothing took : List ℕ) (status : ℕ) → none ≡ [] → given ≡ input → nothing ≡ [] →
+  pub told_answer : (none events : List Event) (given rest nothing took : List ℕ) (status : ℕ) → none ≡ [] → given ≡ input → nothing ≡ [] →
       Happened (Some none) (Some events) (Some given) (Some rest) (Some nothing) (Some took) (λ log line. CallOutcome words (Some files) (Some left) log line status) →
       Leaves words (Some files) (Some left) status → status ≢ 4 → status ≢ 5 → (bytes line : List ℕ) (number : ℕ) → bytes ≡ said_bytes events → line ≡ took → number ≡ status →
       Ends words files input bytes line left number
-  told_answer law none events given rest nothing took status p q r o leaves e f bytes line number u v w =
+  told_answer none events given rest nothing took status p q r o leaves e f bytes line number u v w =
       let done = λ (a : List Event) (b c : List ℕ). Happened (Some a) (Some events) (Some b) (Some rest) (Some c) (Some took) (λ log told. CallOutcome words (Some files) (Some left) log told status) in
       let new : done [] input [] = subst (λ a. done a input []) p (subst (λ b. done none b []) q (subst (λ c. done none given c) r o)) in
       subst (λ z. Ends words files input z line left number) (sym u)
       (subst (λ z. Ends words files input (said_bytes events) z left number) (sym v)
-      (subst (λ z. Ends words files input (said_bytes events) took left z) (sym w) (in_memory law events rest took status new leaves e f)))
+      (subst (λ z. Ends words files input (said_bytes events) took left z) (sym w) (in_memory events rest took status new leaves e f)))
 
   -- what is answered where a read or a take failed
   pub unread_answer : (status : ℕ) → status ≡ 4 → Leaves words (Some files) (Some left) status → (why : Status) → (why ≡ NoMemory) ⊎ ((why ≡ ReadFailed) × LacksFile words left) →

@@ -22,12 +22,12 @@ use Rattle.hp_driver.specs.Command.{IsExecOf, IsOverContract, ReadsSource, IsOve
 use Rattle.hp_driver.specs.Lines.{lines_of}
 use Rattle.hp_driver.specs.GoodCalls.{IsGood}
 use Rattle.hp_driver.specs.Log.{heard, has_ended, HeardFrom}
-use Rattle.hp_driver.specs.Outcome.{Outcome, AreMachines, AreAskedFor, IsMachine, IsAskedFor, LacksNode}
+use Rattle.hp_driver.specs.Outcome.{Outcome, AreMachines, IsMachine, IsAskedFor}
 use Rattle.hp_driver.specs.Systems.{System, of_machine, inputs_of}
 use Rattle.hp_driver.specs.Values.{first_bad}
 use Rattle.hp_driver.specs.declared.trace_limits.BadLine.{BadLine}
 use Rattle.hp_driver.proofs.GoodLines.{good_so_far}
-use Rattle.hp_driver.proofs.WordLaws.{past_exec, run_exec, same_words, exec_source, exec_contract, tell_exec, running_source, sweep_exec}
+use Rattle.hp_driver.proofs.WordLaws.{past_exec, run_exec, same_words, exec_source, exec_contract, tell_exec, running_source, either_source, sweep_exec}
 
 -- ---- texts
 
@@ -64,15 +64,10 @@ module _ (words : List (List ℕ)) (held : Files) (file node : List ℕ) (o : Ob
       let read : IsTextOf ms.text p = subst (λ t. IsTextOf t p) text others.read in
       same_machines ms.text read.file_is p o read.spelled read.machines ms.read
 
-  same_asked : (y : List ℕ) (p : Obc) → AreAskedFor words (Some held) y p → (p ≡ o) × (y ≡ node)
-  same_asked y p (AreAskedFor.in_text {file = x} v others) = (same_obc x y p v others, (same_words (codes "exec") words file node x y w v).1)
-  same_asked y p (AreAskedFor.of_program {file = x} r compiled) = absurd (run_exec words x y file node r w)
-
-  named_twice : (y : List ℕ) (p : Obc) (asked : AreAskedFor words (Some held) y p) → LacksNode words (Some held) y p asked → ⊥
-  named_twice y p (AreAskedFor.in_text v others) none =
-      let same = same_asked y p (AreAskedFor.in_text v others) in
+  named_twice : (x y : List ℕ) (p : Obc) → IsExecOf words x y → AreMachines (Some held) x p → machine_named p.machines y ≡ None → ⊥
+  named_twice x y p v others none =
+      let same : (p ≡ o) × (y ≡ node) = (same_obc x y p v others, (same_words (codes "exec") words file node x y w v).1) in
       let found : machine_named p.machines y ≡ Some m.machine = (λ i. machine_named (same.0 i).machines (same.1 i)) ∙ m.named in cc
-  named_twice y p (AreAskedFor.of_program {file = x} r compiled) none = run_exec words x y file node r w
 
   not_passed : (x y : List ℕ) (p : Obc) (limit : Limit) → IsExecOf words x y → AreMachines (Some held) x p → IsPassed p y limit → ⊥
   not_passed x y p limit v others passed =
@@ -84,10 +79,9 @@ module _ (words : List (List ℕ)) (held : Files) (file node : List ℕ) (o : Ob
       elim passed [ inl a ↦ (let long = a.0 in omega (arith, long, chains, chain)) | inr a ↦ (let many = a.1 in omega (arith, many, counts, count)) ]
 
   system : (s : System) → IsAskedFor words (Some held) s → s ≡ of_machine o node
-  system s (IsAskedFor.a_node {file = x} {node = y} r compiled found) = absurd (run_exec words x y file node r w)
-  system s (IsAskedFor.a_chosen_node {file = x} {node = y} n r chosen some named found is) = absurd (run_exec words x y file node r w)
-  system s (IsAskedFor.a_contract {file = x} {node = y} n r chosen named some found is) = absurd (tell_exec words x y file node r w)
-  system s (IsAskedFor.no_contract {file = x} {node = y} n r chosen named none found is) = absurd (tell_exec words x y file node r w)
+  system s (IsAskedFor.a_node {file = x} {node = y} n r compiled named found is) = absurd (run_exec words x y file node r w)
+  system s (IsAskedFor.a_contract {file = x} {node = y} n r compiled named some found is) = absurd (tell_exec words x y file node r w)
+  system s (IsAskedFor.no_contract {file = x} {node = y} n r compiled named none found is) = absurd (tell_exec words x y file node r w)
   system s (IsAskedFor.a_machine {file = x} {node = y} {o = p} v others found) = λ i. of_machine (same_obc x y p v others i) ((same_words (codes "exec") words file node x y w v).1 i)
 
   pub completes : (log : List Event) (line : List ℕ) (status : ℕ) (more : List ℕ) → Outcome words (Some held) log line status → (has_ended log ≡ true → more ≡ []) →
@@ -100,9 +94,9 @@ module _ (words : List (List ℕ)) (held : Files) (file node : List ℕ) (o : Ob
   completes log line status more (Outcome.refused {file = x} text cause (ReadsSource.of_program over) gives causes none) ended good f g = absurd (exec_source words file node x w over)
   completes log line status more (Outcome.refused {file = x} text cause (ReadsSource.of_contract {node = y} k) gives causes none) ended good f g = absurd (exec_contract words file node x y w k)
   completes log line status more (Outcome.contract_refused {file = x} cause over source some differs refuses) ended good f g = absurd (exec_source words file node x w over)
-  completes log line status more (Outcome.no_node_to_run {file = x} {name = y} {program = p} asks source kept none) ended good f g = absurd (exec_source words file node x w (running_source words x y p asks))
-  completes log line status more (Outcome.chosen_too_large {file = x} {node = y} {name = z} limit chosen asks for passed) ended good f g =
-      absurd (exec_source words file node x w (running_source words x y chosen.program asks))
+  completes log line status more (Outcome.no_node_to_run {file = x} {name = y} asks source kept none) ended good f g = absurd (exec_source words file node x w (either_source words x y asks))
+  completes log line status more (Outcome.chosen_too_large {file = x} {node = y} {name = z} limit compiled asks for passed) ended good f g =
+      absurd (exec_source words file node x w (running_source words x y compiled.program asks))
   completes log line status more (Outcome.accepted print c source kept) ended good f g = inl refl
   completes log line status more (Outcome.accepted_in_part print out rest c source kept e) ended good f g = absurd (g refl)
   completes log line status more (Outcome.no_node {file = x} {name = y} k source none) ended good f g = absurd (exec_contract words file node x y w k)
@@ -129,12 +123,10 @@ module _ (words : List (List ℕ)) (held : Files) (file node : List ℕ) (o : Ob
       let same = same_text held file x ms.text text (same_words (codes "exec") words file node x y w v).0 ms.held gives in
       let t = ms.read in
       absurd (keeps_all ms.text t.file_is at t.spelled t.kept (subst (λ z. BreaksForm z at) same b))
-  completes log line status more (Outcome.no_machine {node = y} {o = p} asked none) ended good f g = absurd (named_twice y p asked none)
+  completes log line status more (Outcome.no_machine {file = x} {node = y} {o = p} v others none) ended good f g = absurd (named_twice x y p v others none)
   completes log line status more (Outcome.too_large {file = x} {node = y} {o = p} limit v others passed) ended good f g = absurd (not_passed x y p limit v others passed)
   completes log line status more (Outcome.compiled c compiled) ended good f g = inl refl
   completes log line status more (Outcome.not_written c compiled) ended good f g = absurd (g refl)
-  completes log line status more (Outcome.chosen_compiled c chosen some) ended good f g = inl refl
-  completes log line status more (Outcome.chosen_not_written c chosen some) ended good f g = absurd (g refl)
   completes log line status more (Outcome.past {file = x} {out = y} p r) ended good f g = absurd (past_exec words x y p file node w)
   completes log line status more (Outcome.swept {tasks = t} {instants = i} text s is) ended good f g = inl refl
   completes log line status more (Outcome.swept_in_part {tasks = t} {instants = i} text out rest s is e) ended good f g = absurd (g refl)

@@ -24,12 +24,12 @@ use Rattle.hp_verdicts.specs.declared.error.ContractErr.TheVariants as contract
 use Rattle.hp_verdicts.proofs.ShownLaws.{node_shown}
 use Rattle.hp_driver.specs.Command.{IsProveOf, IsVerifyOf, IsOverContract, IsOverSource, ReadsSource, IsOver}
 use Rattle.hp_driver.specs.GoodCalls.{HasDecidable, IsProvable, IsVerifiable, IsGoodProve, IsGoodVerify}
-use Rattle.hp_driver.specs.Outcome.{Outcome, Gives, GivesMoreThan, IsHeld, HasContract, AreAskedFor, IsAskedFor}
+use Rattle.hp_driver.specs.Outcome.{Outcome, Gives, GivesMoreThan, IsHeld, HasContract, IsAskedFor}
 use Rattle.hp_driver.specs.Systems.{System}
 use Rattle.hp_driver.proofs.Completeness.{same_text}
 use Rattle.hp_driver.proofs.GoodContracts.{has_verdict}
 use Rattle.hp_driver.proofs.SourceCalls.{same_arranged, not_long, has_program}
-use Rattle.hp_driver.proofs.WordLaws.{past_contract, exec_contract, source_contract, prove_contract, verify_contract, prove_verify, same_four, running_source, sweep_contract}
+use Rattle.hp_driver.proofs.WordLaws.{past_contract, exec_contract, source_contract, prove_contract, verify_contract, prove_verify, same_four, running_source, either_source, sweep_contract}
 
 same_some : (n m : Node) → Some n ≡ Some m → n ≡ m
 same_some n m e = cc
@@ -46,16 +46,11 @@ module _ (words : List (List ℕ)) (held : Files) (file name text : List ℕ) (p
   arranged_so : (x y : List ℕ) (p : List Item) → IsOverContract words x y → (h : IsHeld (Some held) x p) → IsArranged program h.clocked h.ranks
   arranged_so x y p k h = same_arranged held file text program holds judged x p (only x y k).0 h
 
-  not_asked : (y : List ℕ) (o : Obc) → AreAskedFor words (Some held) y o → ⊥
-  not_asked y o (AreAskedFor.in_text {file = x} v others) = exec_contract words x y file name v over
-  not_asked y o (AreAskedFor.of_program {file = x} r compiled) = source_contract words x file name (IsOverSource.to_run r) over
-
   not_system : (s : System) → IsAskedFor words (Some held) s → ⊥
-  not_system s (IsAskedFor.a_node {file = x} {node = y} r compiled found) = source_contract words x file name (IsOverSource.to_run r) over
+  not_system s (IsAskedFor.a_node {file = x} {node = y} n r compiled named found is) = source_contract words x file name (IsOverSource.to_run r) over
   not_system s (IsAskedFor.a_machine {file = x} {node = y} v others found) = exec_contract words x y file name v over
-  not_system s (IsAskedFor.a_chosen_node {file = x} {node = y} n r chosen some named found is) = source_contract words x file name (IsOverSource.to_run r) over
-  not_system s (IsAskedFor.a_contract {file = x} {node = y} n r chosen named some found is) = source_contract words x file name (IsOverSource.to_tell r) over
-  not_system s (IsAskedFor.no_contract {file = x} {node = y} n r chosen named none found is) = source_contract words x file name (IsOverSource.to_tell r) over
+  not_system s (IsAskedFor.a_contract {file = x} {node = y} n r compiled named some found is) = source_contract words x file name (IsOverSource.to_tell r) over
+  not_system s (IsAskedFor.no_contract {file = x} {node = y} n r compiled named none found is) = source_contract words x file name (IsOverSource.to_tell r) over
 
   module _ (has : (clocked : List Item) (ranks : List (List ℕ)) → IsArranged program clocked ranks → HasDecidable clocked name) where
     node_there : (x y : List ℕ) (p : List Item) → IsOverContract words x y → (h : IsHeld (Some held) x p) → node_among h.clocked y ≡ None → ⊥
@@ -98,9 +93,9 @@ module _ (words : List (List ℕ)) (held : Files) (file name text : List ℕ) (p
     decides log line status short within shown (Outcome.refused {file = x} other cause (ReadsSource.of_contract {node = y} k) gives causes none) f g =
         absurd (has_program held file text program holds judged x other (only x y k).0 gives arrangeable none)
     decides log line status short within shown (Outcome.contract_refused {file = x} cause reads source some differs refuses) f g = absurd (source_contract words x file name reads over)
-    decides log line status short within shown (Outcome.no_node_to_run {file = x} {name = y} {program = p} asks source kept none) f g = absurd (source_contract words x file name (running_source words x y p asks) over)
-    decides log line status short within shown (Outcome.chosen_too_large {file = x} {node = y} {name = z} limit chosen asks for passed) f g =
-        absurd (source_contract words x file name (running_source words x y chosen.program asks) over)
+    decides log line status short within shown (Outcome.no_node_to_run {file = x} {name = y} asks source kept none) f g = absurd (source_contract words x file name (either_source words x y asks) over)
+    decides log line status short within shown (Outcome.chosen_too_large {file = x} {node = y} {name = z} limit compiled asks for passed) f g =
+        absurd (source_contract words x file name (running_source words x y compiled.program asks) over)
     decides log line status short within shown (Outcome.accepted print c source kept) f g = inl refl
     decides log line status short within shown (Outcome.accepted_in_part print out rest c source kept e) f g = absurd (g refl)
     decides log line status short within shown (Outcome.no_node {file = x} {name = y} {program = p} k source none) f g = absurd (node_there x y p k source none)
@@ -117,12 +112,10 @@ module _ (words : List (List ℕ)) (held : Files) (file name text : List ℕ) (p
     decides log line status short within shown (Outcome.long_text {file = x} {node = y} v long) f g = absurd (exec_contract words x y file name v over)
     decides log line status short within shown (Outcome.no_text {file = x} {node = y} other at v gives r) f g = absurd (exec_contract words x y file name v over)
     decides log line status short within shown (Outcome.no_form {file = x} {node = y} other at v gives b) f g = absurd (exec_contract words x y file name v over)
-    decides log line status short within shown (Outcome.no_machine {node = y} {o = o} asked none) f g = absurd (not_asked y o asked)
+    decides log line status short within shown (Outcome.no_machine {file = x} {node = y} v others none) f g = absurd (exec_contract words x y file name v over)
     decides log line status short within shown (Outcome.too_large {file = x} {node = y} limit v others passed) f g = absurd (exec_contract words x y file name v over)
     decides log line status short within shown (Outcome.compiled c compiled) f g = inl refl
     decides log line status short within shown (Outcome.not_written c compiled) f g = absurd (g refl)
-    decides log line status short within shown (Outcome.chosen_compiled c chosen some) f g = inl refl
-    decides log line status short within shown (Outcome.chosen_not_written c chosen some) f g = absurd (g refl)
     decides log line status short within shown (Outcome.past {file = x} {out = y} p r) f g = absurd (past_contract words x y p file name over)
     decides log line status short within shown (Outcome.swept {tasks = t} {instants = i} other s is) f g = inl refl
     decides log line status short within shown (Outcome.swept_in_part {tasks = t} {instants = i} other out rest s is e) f g = absurd (g refl)

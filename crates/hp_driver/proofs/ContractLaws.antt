@@ -121,16 +121,10 @@ module _ (law : OutcomesLaw) (program ordered : List Item) (kept : AreKept order
   accepted_of print out status (Accepts.said_in_part said rest e) words files file held same w = Outcome.accepted_in_part print out rest w held (in_games files file held same) e
   accepted_of print out status Accepts.no_memory words files file held same w = Outcome.no_memory
 
-  -- it is asked what a contract assumes and enforces
-  pub choosing_tell : (node : Bor (List ℕ)) (log : List Event) (line : List ℕ) (status : ℕ) → ChoosingTell node.now ordered log line status → DecidedOutcome (Tell node) program ordered log line status
-  choosing_tell node log line status f words files file held same w = f words files file program held same (in_games files file held same) w
+  -- a node of it is to be run
+  pub ordered_run : (node : Bor (List ℕ)) (log : List Event) (line : List ℕ) (status : ℕ) → OrderedRun node.now ordered log line status → DecidedOutcome (Run node) program ordered log line status
+  ordered_run node log line status f words files file held same w = f words files file program held same (in_games files file held same) w
 
-  -- it has controllable variables, and is to be run
-  module _ (some : has_controls program ≡ true) where
-    pub choosing_run : (node : Bor (List ℕ)) (log : List Event) (line : List ℕ) (status : ℕ) → ChoosingRun node.now ordered log line status → DecidedOutcome (Run node) program ordered log line status
-    choosing_run node log line status f words files file held same w = f words files file program held same some (in_games files file held same) w
-
-  -- it has none
-  module _ (none : has_controls program ≡ false) where
-    pub ordered_run : (node : Bor (List ℕ)) (log : List Event) (line : List ℕ) (status : ℕ) → OrderedRun node.now ordered log line status → DecidedOutcome (Run node) program ordered log line status
-    ordered_run node log line status f words files file held same w = f words files file program held same none (in_games files file held same) w
+  -- or it is asked what a contract assumes and enforces
+  pub ordered_tell : (node : Bor (List ℕ)) (log : List Event) (line : List ℕ) (status : ℕ) → OrderedTell node.now ordered log line status → DecidedOutcome (Tell node) program ordered log line status
+  ordered_tell node log line status f words files file held same w = f words files file program held same (in_games files file held same) w

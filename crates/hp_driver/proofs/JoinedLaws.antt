@@ -21,7 +21,6 @@ use Rattle.hp_driver.specs.Systems.{of_machine, from_memory, inputs_of, outputs_
 use Rattle.hp_driver.specs.Values.{reading, inputs_on, inputs_until, first_bad}
 use Rattle.hp_driver.specs.declared.trace_limits.Fault.{Fault}
 use Rattle.hp_driver.specs.declared.trace_limits.TheConstants.{MAX_LINES}
-use Rattle.hp_driver.proofs.HistoryLaws.{as_node, keeping, runs_node}
 use Rattle.hp_driver.proofs.TraceLaws.{by_tests}
 use Rattle.hp_driver.proofs.WrittenLaws.{as_machine}
 
@@ -132,10 +131,5 @@ of_machine_joined o node first second bytes more good a d =
     let said = (joined o node (machine_behaviour o node).reset first second bytes more good (record { outputs = a.outputs; run = a.run; kinds = a.kinds; said = a.said }) d).said in
     record { outputs = said.outputs; run = said.run; kinds = said.kinds; said = said.said }
 
-pub joined_run : TextLaw → RunLaw → JoinedRunLaw
-joined_run text_law run_law files file node o s first second bytes more (AreRun.of_program compiled) is good a d =
-    let runs = runs_node text_law files file o compiled node is.machine is.named in
-    let keeps = keeping run_law files file o compiled node in
-    as_node compiled.held.clocked o node is.machine is.named runs keeps (first ++ second) (bytes ++ more)
-    (of_machine_joined o node first second bytes more good (as_machine compiled.held.clocked o node is.machine is.named runs keeps first bytes a) d)
-joined_run text_law run_law files file node o s first second bytes more (AreRun.that_choose n chosen some named is_chosen) is good a d = of_machine_joined o node first second bytes more good a d
+pub joined_run : JoinedRunLaw
+joined_run files file node o s first second bytes more (AreRun.own n compiled named is_chosen) is good a d = of_machine_joined o node first second bytes more good a d

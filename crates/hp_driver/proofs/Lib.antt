@@ -1,6 +1,7 @@
 pub mod AcceptedLaws
 pub mod NamedLaws
 pub mod OwnLaws
+pub mod NumbersAmong
 mod HandedLaws
 mod CompilingLaws
 pub mod AlikeLaws

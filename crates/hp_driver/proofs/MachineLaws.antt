@@ -10,42 +10,32 @@ use Rattle.hp_io.proofs.FaultLaws.{Rose-behind}
 use Rattle.hp_io.specs.Files.{Files}
 use Rattle.hp_io.specs.Told.{Grows}
 use Rattle.hp_io.specs.declared.console.Event.{Event}
-use Rattle.hp_machines.specs.Machined.{AreMachinesOf}
-use Rattle.hp_exec.specs.Answers.{Executes, IsPassed}
-use Rattle.hp_exec.specs.Bounds.{longest_chain, instance_count}
+use Rattle.hp_exec.specs.Answers.{Executes}
 use Rattle.hp_exec.specs.Executors.{Executor}
 use Rattle.hp_exec.specs.declared.error.ExecErr.{ExecErr}
 use Rattle.hp_exec.specs.declared.error.ExecErr.TheVariants.{NoNode, Limit as Passed}
-use Rattle.hp_obc.specs.Form.{TypesForm, machine_named}
+use Rattle.hp_obc.specs.Form.{TypesForm}
 use Rattle.hp_obc.specs.Machines.{Obc}
 use Rattle.hp_obctext.specs.Answers.{IsTextOf}
 use Rattle.hp_obctext.proofs.FormMachines.{file_form}
 use Rattle.hp_obctext.specs.declared.error.ObcErr.{ObcErr}
 use Rattle.hp_obctext.specs.declared.error.ObcErr.TheVariants.{Syntax, Form, Limit as Longer}
-use Rattle.hp_tree.specs.declared.program.Item.{Item}
-use Rattle.law_history.specs.Streams.Texts.{TextLaw, WithinLaw}
-use Rattle.law_decided.specs.Promised.{RunLaw}
-use Rattle.law_decided.specs.Outcomes.{AreKeptInGames}
-use Rattle.hp_driver.specs.Controls.{has_controls}
 use Rattle.hp_driver.specs.Command.{IsRunOf, IsPastOf, IsExecOf, IsCheckOf, IsProveOf, IsVerifyOf, IsOverSource, IsOverContract, ReadsSource, IsOver, Writes, no_node_line, IsNoFileCommand, IsTellOf, IsSweepOf}
 use Rattle.hp_driver.specs.Commanded.{SpellsTask}
 use Rattle.hp_driver.specs.Diagnostics.{no_text_line, no_form_line, limit_line, executor_line}
 use Rattle.hp_driver.specs.Executing.{executing}
-use Rattle.hp_driver.specs.Follows.{ExecOf, MachinesOutcome, OrderedRun, RefusedText, RefusedMachine}
+use Rattle.hp_driver.specs.Follows.{ExecOf, MachinesOutcome, RefusedText, RefusedMachine}
 use Rattle.hp_driver.specs.Leaves.{Leaves, IsPrinted, ReadRose, WriteRose}
 use Rattle.hp_driver.specs.Leaving.{WritesText, WritesMachines, RoseInWrite}
-use Rattle.hp_driver.specs.Outcome.{Outcome, Gives, GivesMoreThan, IsHeld, AreCompiled, AreAskedFor, IsMachine, IsAskedFor, LacksNode}
+use Rattle.hp_driver.specs.Outcome.{Outcome, Gives, GivesMoreThan, IsMachine, IsAskedFor}
 use Rattle.hp_driver.specs.Ran.{Ran, Reports, ReportsOrNot}
-use Rattle.hp_driver.specs.Systems.{of_node, of_machine}
+use Rattle.hp_driver.specs.Systems.{of_machine}
 use Rattle.hp_driver.specs.declared.words.Task.{Task}
 use Rattle.hp_driver.specs.declared.words.Task.TheVariants.{Run, Tell, Check, Compile}
 use Rattle.hp_compile.specs.declared.refusal.Place.TheVariants.{Whole}
 use Rattle.hp_driver.proofs.ExecutionLaws.{machine_says, machine_refuses}
-use Rattle.hp_driver.proofs.NamedLaws.{no_node_named}
 use Rattle.hp_driver.proofs.OutcomeLaws.{told_or_not, Mirrors, outcome}
 use Rattle.hp_driver.proofs.WordLaws.{run_writes, exec_writes, check_writes, verify_writes, tell_writes, sweep_writes}
-use Rattle.hp_driver.proofs.HistoryLaws.{keeping, runs_node, stays_within, node_mirrors}
-use Rattle.hp_driver.proofs.WrittenLaws.{agree_with_nodes}
 
 -- the types of a text of machines have form
 pub types_of_text : (text : List ℕ) (o : Obc) → IsTextOf text o → TypesForm o.types
@@ -81,32 +71,21 @@ long_text limit text node h words files file w held =
 -- ---- the machine is not run
 
 machine_line_failed : (node : List ℕ) (error : ExecErr) (line : List ℕ) (b : ℕ) (rest : List ℕ) (status : ℕ) → RefusedMachine node error (line ++ b ∷ rest) status → RefusedMachine node error line 5
-machine_line_failed node error line b rest status f o h words files asked = Outcome.line_failed line b rest (f o h words files asked)
+machine_line_failed node error line b rest status f o h words files file w machines = Outcome.line_failed line b rest (f o h words files file w machines)
 
 pub machine_no_memory : (node : List ℕ) (error : ExecErr) → RefusedMachine node error [] 6
-machine_no_memory node error o h words files asked = Outcome.no_memory
+machine_no_memory node error o h words files file w machines = Outcome.no_memory
 
 module _ (node : List ℕ) (error : ExecErr) (before after : Option (List ℕ)) (result : ℕ) where
   pub machine_told : (line : List ℕ) (status : ℕ) → ReportsOrNot before after line status result → RefusedMachine node error line status →
       (told : List ℕ) × Grows before after told × RefusedMachine node error told result
   machine_told line status r h = told_or_not (RefusedMachine node error) (machine_line_failed node error) (machine_no_memory node error) before after line status result r h
 
--- where no machine has the name, nothing that is asked for has it
-lacks_node : (words : List (List ℕ)) (files : Option Files) (node : List ℕ) (o : Obc) (asked : AreAskedFor words files node o) → machine_named o.machines node ≡ None → LacksNode words files node o asked
-lacks_node words files node o (AreAskedFor.in_text w machines) none = none
-lacks_node words files node o (AreAskedFor.of_program w compiled) none = no_node_named compiled.held.clocked o.machines node compiled.machines.machines none
-
 pub no_machine : (node : List ℕ) → RefusedMachine node NoNode (no_node_line node) 1
-no_machine node o h words files asked = Outcome.no_machine asked (lacks_node words files node o asked h)
+no_machine node o h words files file w machines = Outcome.no_machine w machines h
 
--- no machine of a program passes a limit
-is_within : (o : Obc) (node : List ℕ) (limit : Limit) → (longest_chain o.machines node ≤ 70) × (instance_count o.machines node ≤ 250000) → IsPassed o node limit → ⊥
-is_within o node limit w (inl a) = let chain = w.0 in let long = a.0 in omega (arith, chain, long)
-is_within o node limit w (inr a) = let count = w.1 in let many = a.1 in omega (arith, count, many)
-
-pub too_large : WithinLaw → (node : List ℕ) (limit : Limit) → RefusedMachine node (Passed limit) (executor_line limit) 1
-too_large law node limit o h words files (AreAskedFor.in_text w machines) = Outcome.too_large limit w machines h
-too_large law node limit o h words files (AreAskedFor.of_program {file} w compiled) = absurd (is_within o node limit (stays_within law files file o compiled node) h)
+pub too_large : (node : List ℕ) (limit : Limit) → RefusedMachine node (Passed limit) (executor_line limit) 1
+too_large node limit o h words files file w machines = Outcome.too_large limit w machines h
 
 -- ---- the machine is run
 
@@ -116,17 +95,13 @@ machine_of node o e h = record { machine = h.machine; named = h.named; chain = h
 pub machine_mirrors : (node : List ℕ) (o : Obc) (e : Executor) → Executes o node e → Mirrors executing e (of_machine o node)
 machine_mirrors node o e h = record { says = machine_says o node e h; refuses = machine_refuses o node e h }
 
-pub machine_ran : TextLaw → RunLaw → (node : List ℕ) (o : Obc) (e : Executor) (log : List Event) (line : List ℕ) (status : ℕ) → Executes o node e → Ran executing e log line status → MachinesOutcome o node log line status
-machine_ran text_law run_law node o e log line status h r words files (AreAskedFor.in_text w machines) =
+pub machine_ran : (node : List ℕ) (o : Obc) (e : Executor) (log : List Event) (line : List ℕ) (status : ℕ) → Executes o node e → Ran executing e log line status → MachinesOutcome o node log line status
+machine_ran node o e log line status h r words files file w machines =
     outcome executing e (of_machine o node) (machine_mirrors node o e h) words files (IsAskedFor.a_machine w machines (machine_of node o e h)) log line status r
-machine_ran text_law run_law node o e log line status h r words files (AreAskedFor.of_program {file} w compiled) =
-    let runs = runs_node text_law files file o compiled node h.machine h.named in
-    outcome executing e (of_node compiled.held.clocked node) (node_mirrors compiled.held.clocked o node h.machine h.named runs executing e (keeping run_law files file o compiled node) (machine_mirrors node o e h)) words files
-    (IsAskedFor.a_node w compiled (machine_of node o e h)) log line status r
 
 -- of a text of machines
 pub in_text : (text node : List ℕ) (o : Obc) (log : List Event) (line : List ℕ) (status : ℕ) → IsTextOf text o → MachinesOutcome o node log line status → ExecOf text node log line status
-in_text text node o log line status read f words files file w held = f words files (AreAskedFor.in_text w (record { text = text; held = held; read = read }))
+in_text text node o log line status read f words files file w held = f words files file w (record { text = text; held = held; read = read })
 
 -- ---- the machines of a program
 
@@ -134,20 +109,6 @@ in_text text node o log line status read f words files file w held = f words fil
 pub wrote_machines : (o : Obc) (out text : List ℕ) (before after : Option Files) (status : ℕ) → IsPrinted o text → WritesText text out before after status → WritesMachines o out before after status
 wrote_machines o out text before after status printed (WritesText.whole all) = WritesMachines.whole printed all
 wrote_machines o out text before after status printed (WritesText.part why others this) = WritesMachines.part why printed others this
-
-module _ (law : TextLaw) (run_law : RunLaw) (ordered : List Item) (o : Obc) (m : AreMachinesOf ordered o) where
-  abbrev pub compiled_of : (files : Option Files) (file : List ℕ) (program : List Item) (held : IsHeld files file program) → held.clocked ≡ ordered → has_controls program ≡ false → AreKeptInGames held.clocked → AreCompiled files file o
-  compiled_of files file program held e none kept =
-      let machines : AreMachinesOf held.clocked o = subst (λ (z : List Item). AreMachinesOf z o) (sym e) m in
-      record { program = program; held = held; uncontrolled = none; kept = kept; agree = agree_with_nodes law run_law files file program held none kept o machines; machines = machines }
-
-  -- one is run
-  pub of_program : (node : List ℕ) (log : List Event) (line : List ℕ) (status : ℕ) → MachinesOutcome o node log line status → OrderedRun node ordered log line status
-  of_program node log line status f words files file program held e none kept w = f words files (AreAskedFor.of_program w (compiled_of files file program held e none kept))
-
--- there is no memory
-pub run_memory : (node : List ℕ) (ordered : List Item) → OrderedRun node ordered [] [] 6
-run_memory node ordered words files file program held e none kept w = Outcome.no_memory
 
 -- ---- what a call leaves that wrote nothing
 

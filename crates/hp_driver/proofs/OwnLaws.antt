@@ -27,7 +27,7 @@ pub record DoesThere (o own : Obc) (node : List ℕ) (m : Machine) : Type 0 wher
 
 module _ (text : List ℕ) (tokens : List Token) (program ordered : List Item) (ranks : List (List ℕ)) (accepted : IsAccepted text tokens program ordered ranks) (own : Obc) (machines : AreMachinesOf ordered own) where
   -- own machines call own ones before them
-  calls_own : BuiltLaw → FormLaw → IsTrue (call_earlier [] own.machines)
+  pub calls_own : BuiltLaw → FormLaw → IsTrue (call_earlier [] own.machines)
   calls_own built form_law = by (call_earlier [] own.machines) refl
     where
       by : (b : Bool) → call_earlier [] own.machines ≡ b → IsTrue (call_earlier [] own.machines)

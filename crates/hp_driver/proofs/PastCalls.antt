@@ -10,11 +10,11 @@ use Rattle.hp_obc.specs.Machines.{Obc}
 use Rattle.hp_tree.specs.declared.program.Item.{Item}
 use Rattle.hp_driver.specs.Command.{IsPastOf, IsExecOf, IsOverContract, IsOverSource, ReadsSource, IsOver}
 use Rattle.hp_driver.specs.GoodCalls.{IsGoodPast}
-use Rattle.hp_driver.specs.Outcome.{Outcome, Gives, AreAskedFor, IsAskedFor}
+use Rattle.hp_driver.specs.Outcome.{Outcome, Gives, IsAskedFor}
 use Rattle.hp_driver.specs.PastOutcome.{PastOutcome, unfolded_text}
 use Rattle.hp_driver.specs.Systems.{System}
 use Rattle.hp_driver.proofs.Completeness.{same_text}
-use Rattle.hp_driver.proofs.WordLaws.{past_source, past_contract, past_exec, same_words, running_source, sweep_past}
+use Rattle.hp_driver.proofs.WordLaws.{past_source, past_contract, past_exec, same_words, running_source, either_source, sweep_past}
 
 module _ (words : List (List ℕ)) (held : Files) (file out text : List ℕ) (program : List Item) (w : IsPastOf words file out) (holds : Holds held file text) (is : IsProgramOf text program)
     (short : (other : List Item) → IsProgramOf text other → length (unfolded_text other) ≤ most Size) where
@@ -31,16 +31,11 @@ module _ (words : List (List ℕ)) (held : Files) (file out text : List ℕ) (pr
   not_read x (ReadsSource.of_program over) = not_source x over
   not_read x (ReadsSource.of_contract {node = y} k) = not_contract x y k
 
-  not_asked : (y : List ℕ) (o : Obc) → AreAskedFor words (Some held) y o → ⊥
-  not_asked y o (AreAskedFor.in_text {file = x} v others) = not_exec x y v
-  not_asked y o (AreAskedFor.of_program {file = x} r compiled) = not_source x (IsOverSource.to_run r)
-
   not_system : (s : System) → IsAskedFor words (Some held) s → ⊥
-  not_system s (IsAskedFor.a_node {file = x} {node = y} r compiled found) = not_source x (IsOverSource.to_run r)
+  not_system s (IsAskedFor.a_node {file = x} {node = y} n r compiled named found is) = not_source x (IsOverSource.to_run r)
   not_system s (IsAskedFor.a_machine {file = x} {node = y} v others found) = not_exec x y v
-  not_system s (IsAskedFor.a_chosen_node {file = x} {node = y} n r chosen some named found is) = not_source x (IsOverSource.to_run r)
-  not_system s (IsAskedFor.a_contract {file = x} {node = y} n r chosen named some found is) = not_source x (IsOverSource.to_tell r)
-  not_system s (IsAskedFor.no_contract {file = x} {node = y} n r chosen named none found is) = not_source x (IsOverSource.to_tell r)
+  not_system s (IsAskedFor.a_contract {file = x} {node = y} n r compiled named some found is) = not_source x (IsOverSource.to_tell r)
+  not_system s (IsAskedFor.no_contract {file = x} {node = y} n r compiled named none found is) = not_source x (IsOverSource.to_tell r)
 
   -- the file is the one that holds the text
   same_file : (x y other : List ℕ) → IsPastOf words x y → Holds held x other → other ≡ text
@@ -67,9 +62,9 @@ module _ (words : List (List ℕ)) (held : Files) (file out text : List ℕ) (pr
   succeeds log line status (Outcome.too_long {file = x} reads long) f g = absurd (not_read x reads)
   succeeds log line status (Outcome.refused {file = x} other cause reads gives causes none) f g = absurd (not_read x reads)
   succeeds log line status (Outcome.contract_refused {file = x} cause over source some differs refuses) f g = absurd (not_source x over)
-  succeeds log line status (Outcome.no_node_to_run {file = x} {name = y} {program = p} asks source kept none) f g = absurd (not_source x (running_source words x y p asks))
-  succeeds log line status (Outcome.chosen_too_large {file = x} {node = y} {name = z} limit chosen asks for passed) f g =
-      absurd (not_source x (running_source words x y chosen.program asks))
+  succeeds log line status (Outcome.no_node_to_run {file = x} {name = y} asks source kept none) f g = absurd (not_source x (either_source words x y asks))
+  succeeds log line status (Outcome.chosen_too_large {file = x} {node = y} {name = z} limit compiled asks for passed) f g =
+      absurd (not_source x (running_source words x y compiled.program asks))
   succeeds log line status (Outcome.accepted print c source kept) f g = inl refl
   succeeds log line status (Outcome.accepted_in_part print said rest c source kept e) f g = absurd (g refl)
   succeeds log line status (Outcome.no_node {file = x} {name = y} k source none) f g = absurd (not_contract x y k)
@@ -86,12 +81,10 @@ module _ (words : List (List ℕ)) (held : Files) (file out text : List ℕ) (pr
   succeeds log line status (Outcome.long_text {file = x} {node = y} v long) f g = absurd (not_exec x y v)
   succeeds log line status (Outcome.no_text {file = x} {node = y} other at v gives r) f g = absurd (not_exec x y v)
   succeeds log line status (Outcome.no_form {file = x} {node = y} other at v gives b) f g = absurd (not_exec x y v)
-  succeeds log line status (Outcome.no_machine {node = y} {o = o} asked none) f g = absurd (not_asked y o asked)
+  succeeds log line status (Outcome.no_machine {file = x} {node = y} v others none) f g = absurd (not_exec x y v)
   succeeds log line status (Outcome.too_large {file = x} {node = y} limit v others passed) f g = absurd (not_exec x y v)
   succeeds log line status (Outcome.compiled c compiled) f g = inl refl
   succeeds log line status (Outcome.not_written c compiled) f g = absurd (g refl)
-  succeeds log line status (Outcome.chosen_compiled c chosen some) f g = inl refl
-  succeeds log line status (Outcome.chosen_not_written c chosen some) f g = absurd (g refl)
   succeeds log line status (Outcome.past {file = x} {out = y} v r) f g = unfolds x y line status v r g
   succeeds log line status (Outcome.swept other s is_summary) f g = inl refl
   succeeds log line status (Outcome.swept_in_part other said rest s is_summary e) f g = absurd (g refl)

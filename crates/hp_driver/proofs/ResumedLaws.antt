@@ -14,8 +14,7 @@ use Rattle.hp_io.specs.Files.{Files}
 use Rattle.hp_io.specs.declared.console.Event.{Event}
 use Rattle.hp_io.proofs.Placed.{tied}
 use Rattle.hp_controlled.specs.Chosen.{AreControlledMachines, IsChosen, own_heading}
-use Rattle.hp_machines.specs.Machined.{AreMachinesOf, Heading, heading_of_machine}
-use Rattle.hp_machines.specs.One.{OneMachinesLaw}
+use Rattle.hp_machines.specs.Machined.{Heading, heading_of_machine}
 use Rattle.hp_meaning.specs.Clocking.Clocking.{node_with_clocks}
 use Rattle.hp_meaning.specs.Clocking.Laws.{OneShortestLaw}
 use Rattle.hp_obc.specs.Form.{HasObcForm}
@@ -26,16 +25,13 @@ use Rattle.hp_tree.specs.Programs.{Node}
 use Rattle.hp_tree.specs.declared.program.Item.{Item}
 use Rattle.hp_tree.specs.declared.program.Item.TheVariants.{TypeItem, NodeItem}
 use Rattle.law_controlled.specs.One.{AreOne, OneTextListLaw}
-use Rattle.law_decided.specs.Promised.{RunLaw}
-use Rattle.law_history.specs.Streams.Texts.{TextLaw}
 use Rattle.hp_driver.specs.Answers.{IsAnswer}
 use Rattle.hp_driver.specs.Checkpoints.{IsCheckpointOf, IsTaken, memory_behind}
-use Rattle.hp_driver.specs.Controls.{has_controls}
 use Rattle.hp_driver.specs.Given.{Gives}
 use Rattle.hp_driver.specs.Joined.{AreGoodLines, ContinuedLaw, IsContinued, IsOneRun, LeftLaw, ResumedLaw, TakenAgainLaw, memory_past}
 use Rattle.hp_driver.specs.Lines.{lines_of}
 use Rattle.hp_driver.specs.Log.{heard, said}
-use Rattle.hp_driver.specs.Outcome.{AreChosen, AreCompiled, IsHeld}
+use Rattle.hp_driver.specs.Outcome.{AreCompiled, IsHeld}
 use Rattle.hp_driver.specs.Segments.{AreRun, Begins, IsRunnable, SegmentRun, Traced, memory_after}
 use Rattle.hp_driver.specs.Systems.{System, of_machine, from_memory, inputs_of}
 use Rattle.hp_driver.specs.Values.{first_bad, inputs_until}
@@ -92,24 +88,17 @@ module _ (file node : List ℕ) (before found : Files) (source : map.get found f
       let clocks : HasClocks (replaced q) k.clocked = k.arranged.clocks in
       same_clocked one (replaced p) h.clocked k.clocked h.arranged.clocks (subst (λ z. HasClocks (replaced z) k.clocked) (sym same) clocks)
 
-  -- both programs choose, or none does
-  no_choice : {X : Type 0} (p q : List Item) → IsHeld (Some before) file p → IsHeld (Some found) file q → has_controls p ≡ false → has_controls q ≡ true → X
-  no_choice p q h k none some = let both : true ≡ false = sym some ∙ ap has_controls (sym (same_program p q h k)) ∙ none in absurd (cc)
-
-  no_plain : {X : Type 0} (p q : List Item) → IsHeld (Some before) file p → IsHeld (Some found) file q → has_controls p ≡ true → has_controls q ≡ false → X
-  no_plain p q h k some none = let both : true ≡ false = sym some ∙ ap has_controls (same_program p q h k) ∙ none in absurd (cc)
-
   -- what a call resumed with machines of the program, the machines of the other call resume
-  module _ (shortest : OneShortestLaw) (one : OneMachinesLaw) (choosing : OneTextListLaw) (text next : List ℕ) (second : List Event) where
-    module _ (o p : Obc) (a : AreChosen (Some before) file o) (b : AreChosen (Some found) file p) (n k : Node) (named : node_among a.held.clocked node ≡ Some n) (its_name : node_among b.held.clocked node ≡ Some k) (is : IsChosen node o n)
+  module _ (shortest : OneShortestLaw) (choosing : OneTextListLaw) (text next : List ℕ) (second : List Event) where
+    module _ (o p : Obc) (a : AreCompiled (Some before) file o) (b : AreCompiled (Some found) file p) (n k : Node) (named : node_among a.held.clocked node ≡ Some n) (its_name : node_among b.held.clocked node ≡ Some k) (is : IsChosen node o n)
         (its : IsChosen node p k) where
-      -- two lists of machines of a program that chooses are one
+      -- two lists of machines of a program are one
       chosen_one : AreOne o p
       chosen_one =
           let j = a.held.judged in
           let arranged = a.held.arranged in
-          choosing a.held.text j.program_of.tokens a.program a.held.clocked a.held.ranks o p j.program_of.spelled j.program_of.read j.named j.typed j.defined (formed a.held.text a.program j arranged.well_formed) arranged.initialised arranged.clocks arranged.ordered a.machines
-          (subst (λ items. AreControlledMachines items p) (sym (same_arranged shortest a.program b.program a.held b.held)) b.machines)
+          choosing a.held.text j.program_of.tokens a.program a.held.clocked a.held.ranks o p j.program_of.spelled j.program_of.read j.named j.typed j.defined (formed a.held.text a.program j arranged.well_formed) arranged.initialised arranged.clocks arranged.ordered a.are.machines
+          (subst (λ items. AreControlledMachines items p) (sym (same_arranged shortest a.program b.program a.held b.held)) b.are.machines)
 
       headed : heading_of_machine is.machine ≡ heading_of_machine its.machine
       headed =
@@ -140,20 +129,11 @@ module _ (file node : List ℕ) (before found : Files) (source : map.get found f
       chosen_taken : HasObcForm o.types o.machines → (memory : Memory) → IsCheckpointOf o node memory text → IsCheckpointOf p node memory text
       chosen_taken form memory = checkpoint_back o p node is.machine its.machine form chosen_one is.named its.named inputs outputs memory text
 
-    plain_one : (o p : Obc) → AreCompiled (Some before) file o → AreCompiled (Some found) file p → o ≡ p
-    plain_one o p a b = one a.held.clocked o p a.machines (subst (λ items. AreMachinesOf items p) (sym (same_arranged shortest a.program b.program a.held b.held)) b.machines)
-
     moved : (o p : Obc) (s z : System) → HasObcForm o.types o.machines → AreRun (Some before) file node o s → AreRun (Some found) file node p z → Resumes node text next second p → Resumes node text next second o
-    moved o p s z form (AreRun.of_program a) (AreRun.of_program b) r = subst (Resumes node text next second) (sym (plain_one o p a b)) r
-    moved o p s z form (AreRun.of_program a) (AreRun.that_choose k b some its_name its) r = no_choice a.program b.program a.held b.held a.uncontrolled some
-    moved o p s z form (AreRun.that_choose n a some named is) (AreRun.of_program b) r = no_plain a.program b.program a.held b.held some b.uncontrolled
-    moved o p s z form (AreRun.that_choose n a some named is) (AreRun.that_choose k b some_too its_name its) r = chosen_moved o p a b n k named its_name is its form r
+    moved o p s z form (AreRun.own n a named is) (AreRun.own k b its_name its) r = chosen_moved o p a b n k named its_name is its form r
 
     taken_again : (o p : Obc) (s z : System) → HasObcForm o.types o.machines → AreRun (Some before) file node o s → AreRun (Some found) file node p z → (memory : Memory) → IsCheckpointOf o node memory text → IsCheckpointOf p node memory text
-    taken_again o p s z form (AreRun.of_program a) (AreRun.of_program b) memory is = subst (λ (q : Obc). IsCheckpointOf q node memory text) (plain_one o p a b) is
-    taken_again o p s z form (AreRun.of_program a) (AreRun.that_choose k b some its_name its) memory is = no_choice a.program b.program a.held b.held a.uncontrolled some
-    taken_again o p s z form (AreRun.that_choose n a some named is) (AreRun.of_program b) memory it = no_plain a.program b.program a.held b.held some b.uncontrolled
-    taken_again o p s z form (AreRun.that_choose n a some named is) (AreRun.that_choose k b some_too its_name its) memory it = chosen_taken o p a b n k named its_name is its form memory it
+    taken_again o p s z form (AreRun.own n a named is) (AreRun.own k b its_name its) memory it = chosen_taken o p a b n k named its_name is its form memory it
 
 -- ---- what each call did
 
@@ -193,9 +173,9 @@ runnable : (files : Option Files) (file node : List ℕ) (from : Option (List �
 runnable files file node from o kept s (Begins.from_reset there) = there
 runnable files file node from o kept s (Begins.from_checkpoint there gives is) = there
 
-pub taken : OneShortestLaw → OneMachinesLaw → OneTextListLaw → TakenAgainLaw
-taken shortest one choosing before found file node o p memory text source there again is =
-    taken_again file node before found source shortest one choosing text [] [] o p there.system again.system there.form there.are again.are memory is
+pub taken : OneShortestLaw → OneTextListLaw → TakenAgainLaw
+taken shortest choosing before found file node o p memory text source there again is =
+    taken_again file node before found source shortest choosing text [] [] o p there.system again.system there.form there.are again.are memory is
 
 -- ---- calls one after the other
 
@@ -211,7 +191,7 @@ record IsReached (before : Files) (file node : List ℕ) (left : Option Files) (
   kept : left ≡ Some held
   holds : map.get held mem ≡ Some text
 
-module _ (text_law : TextLaw) (run_law : RunLaw) (before : Files) (file node : List ℕ) where
+module _ (before : Files) (file node : List ℕ) where
   first_call : (left : Option Files) (mem : List ℕ) (log : List Event) (from : Option (List ℕ)) (line : List ℕ) (status : ℕ) → SegmentRun (Some before) left file node from mem log line status → from ≡ None → status ≡ 0
       → IsReached before file node left mem (lines_of true (heard log)) (said log)
   first_call left mem log from line status (SegmentRun.stopped stops fails same) e zero = absurd (fails zero)
@@ -231,7 +211,7 @@ module _ (text_law : TextLaw) (run_law : RunLaw) (before : Files) (file node : L
         holds = get_inserted before mem text;
       }
 
-  module _ (shortest : OneShortestLaw) (one : OneMachinesLaw) (choosing : OneTextListLaw) where
+  module _ (shortest : OneShortestLaw) (choosing : OneTextListLaw) where
     -- behind them one more call, which did this with the machines of that run
     module _ (left after : Option Files) (mem out : List ℕ) (lines : List (List ℕ)) (bytes : List ℕ) (log : List Event) (found : Files) (few : length (lines ++ lines_of true (heard log)) ≤ 1000000000)
         (c : IsReached before file node left mem lines bytes) (next : List ℕ) (r : Resumes node c.text next log c.o) (writes : after ≡ Some (map.insert found out next)) where
@@ -260,7 +240,7 @@ module _ (text_law : TextLaw) (run_law : RunLaw) (before : Files) (file node : L
         o = c.o;
         there = c.there;
         answer =
-            joined_run text_law run_law (Some before) file node c.o c.there.system lines more bytes (said log) c.there.are c.there.machine both_good c.answer
+            joined_run (Some before) file node c.o c.there.system lines more bytes (said log) c.there.are c.there.machine both_good c.answer
             (subst (λ kept. IsAnswer (from_memory c.o node kept) more (said log)) memory r.answer);
         good = good_joined (inputs_of (of_machine c.o node)) lines more both_good;
         text = next;
@@ -281,7 +261,7 @@ module _ (text_law : TextLaw) (run_law : RunLaw) (before : Files) (file node : L
         let texts : r.text ≡ c.text = some_same r.text c.text (sym r.gives ∙ gives) in
         let a : Answered (from_memory p node kept) log = subst (λ z. Answered z log) r.system (answered s log [] 0 traced refl) in
         let its : Resumes node c.text next log p = record { kept = kept; is = subst (IsCheckpointOf p node kept) texts r.is; answer = a.0; good = a.1; leaves = is } in
-        let ours = moved file node before found source shortest one choosing c.text next log c.o p c.there.system r.there.system c.there.form c.there.are r.there.are its in
+        let ours = moved file node before found source shortest choosing c.text next log c.o p c.there.system r.there.system c.there.form c.there.are r.there.are its in
         one_more left after mem out lines bytes log found few c next ours (written next out found after status writes zero)
 
     reached : (left : Option Files) (mem : List ℕ) (lines : List (List ℕ)) (bytes : List ℕ) → IsContinued before file node left mem lines bytes → length lines ≤ 1000000000 → IsReached before file node left mem lines bytes
@@ -294,29 +274,29 @@ module _ (text_law : TextLaw) (run_law : RunLaw) (before : Files) (file node : L
     one_run : (left : Option Files) (mem : List ℕ) (lines : List (List ℕ)) (bytes : List ℕ) → IsReached before file node left mem lines bytes → IsOneRun before file node lines bytes
     one_run left mem lines bytes c = record { o = c.o; system = c.there.system; are = c.there.are; said = c.answer }
 
-pub continued : TextLaw → RunLaw → OneShortestLaw → OneMachinesLaw → OneTextListLaw → ContinuedLaw
-continued text_law run_law shortest one choosing before file node left mem lines bytes calls few =
-    one_run text_law run_law before file node shortest one choosing left mem lines bytes (reached text_law run_law before file node shortest one choosing left mem lines bytes calls few)
+pub continued : OneShortestLaw → OneTextListLaw → ContinuedLaw
+continued shortest choosing before file node left mem lines bytes calls few =
+    one_run before file node shortest choosing left mem lines bytes (reached before file node shortest choosing left mem lines bytes calls few)
 
-pub resumed : TextLaw → RunLaw → OneShortestLaw → OneMachinesLaw → OneTextListLaw → ResumedLaw
-resumed text_law run_law shortest one choosing file node mem out first second r few =
+pub resumed : OneShortestLaw → OneTextListLaw → ResumedLaw
+resumed shortest choosing file node mem out first second r few =
     let all = length-append (lines_of true (heard first)) (lines_of true (heard second)) in
-    continued text_law run_law shortest one choosing r.before file node r.after out (lines_of true (heard first) ++ lines_of true (heard second)) (said first ++ said second)
+    continued shortest choosing r.before file node r.after out (lines_of true (heard first) ++ lines_of true (heard second)) (said first ++ said second)
     (IsContinued.resumed r.found (IsContinued.saved r.saved) r.source r.checkpoint r.resumed) (omega (arith, all, few))
 
 -- ---- what a call left
 
-left_by : OneShortestLaw → OneMachinesLaw → OneTextListLaw → (file node out : List ℕ) (from : Option (List ℕ)) (log : List Event) (before left found : Files) (o : Obc) (line : List ℕ) (status : ℕ)
+left_by : OneShortestLaw → OneTextListLaw → (file node out : List ℕ) (from : Option (List ℕ)) (log : List Event) (before left found : Files) (o : Obc) (line : List ℕ) (status : ℕ)
     → SegmentRun (Some before) (Some left) file node from out log line status → status ≡ 0 → map.get found file ≡ map.get before file → IsRunnable (Some found) file node o
     → (text : List ℕ) × (map.get left out ≡ Some text) × IsTaken o node text
-left_by shortest one choosing file node out from log before left found o line status (SegmentRun.stopped stops fails same) zero source there = absurd (fails zero)
-left_by shortest one choosing file node out from log before left found o line status (SegmentRun.written {o = p} {memory = kept} {s = s} {text = text} begins traced is writes) zero source there =
+left_by shortest choosing file node out from log before left found o line status (SegmentRun.stopped stops fails same) zero source there = absurd (fails zero)
+left_by shortest choosing file node out from log before left found o line status (SegmentRun.written {o = p} {memory = kept} {s = s} {text = text} begins traced is writes) zero source there =
     let files : left ≡ map.insert before out text = some_same left (map.insert before out text) (written text out before (Some left) status writes zero) in
     let memory = memory_after p node kept log in (
       text,
       ap (λ (f : Files). map.get f out) files ∙ get_inserted before out text,
-      (memory, taken shortest one choosing before found file node p o memory text source (runnable (Some before) file node from p kept s begins) there is),
+      (memory, taken shortest choosing before found file node p o memory text source (runnable (Some before) file node from p kept s begins) there is),
     )
 
-pub left_is_taken : OneShortestLaw → OneMachinesLaw → OneTextListLaw → LeftLaw
-left_is_taken shortest one choosing file node out from log before left found o run source there = left_by shortest one choosing file node out from log before left found o [] 0 run refl source there
+pub left_is_taken : OneShortestLaw → OneTextListLaw → LeftLaw
+left_is_taken shortest choosing file node out from log before left found o run source there = left_by shortest choosing file node out from log before left found o [] 0 run refl source there

@@ -1,30 +1,25 @@
 -- From the machine that is found for a node, or the refusal, to what `run` runs or refuses.
-use Rattle.std.proofs.Common.{◌≡◌, ℕ, true, false, List, Some, refl, sym, ap, subst, ◌∙◌}
+use Rattle.std.proofs.Common.{◌≡◌, ℕ, List, Some, refl, sym, ap, subst, ◌∙◌}
 use Rattle.std.specs.Prelude.{IfOk, Ok, Err, Result}
 use Rattle.hp_compile.specs.Arranged.{IsArranged}
 use Rattle.hp_compile.specs.Judged.{IsJudged}
 use Rattle.hp_controlled.specs.Chosen.{AreControlledMachines, IsChosen}
-use Rattle.hp_machines.specs.Machined.{AreMachinesOf}
 use Rattle.hp_obc.specs.Machines.{Obc}
 use Rattle.hp_tree.specs.Meaning.{node_among}
 use Rattle.hp_tree.specs.Programs.{Node}
 use Rattle.hp_tree.specs.declared.program.Item.{Item}
 use Rattle.hp_verdicts.specs.Decided.{AreKept}
-use Rattle.law_controlled.specs.Said.{GreatestSaidLaw}
 use Rattle.law_decided.specs.Outcomes.{OutcomesLaw}
-use Rattle.law_decided.specs.Promised.{RunLaw}
-use Rattle.law_history.specs.Streams.Texts.{TextLaw}
-use Rattle.hp_driver.specs.Controls.{has_controls}
+use Rattle.hp_driver.specs.Compiled.{MachinesLaw}
 use Rattle.hp_driver.specs.Outcome.{IsOnly}
 use Rattle.hp_driver.specs.Restoring.{Ends, RunDecided, RunProgram, RunText}
 use Rattle.hp_driver.specs.Segments.{AreRun}
 use Rattle.hp_driver.specs.Status.{code_of}
-use Rattle.hp_driver.specs.Systems.{of_machine, of_node}
+use Rattle.hp_driver.specs.Systems.{of_machine}
 use Rattle.hp_driver.specs.declared.runnable.Runnable.{Runnable}
 use Rattle.hp_driver.specs.declared.status.Status.{Status}
-use Rattle.hp_driver.proofs.ChoosingLaws.{chosen_of}
+use Rattle.hp_driver.proofs.ChoosingLaws.{compiled_of}
 use Rattle.hp_driver.proofs.ContractLaws.{in_games}
-use Rattle.hp_driver.proofs.MachineLaws.{compiled_of}
 
 -- what is known of the line and the status where it ends
 pub ends_map : {X : Type 0} (P Q : List ℕ → ℕ → Type 0) → ((line : List ℕ) (status : ℕ) → P line status → Q line status) → (r : Result X Status) (line : List ℕ) → Ends P r line → Ends Q r line
@@ -42,29 +37,17 @@ pub has_chosen : (ordered : List Item) (name : List ℕ) (n : Node) → node_amo
 has_chosen ordered name n named o (Ok x) same is = (n, named, subst (λ (z : Obc). IsChosen name z n) (sym same) is)
 has_chosen ordered name n named o (Err s) same is = tt
 
-module _ (law : OutcomesLaw) (program ordered : List Item) (kept : AreKept ordered ordered) (node : List ℕ) where
-  choosing_are : GreatestSaidLaw → has_controls program ≡ true → (o : Obc) → AreControlledMachines ordered o → (n : Node) × (node_among ordered node ≡ Some n) × IsChosen node o n → RunDecided node program ordered o
-  choosing_are said some o machines found files file held same = (
+module _ (law : OutcomesLaw) (machines_law : MachinesLaw) (program ordered : List Item) (kept : AreKept ordered ordered) (node : List ℕ) where
+  ordered_are : (o : Obc) → AreControlledMachines ordered o → (n : Node) × (node_among ordered node ≡ Some n) × IsChosen node o n → RunDecided node program ordered o
+  ordered_are o machines found files file held same = (
     of_machine o node,
-    AreRun.that_choose found.0
-        (chosen_of node ordered said o machines files file program held same (in_games law program ordered kept files file held same))
-        some (ap (λ z. node_among z node) same ∙ found.1) found.2,
+    AreRun.own found.0 (compiled_of node ordered machines_law o machines files file program held same (in_games law program ordered kept files file held same)) (ap (λ z. node_among z node) same ∙ found.1) found.2,
   )
 
-  pub all_choosing : GreatestSaidLaw → has_controls program ≡ true → (r : Result Runnable Status) → IfOk r (λ x. AreControlledMachines ordered x.machines) →
-      IfOk r (λ x. (n : Node) × (node_among ordered node ≡ Some n) × IsChosen node x.machines n) → IfOk r (λ x. RunDecided node program ordered x.machines)
-  all_choosing said some (Ok x) machines found = choosing_are said some x.machines machines found
-  all_choosing said some (Err s) machines found = tt
-
-module _ (law : OutcomesLaw) (text_law : TextLaw) (run_law : RunLaw) (program ordered : List Item) (kept : AreKept ordered ordered) (node : List ℕ) where
-  plain_are : has_controls program ≡ false → (o : Obc) → AreMachinesOf ordered o → RunDecided node program ordered o
-  plain_are none o machines files file held same = (
-    of_node held.clocked node,
-    AreRun.of_program (compiled_of text_law run_law ordered o machines files file program held same none (in_games law program ordered kept files file held same)),
-  )
-
-  pub all_plain : has_controls program ≡ false → (r : Result Runnable Status) → IfOk r (λ x. AreMachinesOf ordered x.machines) → IfOk r (λ x. RunDecided node program ordered x.machines)
-  all_plain none r machines = are_map (AreMachinesOf ordered) (RunDecided node program ordered) (plain_are none) r machines
+  pub all_ordered : (r : Result Runnable Status) → IfOk r (λ x. AreControlledMachines ordered x.machines) → IfOk r (λ x. (n : Node) × (node_among ordered node ≡ Some n) × IsChosen node x.machines n)
+      → IfOk r (λ x. RunDecided node program ordered x.machines)
+  all_ordered (Ok x) machines found = ordered_are x.machines machines found
+  all_ordered (Err s) machines found = tt
 
 pub all_arranged : (program clocked : List Item) (ranks : List (List ℕ)) (node : List ℕ) → IsArranged program clocked ranks → (r : Result Runnable Status) → IfOk r (λ x. RunDecided node program clocked x.machines) →
     IfOk r (λ x. RunProgram node program x.machines)

@@ -59,8 +59,7 @@ one_memory files file node o text kept other there is also = same_memory o node 
 
 -- `run` asks for what is run
 as_asked : (words : List (List ℕ)) (files : Option Files) (file node : List ℕ) (o : Obc) (s : System) → IsRunOf words file node → AreRun files file node o s → IsMachine node o → IsAskedFor words files s
-as_asked words files file node o s r (AreRun.of_program compiled) is = IsAskedFor.a_node r compiled is
-as_asked words files file node o s r (AreRun.that_choose n chosen some named headed) is = IsAskedFor.a_chosen_node n r chosen some named is headed
+as_asked words files file node o s r (AreRun.own n compiled named headed) is = IsAskedFor.a_node n r compiled named is headed
 
 module _ (files : Option Files) (file node : List ℕ) where
   -- the text in the file of a checkpoint is too long, or refused by a machine that may be run

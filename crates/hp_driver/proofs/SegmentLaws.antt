@@ -22,8 +22,6 @@ use Rattle.hp_obctext.specs.MemoryTexts.{Says}
 use Rattle.hp_obctext.specs.MemoryKinds as memories
 use Rattle.hp_obctext.specs.declared.memory.error.MemErr.{MemErr}
 use Rattle.hp_obctext.specs.declared.memory.error.MemErr.TheVariants as error
-use Rattle.law_decided.specs.Promised.{RunLaw}
-use Rattle.law_history.specs.Streams.Texts.{TextLaw}
 use Rattle.hp_driver.specs.Checkpoints.{IsCheckpointOf, RefusesCheckpoint, memory_behind}
 use Rattle.hp_driver.specs.Command.{IsNoSegment, IsOver, IsOverSource, IsRunOf, IsSegmentOf, ReadsFirst, ReadsSource, Writes}
 use Rattle.hp_driver.specs.Course.{Takes}
@@ -44,7 +42,6 @@ use Rattle.hp_driver.specs.Values.{inputs_until}
 use Rattle.hp_driver.specs.WrittenText.{WritesText}
 use Rattle.hp_driver.proofs.CheckpointLaws.{has_flat, keeps_found}
 use Rattle.hp_driver.proofs.ExecutionLaws.{few_of_signature, ins_are, kept_through, kinds_through, left_by_lines, refuses_lines, runs_through, says_kinded, says_outputs, signature_through}
-use Rattle.hp_driver.proofs.HistoryLaws.{inputs_same, keeping, node_mirrors, runs_node}
 use Rattle.hp_driver.proofs.MachineLaws.{machine_mirrors, not_done_or_not}
 use Rattle.hp_driver.proofs.OutcomeLaws.{Mirrors, answers, in_lockstep, refuses, told_or_not}
 use Rattle.hp_driver.proofs.ReadingLaws.{HasRead}
@@ -167,18 +164,14 @@ module _ {S : Type 0} (machine : Machine S) (start : S) (s : System) (m : Mirror
 
 -- ---- what is run
 
-run_mirrors : TextLaw → RunLaw → (files : Option Files) (file node : List ℕ) (o : Obc) (s : System) → AreRun files file node o s → (e : Executor) → Executes o node e → Mirrors executing e s
-run_mirrors text_law run_law files file node o s (AreRun.of_program compiled) e h =
-    let runs = runs_node text_law files file o compiled node h.machine h.named in
-    node_mirrors compiled.held.clocked o node h.machine h.named runs executing e (keeping run_law files file o compiled node) (machine_mirrors node o e h)
-run_mirrors text_law run_law files file node o s (AreRun.that_choose n chosen some named is) e h = machine_mirrors node o e h
+run_mirrors : (files : Option Files) (file node : List ℕ) (o : Obc) (s : System) → AreRun files file node o s → (e : Executor) → Executes o node e → Mirrors executing e s
+run_mirrors files file node o s (AreRun.own n compiled named is) e h = machine_mirrors node o e h
 
-takes : TextLaw → (files : Option Files) (file node : List ℕ) (o : Obc) (s : System) → AreRun files file node o s → IsMachine node o → inputs_of (of_machine o node) ≡ inputs_of s
-takes text_law files file node o s (AreRun.of_program compiled) is = inputs_same compiled.held.clocked o node is.machine is.named (runs_node text_law files file o compiled node is.machine is.named)
-takes text_law files file node o s (AreRun.that_choose n chosen some named headed) is = refl
+takes : (files : Option Files) (file node : List ℕ) (o : Obc) (s : System) → AreRun files file node o s → inputs_of (of_machine o node) ≡ inputs_of s
+takes files file node o s (AreRun.own n compiled named is) = refl
 
-runnable : TextLaw → (files : Option Files) (file node : List ℕ) (o : Obc) (s : System) → HasObcForm o.types o.machines → AreRun files file node o s → IsMachine node o → IsRunnable files file node o
-runnable text_law files file node o s form are is = record { system = s; are = are; machine = is; inputs = takes text_law files file node o s are is; form = form }
+runnable : (files : Option Files) (file node : List ℕ) (o : Obc) (s : System) → HasObcForm o.types o.machines → AreRun files file node o s → IsMachine node o → IsRunnable files file node o
+runnable files file node o s form are is = record { system = s; are = are; machine = is; inputs = takes files file node o s are; form = form }
 
 -- from what was run and written
 module _ (before after : Option Files) (file node : List ℕ) (from : Option (List ℕ)) (out : List ℕ) (o : Obc) (e : Executor) (h : StandsFor o node e) (s : System) (m : Mirrors executing e s)
@@ -190,14 +183,14 @@ module _ (before after : Option Files) (file node : List ℕ) (from : Option (Li
       let memories = kept_behind o node e h behind lines (said log) takes ∙ ap (λ kept. memory_behind (machine_behaviour o node) kept (inputs_until (inputs_of (of_machine o node)) 1 lines)) same in
       SegmentRun.written begins (done_traced executing e s m log [] 0 r refl) (subst (λ kept. IsCheckpointOf o node kept text) memories is) wrote
 
-pub segment_of_machines : TextLaw → RunLaw → (before after : Option Files) (node : List ℕ) (from : Option (List ℕ)) (out : List ℕ) (o : Obc) (e : Executor) → HasObcForm o.types o.machines → StandsFor o node e →
+pub segment_of_machines : (before after : Option Files) (node : List ℕ) (from : Option (List ℕ)) (out : List ℕ) (o : Obc) (e : Executor) → HasObcForm o.types o.machines → StandsFor o node e →
     IsBegun before o node from e → (log : List Event) (line : List ℕ) (status : ℕ) → KeepsRun o node e out before after log line status → SegmentOfMachines o node from out before after log line status
 unfolding runnable
-segment_of_machines text_law run_law before after node None out o e form h fresh log line status r file s are =
-    segment_ran before after file node None out o e h s (run_mirrors text_law run_law before file node o s are e fresh) (machine_behaviour o node).reset (Begins.from_reset (runnable text_law before file node o s form are (is_machine o node e fresh))) fresh.fresh log line status r
-segment_of_machines text_law run_law before after node (Some mem) out o e form h begun log line status r file s are =
+segment_of_machines before after node None out o e form h fresh log line status r file s are =
+    segment_ran before after file node None out o e h s (run_mirrors before file node o s are e fresh) (machine_behaviour o node).reset (Begins.from_reset (runnable before file node o s form are (is_machine o node e fresh))) fresh.fresh log line status r
+segment_of_machines before after node (Some mem) out o e form h begun log line status r file s are =
     segment_ran before after file node (Some mem) out o e h (from_memory o node (kept e)) (memory_mirrors o node e h) (kept e)
-    (Begins.from_checkpoint (runnable text_law before file node o s form are h.is) begun.1 begun.2) refl log line status r
+    (Begins.from_checkpoint (runnable before file node o s form are h.is) begun.1 begun.2) refl log line status r
 
 -- ---- what is not run
 
@@ -209,10 +202,10 @@ module _ (files : Option Files) (file node mem : List ℕ) (from : Option (List 
   not_restored line status (NotRestored.refused text cause gives refuses) = Stops.checkpoint_refused text cause asked there gives refuses
   not_restored line status (NotRestored.line_failed l b rest r) = Stops.line_failed line b rest (not_restored (line ++ b ∷ rest) _ r)
 
-pub not_begun : TextLaw → (before after : Option Files) (node : List ℕ) (from : Option (List ℕ)) (out : List ℕ) (o : Obc) → HasObcForm o.types o.machines → IsMachine node o → (line : List ℕ) (status : ℕ) →
+pub not_begun : (before after : Option Files) (node : List ℕ) (from : Option (List ℕ)) (out : List ℕ) (o : Obc) → HasObcForm o.types o.machines → IsMachine node o → (line : List ℕ) (status : ℕ) →
     NotBegun before o node from line status → status ≢ 0 → after ≡ before → SegmentOfMachines o node from out before after [] line status
-not_begun text_law before after node from out o form is line status h fails same file s are =
-    SegmentRun.stopped (not_restored before file node h.0 from o h.1 (runnable text_law before file node o s form are is) line status h.2) fails same
+not_begun before after node from out o form is line status h fails same file s are =
+    SegmentRun.stopped (not_restored before file node h.0 from o h.1 (runnable before file node o s form are is) line status h.2) fails same
 
 -- the words of `run` for the same node
 pub as_run : (words : List (List ℕ)) (file node : List ℕ) (from : Option (List ℕ)) (out : List ℕ) → IsSegmentOf words file node from out → IsRunOf (run_words file node) file node

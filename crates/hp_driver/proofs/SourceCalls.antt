@@ -31,12 +31,13 @@ use Rattle.hp_driver.specs.Lines.{lines_of}
 use Rattle.hp_driver.specs.Log.{heard, has_ended, HeardFrom}
 use Rattle.hp_driver.specs.NodeKinds.{input_kinds}
 use Rattle.hp_driver.specs.Controls.{has_controls}
-use Rattle.hp_driver.specs.Outcome.{Outcome, Gives, GivesMoreThan, HasNoProgram, IsHeld, AreCompiled, AreAskedFor, IsAskedFor, LacksNode, AsksToRun}
+use Rattle.hp_driver.specs.Outcome.{Outcome, Gives, GivesMoreThan, HasNoProgram, IsHeld, AreCompiled, IsAskedFor, AsksToRun}
 use Rattle.hp_driver.specs.Systems.{System, inputs_of}
 use Rattle.hp_driver.specs.Values.{first_bad}
 use Rattle.hp_driver.specs.declared.trace_limits.BadLine.{BadLine}
 use Rattle.hp_driver.proofs.Completeness.{same_text, no_bad_line}
 use Rattle.hp_driver.proofs.GoodContracts.{none_refused}
+use Rattle.hp_driver.proofs.HistoryLaws.{inputs_same}
 use Rattle.hp_driver.proofs.WordLaws.{past_source, run_exec, run_compile, exec_compile, check_run, check_exec, same_words, check_source, run_source, compile_source, source_contract, tell_run, tell_check, tell_compile, check_runs, compile_runs, sweep_source}
 
 -- ---- a file that holds such a program
@@ -73,7 +74,7 @@ module _ (words : List (List ℕ)) (held : Files) (file text : List ℕ) (progra
   no_contract_refused x p cause over h differs refuses =
       none_refused h.clocked (contracts h.clocked h.ranks (same_arranged held file text program holds judged x p (only_file x over) h)) cause refuses differs
 
-  module _ (over : IsOverSource words file) (not_exec : (x y : List ℕ) → IsExecOf words x y → ⊥) (there : (y : List ℕ) (o : Obc) (asked : AreAskedFor words (Some held) y o) → LacksNode words (Some held) y o asked → ⊥) where
+  module _ (over : IsOverSource words file) (not_exec : (x y : List ℕ) → IsExecOf words x y → ⊥) (there : (x y : List ℕ) (p : List Item) → IsRunOf words x y ⊎ IsTellOf words x y → (h : IsHeld (Some held) x p) → node_among h.clocked y ≡ None → ⊥) where
     -- the call succeeds but for want of memory
     pub succeeds : (log : List Event) (line : List ℕ) (status : ℕ) →
         ((s : System) (bad_line : BadLine) → IsAskedFor words (Some held) s → first_bad (inputs_of s) 1 (lines_of (has_ended log) (heard log)) ≡ Some bad_line → ⊥) →
@@ -86,8 +87,8 @@ module _ (words : List (List ℕ)) (held : Files) (file text : List ℕ) (progra
     succeeds log line status good (Outcome.refused {file = x} other cause (ReadsSource.of_program reads) gives causes none) f g = absurd (has_program held file text program holds judged x other (only_file x reads) gives arrangeable none)
     succeeds log line status good (Outcome.refused {file = x} other cause (ReadsSource.of_contract {node = y} k) gives causes none) f g = absurd (source_contract words file x y over k)
     succeeds log line status good (Outcome.contract_refused {file = x} {program = p} cause reads source some differs refuses) f g = absurd (no_contract_refused x p cause reads source differs refuses)
-    succeeds log line status good (Outcome.no_node_to_run {file = x} {name = y} {program = p} asks source kept none) f g = absurd (not_choosing x y p source asks)
-    succeeds log line status good (Outcome.chosen_too_large {file = x} {node = y} {name = z} limit chosen asks for passed) f g = absurd (not_choosing x y chosen.program chosen.held asks)
+    succeeds log line status good (Outcome.no_node_to_run {file = x} {name = y} {program = p} asks source kept none) f g = absurd (there x y p asks source none)
+    succeeds log line status good (Outcome.chosen_too_large {file = x} {node = y} {name = z} limit compiled asks for passed) f g = absurd (not_choosing x y compiled.program compiled.held asks)
     succeeds log line status good (Outcome.accepted other c source kept) f g = inl refl
     succeeds log line status good (Outcome.accepted_in_part other out rest c source kept e) f g = absurd (g refl)
     succeeds log line status good (Outcome.no_node {file = x} {name = y} k source none) f g = absurd (source_contract words file x y over k)
@@ -104,12 +105,10 @@ module _ (words : List (List ℕ)) (held : Files) (file text : List ℕ) (progra
     succeeds log line status good (Outcome.long_text {file = x} {node = y} v long) f g = absurd (not_exec x y v)
     succeeds log line status good (Outcome.no_text {file = x} {node = y} other at v gives r) f g = absurd (not_exec x y v)
     succeeds log line status good (Outcome.no_form {file = x} {node = y} other at v gives b) f g = absurd (not_exec x y v)
-    succeeds log line status good (Outcome.no_machine {node = y} {o = o} asked none) f g = absurd (there y o asked none)
+    succeeds log line status good (Outcome.no_machine {file = x} {node = y} v others none) f g = absurd (not_exec x y v)
     succeeds log line status good (Outcome.too_large {file = x} {node = y} limit v others passed) f g = absurd (not_exec x y v)
     succeeds log line status good (Outcome.compiled c compiled) f g = inl refl
     succeeds log line status good (Outcome.not_written c compiled) f g = absurd (g refl)
-    succeeds log line status good (Outcome.chosen_compiled c chosen some) f g = inl refl
-    succeeds log line status good (Outcome.chosen_not_written c chosen some) f g = absurd (g refl)
     succeeds log line status good (Outcome.past {file = x} {out = y} p r) f g = absurd (past_source words x y p file over)
     succeeds log line status good (Outcome.swept {tasks = t} {instants = i} other s is) f g = inl refl
     succeeds log line status good (Outcome.swept_in_part {tasks = t} {instants = i} other out rest s is e) f g = absurd (g refl)
@@ -123,16 +122,15 @@ module _ (words : List (List ℕ)) (held : Files) (file text : List ℕ) (progra
 -- ---- calls that run nothing
 
 module _ (words : List (List ℕ)) (files : Option Files) (not_run : (x y : List ℕ) → IsRunOf words x y → ⊥) (not_tell : (x y : List ℕ) → IsTellOf words x y → ⊥) (not_exec : (x y : List ℕ) → IsExecOf words x y → ⊥) where
-  not_asked : (y : List ℕ) (o : Obc) → AreAskedFor words files y o → ⊥
-  not_asked y o (AreAskedFor.in_text {file = x} v others) = not_exec x y v
-  not_asked y o (AreAskedFor.of_program {file = x} r compiled) = not_run x y r
+  not_asked : (x y : List ℕ) → IsRunOf words x y ⊎ IsTellOf words x y → ⊥
+  not_asked x y (inl r) = not_run x y r
+  not_asked x y (inr r) = not_tell x y r
 
   not_system : (s : System) → IsAskedFor words files s → ⊥
-  not_system s (IsAskedFor.a_node {file = x} {node = y} r compiled found) = not_run x y r
+  not_system s (IsAskedFor.a_node {file = x} {node = y} n r compiled named found is) = not_run x y r
   not_system s (IsAskedFor.a_machine {file = x} {node = y} v others found) = not_exec x y v
-  not_system s (IsAskedFor.a_chosen_node {file = x} {node = y} n r chosen some named found is) = not_run x y r
-  not_system s (IsAskedFor.a_contract {file = x} {node = y} n r chosen named some found is) = not_tell x y r
-  not_system s (IsAskedFor.no_contract {file = x} {node = y} n r chosen named none found is) = not_tell x y r
+  not_system s (IsAskedFor.a_contract {file = x} {node = y} n r compiled named some found is) = not_tell x y r
+  not_system s (IsAskedFor.no_contract {file = x} {node = y} n r compiled named none found is) = not_tell x y r
 
 module _ (words : List (List ℕ)) (files : Option Files) (log : List Event) (line : List ℕ) (status : ℕ) where
   pub good_check : IsGoodCheck words files → Outcome words files log line status → (status ≡ 4 → ⊥) → (status ≡ 5 → ⊥) → (status ≡ 0) ⊎ (status ≡ 6)
@@ -143,7 +141,7 @@ module _ (words : List (List ℕ)) (files : Option Files) (log : List Event) (li
       let not_exec : (x y : List ℕ) → IsExecOf words x y → ⊥ = λ x y v. check_exec words good.file x y good.print w v in
       let not_tell : (x y : List ℕ) → IsTellOf words x y → ⊥ = λ x y v. tell_check words x y good.file good.file v good.print w in
       succeeds words source.held good.file source.text good.program (λ x over. check_source words good.file x good.print w over) (subst (λ z. Gives z good.file source.text) source.folder source.gives) source.judged
-      source.arrangeable good.contracts (λ x y p h asks. check_runs words good.file x y good.print p w asks) (IsOverSource.to_check good.print w) not_exec (λ y o asked none. not_asked words (Some source.held) not_run not_tell not_exec y o asked) log line status
+      source.arrangeable good.contracts (λ x y p h asks. check_runs words good.file x y good.print p w asks) (IsOverSource.to_check good.print w) not_exec (λ x y p asked h none. not_asked words (Some source.held) not_run not_tell not_exec x y asked) log line status
       (λ s bad_line asked e. not_system words (Some source.held) not_run not_tell not_exec s asked) (subst (λ z. Outcome words z log line status) source.folder r) f g
 
   pub good_compile : IsGoodCompile words files → Outcome words files log line status → (status ≡ 4 → ⊥) → (status ≡ 5 → ⊥) → (status ≡ 0) ⊎ (status ≡ 6)
@@ -154,7 +152,7 @@ module _ (words : List (List ℕ)) (files : Option Files) (log : List Event) (li
       let not_exec : (x y : List ℕ) → IsExecOf words x y → ⊥ = λ x y v. exec_compile words x y good.file good.out v w in
       let not_tell : (x y : List ℕ) → IsTellOf words x y → ⊥ = λ x y v. tell_compile words x y good.file good.out v w in
       succeeds words source.held good.file source.text good.program (λ x over. compile_source words good.file good.out x w over) (subst (λ z. Gives z good.file source.text) source.folder source.gives) source.judged
-      source.arrangeable good.contracts (λ x y p h asks. compile_runs words good.file good.out x y p w asks) (IsOverSource.to_compile w) not_exec (λ y o asked none. not_asked words (Some source.held) not_run not_tell not_exec y o asked) log line status
+      source.arrangeable good.contracts (λ x y p h asks. compile_runs words good.file good.out x y p w asks) (IsOverSource.to_compile w) not_exec (λ x y p asked h none. not_asked words (Some source.held) not_run not_tell not_exec x y asked) log line status
       (λ s bad_line asked e. not_system words (Some source.held) not_run not_tell not_exec s asked) (subst (λ z. Outcome words z log line status) source.folder r) f g
 
 -- ---- the inputs of nodes
@@ -296,28 +294,31 @@ module _ (words : List (List ℕ)) (held : Files) (file node text : List ℕ) (p
       let both : false ≡ true = sym uncontrolled ∙ ap has_controls same ∙ some in cc
   chooses x y p h (AsksToRun.to_tell r) = tell_run words x y file node r w
 
-  clocks_of : (x : List ℕ) (o : Obc) → IsOverSource words x → (compiled : AreCompiled (Some held) x o) → AreWritten IsClocked (replaced program) compiled.held.clocked
-  clocks_of x o over compiled =
-      let arranged = same_arranged held file text program holds judged x compiled.program (only_file x over) compiled.held in
+  clocks_of : (x : List ℕ) (p : List Item) → IsOverSource words x → (h : IsHeld (Some held) x p) → AreWritten IsClocked (replaced program) h.clocked
+  clocks_of x p over h =
+      let arranged = same_arranged held file text program holds judged x p (only_file x over) h in
       arranged.clocks
 
-  node_there : (y : List ℕ) (o : Obc) (asked : AreAskedFor words (Some held) y o) → LacksNode words (Some held) y o asked → ⊥
-  node_there y o (AreAskedFor.in_text {file = x} v others) none = not_exec x y v
-  node_there y o (AreAskedFor.of_program {file = x} r compiled) none =
-      let clocks = clocks_of x o (IsOverSource.to_run r) compiled in
+  node_there : (x y : List ℕ) (p : List Item) → IsRunOf words x y ⊎ IsTellOf words x y → (h : IsHeld (Some held) x p) → node_among h.clocked y ≡ None → ⊥
+  node_there x y p (inr r) h none = tell_run words x y file node r w
+  node_there x y p (inl r) h none =
+      let clocks = clocks_of x p (IsOverSource.to_run r) h in
       let name = (same_words (codes "run") words file node x y w r).1 in
-      let away : none_in (headers compiled.held.clocked) y = sym (inputs_among compiled.held.clocked y) ∙ ap (λ found. option_map (λ (n : Node). types_in n.inputs) found) none in
-      let back = none_reverse (headers program) y (subst (λ hs. none_in hs y) (same_headers program compiled.held.clocked clocks) away) in
+      let away : none_in (headers h.clocked) y = sym (inputs_among h.clocked y) ∙ ap (λ found. option_map (λ (n : Node). types_in n.inputs) found) none in
+      let back = none_reverse (headers program) y (subst (λ hs. none_in hs y) (same_headers program h.clocked clocks) away) in
       let found : option_map (λ (n : Node). types_in n.inputs) (node_among (reverse program) y) ≡ None = inputs_among (reverse program) y ∙ ap (λ hs. inputs_in hs y) (headers_reverse program) ∙ back in
       no_inputs (node_among (reverse program) y) found (subst (λ z. IsSome (node_among (reverse program) z)) (sym name) there)
 
   system_kinds : (s : System) → IsAskedFor words (Some held) s → inputs_of s ≡ input_kinds program node
   system_kinds s (IsAskedFor.a_machine {file = x} {node = y} v others found) = absurd (not_exec x y v)
-  system_kinds s (IsAskedFor.a_chosen_node {file = x} {node = y} n r chosen some named found is) = absurd (chooses x y chosen.program chosen.held (AsksToRun.to_run r some))
-  system_kinds s (IsAskedFor.a_contract {file = x} {node = y} n r chosen named some found is) = absurd (tell_run words x y file node r w)
-  system_kinds s (IsAskedFor.no_contract {file = x} {node = y} n r chosen named none found is) = absurd (tell_run words x y file node r w)
-  system_kinds s (IsAskedFor.a_node {file = x} {node = y} {o = o} r compiled found) =
-      same_kinds program compiled.held.clocked (clocks_of x o (IsOverSource.to_run r) compiled) y ∙ ap (input_kinds program) (same_words (codes "run") words file node x y w r).1
+  system_kinds s (IsAskedFor.a_contract {file = x} {node = y} n r compiled named some found is) = absurd (tell_run words x y file node r w)
+  system_kinds s (IsAskedFor.no_contract {file = x} {node = y} n r compiled named none found is) = absurd (tell_run words x y file node r w)
+  system_kinds s (IsAskedFor.a_node {file = x} {node = y} {o = o} n r compiled named found is) =
+      let same = same_program held file text program holds judged x compiled.program (only_file x (IsOverSource.to_run r)) compiled.held in
+      let plain = compiled.are.plain (sym (ap has_controls same) ∙ uncontrolled) in
+      let runs = plain.runs y n named in
+      inputs_same compiled.held.clocked o y runs.0 runs.1 runs.2
+      ∙ same_kinds program compiled.held.clocked (clocks_of x compiled.program (IsOverSource.to_run r) compiled.held) y ∙ ap (input_kinds program) (same_words (codes "run") words file node x y w r).1
 
   run_succeeds : (log : List Event) (line : List ℕ) (status : ℕ) (more : List ℕ) → (has_ended log ≡ true → more ≡ []) → first_bad (input_kinds program node) 1 (lines_of true (heard log ++ more)) ≡ None →
       Outcome words (Some held) log line status → (status ≡ 4 → ⊥) → (status ≡ 5 → ⊥) → (status ≡ 0) ⊎ (status ≡ 6)

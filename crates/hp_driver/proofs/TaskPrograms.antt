@@ -8,7 +8,6 @@ use Rattle.std.proofs.lemmas.Bool.Decides.{nat_tests}
 use Rattle.std.proofs.lemmas.List.{length-map}
 use Rattle.hp_clocks.specs.Writing.{AreWritten}
 use Rattle.hp_compile.specs.Judged.{IsProgramOf}
-use Rattle.hp_controlled.specs.Chosen.{AreControlledMachines}
 use Rattle.hp_expand.specs.Numbering.{no_node, replaced_items, replaced_node, with_node}
 use Rattle.hp_lexer.specs.declared.token.Token.{Token}
 use Rattle.hp_machines.specs.Machined.{Heading}
@@ -25,8 +24,7 @@ use Rattle.hp_tree.specs.Programs.{Node}
 use Rattle.hp_tree.specs.declared.program.Item.{Item}
 use Rattle.hp_tree.specs.declared.program.Item.TheVariants.{TypeItem, NodeItem}
 use Rattle.law_controlled.specs.Headed.{HeadedLaw}
-use Rattle.hp_driver.specs.Compiled.{AreMachinesFor, IsCompiled}
-use Rattle.hp_driver.specs.Controls.{has_controls}
+use Rattle.hp_driver.specs.Compiled.{IsCompiled}
 use Rattle.hp_driver.specs.Sweeping.{HasTasks, tasks_name, tasks_text}
 use Rattle.hp_driver.proofs.TextTokens.{tokens_are, tokens_computed}
 
@@ -37,7 +35,7 @@ is_node tasks None = false
 is_node tasks (Some n) = nat_eq (length n.inputs) (2 * tasks) && nat_eq (length n.outputs) (2 * tasks)
 
 abbrev is_read : ℕ → Outcome (List Item) → Bool
-is_read tasks (done program rest) = is_node tasks (node_among program tasks_name) && has_controls program
+is_read tasks (done program rest) = is_node tasks (node_among program tasks_name)
 is_read tasks (refused fault rest) = false
 
 abbrev is_lexed : ℕ → Option (List Token) → Bool
@@ -76,12 +74,11 @@ node_by tasks program (Some n) named e =
     let parts = and_parts (nat_eq (length n.inputs) (2 * tasks)) (nat_eq (length n.outputs) (2 * tasks)) e in
     record { node = n; named = named; inputs = grind (arith, nat_tests, parts.0); outputs = grind (arith, nat_tests, parts.1) }
 
-read_by : (tasks : ℕ) (outcome : Outcome (List Item)) → is_read tasks outcome ≡ true → (program : List Item) → outcome ≡ done program [] → HasNode (2 * tasks) program × (has_controls program ≡ true)
+read_by : (tasks : ℕ) (outcome : Outcome (List Item)) → is_read tasks outcome ≡ true → (program : List Item) → outcome ≡ done program [] → HasNode (2 * tasks) program
 read_by tasks (refused fault rest) e program is = absurd (cc)
 read_by tasks (done other rest) e program is =
     let same : other ≡ program = cc in
-    let parts = and_parts (is_node tasks (node_among program tasks_name)) (has_controls program) (subst (λ p. is_node tasks (node_among p tasks_name) && has_controls p ≡ true) same e) in
-    (node_by tasks program (node_among program tasks_name) refl parts.0, parts.1)
+    node_by tasks program (node_among program tasks_name) refl (subst (λ p. is_node tasks (node_among p tasks_name) ≡ true) same e)
 
 lexed_by : (tasks : ℕ) (computed : Option (List Token)) → is_lexed tasks computed ≡ true
     → (tokens : List Token) × (computed ≡ Some tokens) × (is_read tasks (read_program (lexemes (tasks_text tasks) tokens)) ≡ true)
@@ -89,7 +86,7 @@ lexed_by tasks None e = absurd (cc)
 lexed_by tasks (Some tokens) e = (tokens, refl, e)
 
 -- the one program of the text
-has_node : (tasks : ℕ) → 1 ≤ tasks → tasks ≤ 8 → (program : List Item) → IsProgramOf (tasks_text tasks) program → HasNode (2 * tasks) program × (has_controls program ≡ true)
+has_node : (tasks : ℕ) → 1 ≤ tasks → tasks ≤ 8 → (program : List Item) → IsProgramOf (tasks_text tasks) program → HasNode (2 * tasks) program
 has_node tasks some few program is =
     let text = tasks_text tasks in
     let lexed = lexed_by tasks (tokens_computed text) (each_read 8 all_are_read tasks some few) in
@@ -146,20 +143,15 @@ module _ (P : Node → Assignment → Type 0) (name : List ℕ) (n : Node) where
 
 -- ---- its machine
 
-chosen_machines : (program ordered : List Item) (o : Obc) → has_controls program ≡ true → AreMachinesFor program ordered o → AreControlledMachines ordered o
-chosen_machines program ordered o some (AreMachinesFor.of_nodes none w) = absurd (cc (some, none))
-chosen_machines program ordered o some (AreMachinesFor.that_choose e machines) = machines
-
 pub has_tasks : HeadedLaw → (tasks : ℕ) → 1 ≤ tasks → tasks ≤ 8 → (o : Obc) → IsCompiled (tasks_text tasks) o → HasTasks (2 * tasks) o
 has_tasks law tasks some few o c =
     let found = has_node tasks some few c.program c.found.judged.program_of in
-    let at = like _ tasks_name (found.0).node no_node c.program c.ordered c.found.arranged.clocks (found.0).named in
-    let machines = chosen_machines c.program c.ordered o found.1 c.machines in
-    let chosen = (law c.ordered o machines tasks_name at.node at.named).0 in
+    let at = like _ tasks_name found.node no_node c.program c.ordered c.found.arranged.clocks found.named in
+    let chosen = (law c.ordered o c.machines.machines tasks_name at.node at.named).0 in
     let var : Decl → Var = λ d. record { name = d.name; ty = d.ty } in
     record {
       machine = chosen.machine;
       named = chosen.named;
-      inputs = ap (λ (h : Heading). length h.inputs) chosen.headed ∙ length-map at.node.inputs var ∙ at.inputs ∙ (found.0).inputs;
-      outputs = ap (λ (h : Heading). length h.outputs) chosen.headed ∙ length-map at.node.outputs var ∙ at.outputs ∙ (found.0).outputs;
+      inputs = ap (λ (h : Heading). length h.inputs) chosen.headed ∙ length-map at.node.inputs var ∙ at.inputs ∙ found.inputs;
+      outputs = ap (λ (h : Heading). length h.outputs) chosen.headed ∙ length-map at.node.outputs var ∙ at.outputs ∙ found.outputs;
     }

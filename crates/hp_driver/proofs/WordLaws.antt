@@ -290,6 +290,10 @@ running_source words file node program (AsksToRun.to_run w some) = IsOverSource.
 running_source words file node program (AsksToRun.to_tell w) = IsOverSource.to_tell w
 
 -- a check runs none
+pub either_source : (words : List (List ℕ)) (file node : List ℕ) → IsRunOf words file node ⊎ IsTellOf words file node → IsOverSource words file
+either_source words file node (inl w) = IsOverSource.to_run w
+either_source words file node (inr w) = IsOverSource.to_tell w
+
 pub check_runs : (words : List (List ℕ)) (file x node : List ℕ) (print : Bool) (program : List Item) → IsCheckOf words file print → AsksToRun words x node program → ⊥
 check_runs words file x node print program w (AsksToRun.to_run r some) = check_run words file x node print w r
 check_runs words file x node print program w (AsksToRun.to_tell r) = tell_check words x node file file r print w

@@ -27,7 +27,7 @@ use Rattle.hp_driver.specs.Outcome.{IsHeld}
 use Rattle.hp_driver.specs.Systems.{System, of_node, of_machine, inputs_of, outputs_of}
 use Rattle.hp_driver.specs.Values.{inputs_until, first_bad}
 use Rattle.hp_driver.specs.Written.{WrittenLaw}
-use Rattle.hp_driver.proofs.HistoryLaws.{Keeping, accepted_program, keeping_held, runs_held, inputs_same, outputs_same, fitting, as_node}
+use Rattle.hp_driver.proofs.HistoryLaws.{Keeping, inputs_same, outputs_same, fitting, as_node}
 
 -- a node has one run
 one_run : (program : List Item) (f : List ℕ) (inputs first second : List (List Value)) → IsRun program f inputs first → IsRun program f inputs second → first ≡ second
@@ -46,55 +46,23 @@ module _ (program : List Item) (o : Obc) (node : List ℕ) (m : Machine) (named 
         said = a.said ∙ ap (λ ks. flat_map (line_of ks) a.outputs) (sym (outputs_same program o node m named r));
       }
 
-  agrees : AgreesWith (of_machine o node) (of_node program node)
+  pub agrees : AgreesWith (of_machine o node) (of_node program node)
   agrees = record {
     refuses = λ lines. ap (λ ks. first_bad ks 1 lines) (inputs_same program o node m named r);
     answers = λ lines bytes. (as_node program o node m named r keeps lines bytes, as_machine lines bytes);
   }
 
--- the machines of a program agree with its nodes
-pub agree_with_nodes : TextLaw → RunLaw → (files : Option Files) (file : List ℕ) (program : List Item) (held : IsHeld files file program) → has_controls program ≡ false → AreKeptInGames held.clocked → (o : Obc)
-    → AreMachinesOf held.clocked o → AgreeWithNodes held.clocked o
-agree_with_nodes law run_law files file program held none kept o machines node m named =
-    agrees held.clocked o node m named (runs_held law files file program held none o machines node m named) (keeping_held run_law files file program held none kept node)
+-- ---- a text that is written
 
--- ---- a machine that does the same in two files
-
-module _ (a b : Obc) (node : List ℕ) (types : a.types ≡ b.types) (named : machine_named a.machines node ≡ machine_named b.machines node) (does : machine_behaviour a node ≡ machine_behaviour b node) where
-  pub same_inputs : inputs_of (of_machine a node) ≡ inputs_of (of_machine b node)
-  same_inputs j = elim (named j) [ None ↦ [] | Some m ↦ kinds_in (types j) m.inputs ]
-
-  same_outputs : outputs_of (of_machine a node) ≡ outputs_of (of_machine b node)
-  same_outputs j = elim (named j) [ None ↦ [] | Some m ↦ kinds_in (types j) m.outputs ]
-
-  pub same_answer : (lines : List (List ℕ)) (bytes : List ℕ) → IsAnswer (of_machine a node) lines bytes → IsAnswer (of_machine b node) lines bytes
-  same_answer lines bytes x = record {
-    outputs = x.outputs;
-    run = x.run ∙ (λ j. run (does j) (inputs_until (same_inputs j) 1 lines));
-    kinds = subst (λ ks. AllByRecursion (AreOfKinds ks) x.outputs) same_outputs x.kinds;
-    said = x.said ∙ ap (λ ks. flat_map (line_of ks) x.outputs) same_outputs;
-  }
-
-module _ (a b : Obc) (node : List ℕ) (types : a.types ≡ b.types) (named : machine_named a.machines node ≡ machine_named b.machines node) (does : machine_behaviour a node ≡ machine_behaviour b node) where
-  agrees_too : (other : System) → AgreesWith (of_machine b node) other → AgreesWith (of_machine a node) other
-  agrees_too other h = record {
-    refuses = λ lines. ap (λ ks. first_bad ks 1 lines) (same_inputs a b node types named does) ∙ h.refuses lines;
-    answers = λ lines bytes. (
-      λ x. (h.answers lines bytes).0 (same_answer a b node types named does lines bytes x),
-      λ x. same_answer b a node (sym types) (sym named) (sym does) lines bytes ((h.answers lines bytes).1 x),
-    );
-  }
-
--- ---- the own machines of a program among those of its contracts
-
-pub written_agrees : BuiltLaw → FormLaw → SameLaw → WrittenLaw
-written_agrees built form_law same_law files file o read text node m written printed stands named =
+pub written_agrees : WrittenLaw
+written_agrees files file o read text compiled printed stands =
     let same : read ≡ o = same_machines text stands.file_is read o stands.spelled stands.machines (printed.stands stands.within) in
-    let own = written.own in
-    let compiled = written.compiled in
-    let held = compiled.held in
-    let accepted = accepted_program files file compiled.program held compiled.uncontrolled in
-    let there = does_there held.text held.judged.program_of.tokens compiled.program held.clocked held.ranks accepted own compiled.machines built form_law same_law o written.with_contracts node m named in
-    let program = compiled.held.clocked in
-    let among = agrees_too o own node there.types (there.named ∙ sym named) there.does (of_node program node) (compiled.agree node m named) in
-    (ap (λ (z : Obc). machine_named z.machines node) same ∙ there.named, subst (λ z. AgreesWith (of_machine z node) (of_node program node)) (sym same) among)
+    record {
+      same = same;
+      agree = λ none node n named.
+          let there = (compiled.are.plain none).agree node n named in (
+            there.0,
+            ap (λ (z : Obc). machine_named z.machines node) same ∙ there.1,
+            subst (λ z. AgreesWith (of_machine z node) (of_node compiled.held.clocked node)) (sym same) there.2,
+          );
+    }

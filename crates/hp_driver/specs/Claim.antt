@@ -1,7 +1,7 @@
 -- What a call does over files and an input in memory, a row for each ending. The rows speak of texts, runs and games,
 -- and not of passes of the compiler; their terms stand in `ClaimTerms`.
 -- Source: own; a statement of exit status, output and files in one is that of CakeML's programs.
-use Rattle.std.specs.Prelude.{◌≡◌, ◌≢◌, ◌≤◌, ◌<◌, ◌⊎◌, ◌*◌, ℕ, Bool, true, false, List, [], length, Option, None, Some}
+use Rattle.std.specs.Prelude.{◌≡◌, ◌≢◌, ◌≤◌, ◌<◌, ◌⊎◌, ◌*◌, ℕ, Bool, true, List, [], length, Option, None, Some}
 use Rattle.std.specs.FinMap as map
 use Rattle.hp_base.specs.Limits.{most}
 use Rattle.hp_base.specs.declared.limit.Limit.{Limit}
@@ -28,17 +28,16 @@ use Rattle.hp_cert.specs.declared.checking.Proved.TheVariants.{Lose}
 use Rattle.hp_verdicts.specs.declared.error.ContractErr.{ContractErr}
 use Rattle.law_decided.specs.Laws.{HoldsOf, IsForcedFirst, IsVerdictOf}
 use Rattle.hp_driver.specs.Command.{IsRunOf, IsTellOf, IsCheckOf, IsCompileOf, IsPastOf, IsExecOf, IsProveOf, IsVerifyOf, IsSegmentOf, IsSweepOf, IsOverSource, IsOverContract, ReadsSource, IsNoCommand, usage_line, no_node_line, accepted_text, verdict_text}
-use Rattle.hp_driver.specs.Controls.{has_controls}
 use Rattle.hp_driver.specs.Diagnostics.{checkpoint_line, refusal_line, too_long_line, no_text_line, no_form_line, executor_line, forced_line, contract_line, no_contract_line, certificate_line, certificate_status}
 use Rattle.hp_driver.specs.Lines.{lines_of}
 use Rattle.hp_driver.specs.PastOutcome.{unfolded_text}
 use Rattle.hp_driver.specs.Sweeping.{HasTasks, sweep_text, tasks_text}
-use Rattle.hp_driver.specs.Systems.{System, of_node, of_machine}
+use Rattle.hp_driver.specs.Systems.{System, of_machine}
 use Rattle.hp_obc.specs.Steps.{Memory}
 use Rattle.hp_driver.specs.Asking.{AsksToRun, IsRunFor, run_words}
 use Rattle.hp_driver.specs.Checkpoints.{IsCheckpointOf, RefusesCheckpoint, memory_past}
 use Rattle.hp_obctext.specs.declared.memory.error.MemErr.{MemErr}
-use Rattle.hp_driver.specs.ClaimTerms.{Program, AllKept, IsFirst, Certifies, IsNoProof, IsUndecidable, IsTrace, DoesTheSame, Choose, Implement, IsOwnOf, IsTellerOf, Runs, Starts, IsReadAs, LacksFile, RefusesTasks}
+use Rattle.hp_driver.specs.ClaimTerms.{Program, AllKept, IsFirst, Certifies, IsNoProof, IsUndecidable, IsTrace, Implement, IsOwnOf, IsTellerOf, Runs, Starts, IsReadAs, LacksFile, RefusesTasks}
 
 -- The call answers with what is said, the line of diagnostics, the files that it leaves, and its status.
 module _ (words : List (List ℕ)) (files : Files) (input : List ℕ) where
@@ -57,23 +56,20 @@ module _ (words : List (List ℕ)) (files : Files) (input : List ℕ) where
     -- It is accepted only where it has one, of which each contract is kept.
     accepted : {file : List ℕ} (print : Bool) (p : Program files file) → IsCheckOf words file print → AllKept p →
         Does (accepted_text print p.program) [] files 0
-    -- 2. A run answers the lines before the first one with a fault by the outputs of the node's one run, in which each
-    -- instance keeps its contract. Here the program has no controllable variables.
-    ran : {file node said line : List ℕ} {status : ℕ} (p : Program files file) → IsRunOf words file node → AllKept p →
-        has_controls p.program ≡ false → IsTrace (of_node p.clocked node) (lines_of true input) said line status →
-        Does said line files status
+    -- 2. A run answers the lines before the first one with a fault as the node's machine does. Without controllable
+    -- variables these are the outputs of the node's one run, in which each instance keeps its contract (`Implement`).
+    ran : {file node said line : List ℕ} {status : ℕ} {o : Obc} {s : System} (p : Program files file) →
+        IsRunOf words file node → Implement p o → IsOwnOf p.clocked o node s →
+        IsTrace s (lines_of true input) said line status → Does said line files status
     no_node_to_run : {file node : List ℕ} (p : Program files file) → AllKept p →
         IsRunOf words file node ⊎ IsTellOf words file node → node_among p.clocked node ≡ None →
         Does [] (no_node_line node) files 1
-    -- Where it has some, or is asked what contracts assume and enforce, machines that choose are run.
-    chose : {file node said line : List ℕ} {status : ℕ} {o : Obc} {s : System} (p : Program files file) →
-        IsRunOf words file node → has_controls p.program ≡ true → Choose p o → IsOwnOf p.clocked o node s →
-        IsTrace s (lines_of true input) said line status → Does said line files status
+    -- Where it is asked what contracts assume and enforce, this is told too.
     told : {file node said line : List ℕ} {status : ℕ} {o : Obc} {s : System} (p : Program files file) →
-        IsTellOf words file node → Choose p o → IsTellerOf p.clocked o node s →
+        IsTellOf words file node → Implement p o → IsTellerOf p.clocked o node s →
         IsTrace s (lines_of true input) said line status → Does said line files status
     chosen_too_large : {file node name : List ℕ} {o : Obc} (limit : Limit) (p : Program files file) →
-        AsksToRun words file node p.program → Choose p o → IsRunFor node name → IsPassed o name limit →
+        AsksToRun words file node p.program → Implement p o → IsRunFor node name → IsPassed o name limit →
         Does [] (executor_line limit) files 1
     -- 3. The first contract that is refused is lost: in its game the inputs force a violation within so many instants,
     -- and within no fewer. Behind the line stands its certificate, or that this is too long. Or it is undecidable.
@@ -83,12 +79,9 @@ module _ (words : List (List ℕ)) (files : Files) (input : List ℕ) where
         Does [] (forced_line n.name instants behind) files 1
     undecided : {file : List ℕ} (n : Node) (cause : ContractErr) (p : Program files file) → IsOverSource words file →
         IsFirst p.clocked n → IsUndecidable p.clocked n cause → Does [] (contract_line cause) files 1
-    -- 4. What `compile` writes `exec` runs as `run` runs the program; `exec` runs the machines of any such text.
-    compiled : {file out : List ℕ} (text : List ℕ) (p : Program files file) → IsCompileOf words file out → AllKept p →
-        has_controls p.program ≡ false → DoesTheSame text p.clocked → Does [] [] (map.insert files out text) 0
-    chosen_compiled : {file out : List ℕ} {o : Obc} (text : List ℕ) (p : Program files file) →
-        IsCompileOf words file out → has_controls p.program ≡ true → Choose p o →
-        (length text ≤ most Text → IsTextOf text o) → Does [] [] (map.insert files out text) 0
+    -- 4. What `compile` writes stands for such machines, and `exec` runs the machines of any such text.
+    compiled : {file out : List ℕ} {o : Obc} (text : List ℕ) (p : Program files file) → IsCompileOf words file out →
+        Implement p o → (length text ≤ most Text → IsTextOf text o) → Does [] [] (map.insert files out text) 0
     executed : {file node text said line : List ℕ} {o : Obc} {status : ℕ} (m : Machine) → IsExecOf words file node →
         Holds files file text → IsTextOf text o → machine_named o.machines node ≡ Some m →
         IsTrace (of_machine o node) (lines_of true input) said line status → Does said line files status

@@ -31,14 +31,14 @@ use Rattle.hp_verdicts.specs.declared.error.ContractErr.{ContractErr}
 use Rattle.hp_verdicts.specs.declared.error.ContractErr.TheVariants as contract
 use Rattle.law_drawing.specs.Mirrors.Assumptions.{AssumesControl}
 use Rattle.law_drawing.specs.Mirrors.Limits.{IsOver as PassesLimit}
-use Rattle.hp_driver.specs.Agreeing.{AgreesWith, RunNodes}
+use Rattle.hp_driver.specs.Agreeing.{AgreeWithNodes}
 use Rattle.hp_driver.specs.Answers.{IsAnswer}
 use Rattle.hp_driver.specs.BadLines.{bad_line_line}
 use Rattle.hp_driver.specs.Command.{IsPastOf, IsExecOf, IsVerifyOf, IsOver, ReadsSource}
 use Rattle.hp_driver.specs.Controls.{has_controls}
 use Rattle.hp_driver.specs.Diagnostics.{contract_line, executor_line, refusal_line}
 use Rattle.hp_driver.specs.Sweeping.{tasks_text}
-use Rattle.hp_driver.specs.Systems.{System, of_node, of_machine, that_tells, from_memory, inputs_of}
+use Rattle.hp_driver.specs.Systems.{System, of_machine, that_tells, from_memory, inputs_of}
 use Rattle.hp_driver.specs.Values.{first_bad}
 use Rattle.hp_driver.specs.declared.trace_limits.BadLine.{BadLine}
 use Rattle.hp_obc.specs.Steps.{Memory, machine_behaviour}
@@ -90,27 +90,16 @@ pub data IsTrace (s : System) (lines : List (List ℕ)) : List ℕ → List ℕ 
   broken : {said : List ℕ} (bad : BadLine) → IsAnswer s lines said → first_bad (inputs_of s) 1 lines ≡ Some bad →
       IsTrace s lines said (bad_line_line bad) 3
 
--- `exec` of the text says of each node what `run` says, where it is no longer than a text of machines may be.
-abbrev pub DoesTheSame : List ℕ → List Item → Type 0
-DoesTheSame text program =
-    length text ≤ most Text → (o : Obc) × IsTextOf text o
-    × ((node : List ℕ) (n : Node) → node_among program node ≡ Some n →
-    (m : Machine) × (machine_named o.machines node ≡ Some m) × AgreesWith (of_machine o node) (of_node program node))
-
--- Machines of a program whose contracts are kept. What they say over inputs of its kinds the program allows; a node that
--- calls none in whose contract integers are compared has the greatest permitted values; so it keeps its contract while the
--- nodes that it calls keep theirs.
-pub record Choose {files : Files} {file : List ℕ} (p : Program files file) (o : Obc) : Type 0 where
+-- Machines implement a program whose contracts are kept. What they say over inputs of its kinds the program allows; a node
+-- that calls none in whose contract integers are compared has the greatest permitted values; so it keeps its contract while
+-- the nodes that it calls keep theirs. And if the program has no
+-- controllable variables, the machine of each node refuses the lines that the node refuses, and answers the same to others.
+pub record Implement {files : Files} {file : List ℕ} (p : Program files file) (o : Obc) : Type 0 where
   pub kept : AllKept p
   pub says : AllSayGreatest p.clocked o
+  pub agree : has_controls p.program ≡ false → AgreeWithNodes p.clocked o
 
--- Machines implement a program whose contracts are kept: they run its nodes, or choose where it has controllable
--- variables.
-pub data Implement {files : Files} {file : List ℕ} (p : Program files file) (o : Obc) : Type 0 where
-  the_nodes : has_controls p.program ≡ false → AllKept p → RunNodes p.clocked o → Implement p o
-  that_choose : has_controls p.program ≡ true → Choose p o → Implement p o
-
--- Of machines that choose, what is run for a node: its own machine, which takes its inputs and gives its outputs;
+-- What is run for a node: its own machine, which takes its inputs and gives its outputs;
 pub data IsOwnOf (program : List Item) (o : Obc) (node : List ℕ) : System → Type 0 where
   own : (n : Node) → node_among program node ≡ Some n → IsChosen node o n → IsOwnOf program o node (of_machine o node)
 
@@ -122,12 +111,9 @@ pub data IsTellerOf (program : List Item) (o : Obc) (node : List ℕ) : System �
   without : (n : Node) → node_among program node ≡ Some n → n.contract ≡ None → IsChosen node o n →
       IsTellerOf program o node (that_tells Kept o node)
 
--- What `run` runs for a node, and machines one of which does it: the node, of a program without controllable variables;
--- or that machine itself.
+-- what `run` runs for a node, and machines one of which does it
 pub data Runs {files : Files} {file : List ℕ} (p : Program files file) (o : Obc) (node : List ℕ) : System → Type 0 where
-  the_node : has_controls p.program ≡ false → AllKept p → AgreesWith (of_machine o node) (of_node p.clocked node) →
-      Runs p o node (of_node p.clocked node)
-  the_machine : {s : System} → has_controls p.program ≡ true → Choose p o → IsOwnOf p.clocked o node s → Runs p o node s
+  the_machine : {s : System} → Implement p o → IsOwnOf p.clocked o node s → Runs p o node s
 
 -- A run starts with a memory of the machine: that after a reset, or the one for which the checkpoint in a file stands.
 pub data Starts {files : Files} {file : List ℕ} (p : Program files file) (o : Obc) (node : List ℕ) :

@@ -1,5 +1,5 @@
 -- What a call does behind its words: by the text that was read, and by the words alone.
-use Rattle.std.specs.Prelude.{◌≡◌, [], ◌++◌, ℕ, true, false, List, Option, Some}
+use Rattle.std.specs.Prelude.{◌≡◌, [], ◌++◌, ℕ, List, Option, Some}
 use Rattle.hp_io.specs.Files.{Files}
 use Rattle.hp_io.specs.declared.console.Event.{Event}
 use Rattle.hp_obc.specs.Machines.{Obc}
@@ -10,10 +10,9 @@ use Rattle.hp_exec.specs.declared.error.ExecErr.{ExecErr}
 use Rattle.hp_compile.specs.Arranged.{IsArranged}
 use Rattle.hp_compile.specs.Judged.{IsJudged}
 use Rattle.law_decided.specs.Outcomes.{AreKeptInGames}
-pub use Rattle.hp_driver.specs.Texts.{IsArrangedText, IsPlainText}
+pub use Rattle.hp_driver.specs.Texts.{IsArrangedText}
 use Rattle.hp_driver.specs.Compiled.{IsNotCompiled}
 use Rattle.hp_driver.specs.declared.compile_error.CompileErr.{CompileErr}
-use Rattle.hp_driver.specs.Controls.{has_controls}
 use Rattle.hp_driver.specs.Command.{IsRunOf, IsTellOf, IsCompileOf, IsExecOf, IsVerifyOf, IsSweepOf}
 use Rattle.hp_driver.specs.Diagnostics.{executor_line}
 use Rattle.hp_driver.specs.Systems.{System}
@@ -23,7 +22,7 @@ use Rattle.hp_tree.specs.Meaning.{node_among}
 use Rattle.hp_abstract.specs.Machines.{IsMachineOf}
 use Rattle.hp_boolx.specs.Machine.{Machine}
 use Rattle.hp_driver.specs.Commanded.{SpellsTask}
-use Rattle.hp_driver.specs.Outcome.{Gives, IsHeld, IsOnly, HasContract, AreAskedFor, AreChosen, IsAskedFor, IsMachine, Outcome}
+use Rattle.hp_driver.specs.Outcome.{Gives, IsHeld, IsOnly, HasContract, AreCompiled, AreMachines, IsAskedFor, IsMachine, Outcome}
 use Rattle.hp_driver.specs.declared.words.Task.{Task}
 use Rattle.hp_tree.specs.Programs.{Node}
 use Rattle.hp_tree.specs.declared.program.Item.{Item}
@@ -89,7 +88,7 @@ ExecOf text node log line status =
 
 -- whatever words and folder gave the machines, of which one of this name is to be run
 abbrev pub MachinesOutcome : Obc → List ℕ → List Event → List ℕ → ℕ → Type 0
-MachinesOutcome o node log line status = (words : List (List ℕ)) (files : Option Files) → AreAskedFor words files node o → Outcome words files log line status
+MachinesOutcome o node log line status = (words : List (List ℕ)) (files : Option Files) (file : List ℕ) → IsExecOf words file node → AreMachines files file o → Outcome words files log line status
 
 -- a text of machines is refused for this reason, and so is a machine of this name
 abbrev pub RefusedText : ObcErr → List ℕ → ℕ → Type 0
@@ -97,12 +96,6 @@ RefusedText error line status = (text node : List ℕ) → RefusesText text erro
 
 abbrev pub RefusedMachine : List ℕ → ExecErr → List ℕ → ℕ → Type 0
 RefusedMachine node error line status = (o : Obc) → RefusesMachine o node error → MachinesOutcome o node [] line status
-
--- whatever words and program the ordered program is of, where a machine of it is run
-abbrev pub OrderedRun : List ℕ → List Item → List Event → List ℕ → ℕ → Type 0
-OrderedRun node ordered log line status =
-    (words : List (List ℕ)) (files : Option Files) (file : List ℕ) (program : List Item) (held : IsHeld files file program) → held.clocked ≡ ordered →
-    has_controls program ≡ false → AreKeptInGames held.clocked → IsRunOf words file node → Outcome words files log line status
 
 -- whatever words and folder asked for this system, whose machine has this name among these
 abbrev pub ChosenOutcome : System → Obc → List ℕ → List Event → List ℕ → ℕ → Type 0
@@ -114,27 +107,27 @@ ChosenOutcome s o name log line status =
 abbrev pub RefusedChosen : List ℕ → ExecErr → List ℕ → ℕ → Type 0
 RefusedChosen name error line status = (s : System) (o : Obc) → RefusesMachine o name error → ChosenOutcome s o name [] line status
 
--- whatever words and program with controllable variables the ordered program is of, where a node of it is run
-abbrev pub ChoosingRun : List ℕ → List Item → List Event → List ℕ → ℕ → Type 0
-ChoosingRun node ordered log line status =
+-- whatever words and program the ordered program is of, where a node of it is run
+abbrev pub OrderedRun : List ℕ → List Item → List Event → List ℕ → ℕ → Type 0
+OrderedRun node ordered log line status =
     (words : List (List ℕ)) (files : Option Files) (file : List ℕ) (program : List Item) (held : IsHeld files file program) → held.clocked ≡ ordered →
-    has_controls program ≡ true → AreKeptInGames held.clocked → IsRunOf words file node → Outcome words files log line status
+    AreKeptInGames held.clocked → IsRunOf words file node → Outcome words files log line status
 
 -- whatever words and program the ordered program is of, where it is asked what the contract of a node assumes and enforces
-abbrev pub ChoosingTell : List ℕ → List Item → List Event → List ℕ → ℕ → Type 0
-ChoosingTell node ordered log line status =
+abbrev pub OrderedTell : List ℕ → List Item → List Event → List ℕ → ℕ → Type 0
+OrderedTell node ordered log line status =
     (words : List (List ℕ)) (files : Option Files) (file : List ℕ) (program : List Item) (held : IsHeld files file program) → held.clocked ≡ ordered →
     AreKeptInGames held.clocked → IsTellOf words file node → Outcome words files log line status
 
 -- whatever words asked for a node of this name, whose machine is among these, to be run, or to be told of
 abbrev pub NodeRun : Obc → Node → List ℕ → List Event → List ℕ → ℕ → Type 0
 NodeRun o n node log line status =
-    (words : List (List ℕ)) (files : Option Files) (file : List ℕ) (chosen : AreChosen files file o) → has_controls chosen.program ≡ true → node_among chosen.held.clocked node ≡ Some n →
+    (words : List (List ℕ)) (files : Option Files) (file : List ℕ) (compiled : AreCompiled files file o) → node_among compiled.held.clocked node ≡ Some n →
     IsRunOf words file node → Outcome words files log line status
 
 abbrev pub NodeTold : Obc → Node → List ℕ → List Event → List ℕ → ℕ → Type 0
 NodeTold o n node log line status =
-    (words : List (List ℕ)) (files : Option Files) (file : List ℕ) (chosen : AreChosen files file o) → node_among chosen.held.clocked node ≡ Some n → IsTellOf words file node → Outcome words files log line status
+    (words : List (List ℕ)) (files : Option Files) (file : List ℕ) (compiled : AreCompiled files file o) → node_among compiled.held.clocked node ≡ Some n → IsTellOf words file node → Outcome words files log line status
 
 -- whatever words ask for a sweep
 abbrev pub SweepOutcome : ℕ → ℕ → List Event → List ℕ → ℕ → Type 0

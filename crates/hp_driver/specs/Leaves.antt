@@ -1,5 +1,5 @@
 -- What becomes of the files of a call, and where a write of them failed.
-use Rattle.std.specs.Prelude.{◌≡◌, ◌≢◌, ◌≤◌, ◌⊎◌, ℕ, true, List, length, Option, option_map}
+use Rattle.std.specs.Prelude.{◌≡◌, ◌≢◌, ◌≤◌, ◌⊎◌, ℕ, List, length, Option, option_map}
 use Rattle.std.specs.FinMap as map
 use Rattle.hp_base.specs.Limits.{most}
 use Rattle.hp_base.specs.declared.limit.What.TheVariants.{Size, Text}
@@ -16,8 +16,7 @@ use Rattle.hp_obctext.specs.Words.{printed}
 use Rattle.law_decided.specs.Outcomes.{IsProofInGame}
 use Rattle.hp_driver.specs.Checkpoints.{IsCheckpointOf}
 use Rattle.hp_driver.specs.Command.{IsCompileOf, IsPastOf, IsProveOf, IsSegmentOf, IsOver, Writes}
-use Rattle.hp_driver.specs.Controls.{has_controls}
-use Rattle.hp_driver.specs.Outcome.{AreWritten, AreChosen, HasContract}
+use Rattle.hp_driver.specs.Outcome.{AreCompiled, HasContract}
 use Rattle.hp_driver.specs.PastOutcome.{HoldsProgram, unfolded_text}
 use Rattle.hp_driver.specs.Segments.{IsRunnable}
 
@@ -32,16 +31,11 @@ module _ (words : List (List ℕ)) (before after : Option Files) where
     -- no file is changed, and the call is not one that did what `compile`, `past`, `prove`, `save` or `resume` is for
     as_they_were : {status : ℕ} → after ≡ before → ((out : List ℕ) → Writes words out → status ≢ 0) → Leaves status
     -- the file that is named holds the machines of the program
-    written : {file out text : List ℕ} {o : Obc} → IsCompileOf words file out → AreWritten before file o → IsPrinted o text →
+    written : {file out text : List ℕ} {o : Obc} → IsCompileOf words file out → AreCompiled before file o → IsPrinted o text →
         after ≡ option_map (λ held. map.insert held out text) before → Leaves 0
     -- the write failed: the file that is named holds what it held, or the first bytes of their text, and no other is changed
-    in_part : {file out text : List ℕ} {o : Obc} {status : ℕ} → (status ≡ 5) ⊎ (status ≡ 6) → IsCompileOf words file out → AreWritten before file o → IsPrinted o text →
+    in_part : {file out text : List ℕ} {o : Obc} {status : ℕ} → (status ≡ 5) ⊎ (status ≡ 6) → IsCompileOf words file out → AreCompiled before file o → IsPrinted o text →
         BothTold before after (λ b a. SameElsewhere b a out) → BothTold before after (λ b a. SameOrPrefix b a out text) → Leaves status
-    -- the same of the machines of a program with controllable variables
-    chosen_written : {file out text : List ℕ} {o : Obc} → IsCompileOf words file out → (chosen : AreChosen before file o) → has_controls chosen.program ≡ true → IsPrinted o text →
-        after ≡ option_map (λ held. map.insert held out text) before → Leaves 0
-    chosen_in_part : {file out text : List ℕ} {o : Obc} {status : ℕ} → (status ≡ 5) ⊎ (status ≡ 6) → IsCompileOf words file out → (chosen : AreChosen before file o) → has_controls chosen.program ≡ true →
-        IsPrinted o text → BothTold before after (λ b a. SameElsewhere b a out) → BothTold before after (λ b a. SameOrPrefix b a out text) → Leaves status
     -- the file that is named holds the program without the formulas of its contracts
     unfolded : {file out : List ℕ} {program : List Item} → IsPastOf words file out → HoldsProgram before file program → length (unfolded_text program) ≤ most Size →
         after ≡ option_map (λ held. map.insert held out (unfolded_text program)) before → Leaves 0

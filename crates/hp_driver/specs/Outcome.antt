@@ -1,5 +1,5 @@
 -- What a call does, and why: a row for each cause.
-use Rattle.std.specs.Prelude.{◌≡◌, ◌≢◌, ◌≤◌, Bool, is_some, IsTrue, ℕ, true, false, List, [], ◌∷◌, ◌++◌, codes, Option, None, Some}
+use Rattle.std.specs.Prelude.{◌≡◌, ◌≢◌, ◌≤◌, ◌⊎◌, Bool, is_some, IsTrue, ℕ, true, false, List, [], ◌∷◌, ◌++◌, codes, Option, None, Some}
 use Rattle.hp_base.specs.Limits.{most}
 use Rattle.hp_base.specs.declared.limit.Limit.{Limit}
 use Rattle.hp_base.specs.declared.limit.What.TheVariants.{Size, Text}
@@ -11,16 +11,13 @@ use Rattle.hp_tree.specs.declared.program.Item.{Item}
 use Rattle.hp_driver.specs.Lines.{whole_lines, lines_of}
 use Rattle.hp_driver.specs.Log.{heard, said, has_ended}
 use Rattle.hp_driver.specs.Values.{first_bad}
-use Rattle.hp_driver.specs.Agreeing.{AgreeWithNodes}
 use Rattle.hp_driver.specs.Answers.{IsAnswer}
-use Rattle.hp_driver.specs.Systems.{System, of_node, of_machine, that_tells, inputs_of}
+use Rattle.hp_driver.specs.Systems.{System, of_machine, that_tells, inputs_of}
 use Rattle.hp_driver.specs.declared.telling.Ending.TheVariants as ending
-use Rattle.hp_controlled.specs.Chosen.{AreControlledMachines, IsChosen, IsToldBy}
-use Rattle.hp_controlled.specs.Joining.{AreWithContracts}
+use Rattle.hp_controlled.specs.Chosen.{IsChosen, IsToldBy}
 use Rattle.hp_io.specs.Events.{put_events}
 use Rattle.hp_compile.specs.Arranged.{IsArranged}
 use Rattle.hp_compile.specs.Judged.{IsJudged}
-use Rattle.hp_machines.specs.Machined.{AreMachinesOf}
 use Rattle.hp_compile.specs.Refusals.{Causes}
 use Rattle.hp_compile.specs.declared.refusal.Refusal.{Refusal}
 use Rattle.hp_exec.specs.Answers.{IsPassed}
@@ -34,15 +31,14 @@ use Rattle.hp_cert.specs.declared.certtext.error.CertErr.{CertErr}
 use Rattle.hp_cert.specs.declared.certtext.error.CertErr.TheVariants as certificate
 use Rattle.hp_tree.specs.Meaning.{node_among}
 use Rattle.hp_tree.specs.Programs.{Node}
-use Rattle.law_controlled.specs.Greatest.{AllSayGreatest}
 use Rattle.law_decided.specs.Outcomes.{AreKeptInGames, RefusesInGames, RefusesInGame, IsProofInGame, ShowsInGame}
 use Rattle.hp_verdicts.specs.Decided.{IsLong, has_contract, is_wide_contract}
 use Rattle.hp_verdicts.specs.Verified.{HasMachine, RefusesCert}
 use Rattle.hp_verdicts.specs.declared.error.ContractErr.{ContractErr}
 use Rattle.hp_verdicts.specs.declared.error.ContractErr.TheVariants.{OutOfMemory}
+use Rattle.hp_driver.specs.Compiled.{AreMachinesFor}
 use Rattle.hp_driver.specs.Diagnostics.{refusal_line, too_long_line, no_text_line, no_form_line, executor_line, contract_line, no_contract_line, certificate_line, certificate_status}
 use Rattle.hp_driver.specs.BadLines.{bad_line_line}
-use Rattle.hp_driver.specs.Controls.{has_controls}
 use Rattle.hp_driver.specs.Command.{IsRunOf, IsTellOf, IsCheckOf, IsCompileOf, IsPastOf, IsExecOf, IsProveOf, IsVerifyOf, IsSweepOf, IsOverSource, IsOverContract, ReadsSource, ReadsFirst, IsNoCommand, usage_line, no_node_line, accepted_text, verdict_text}
 pub use Rattle.hp_driver.specs.Asking.{AsksToRun, IsRunFor}
 pub use Rattle.hp_driver.specs.Given.{Gives, GivesMoreThan}
@@ -75,38 +71,12 @@ pub record AreMachines (files : Option Files) (file : List ℕ) (o : Obc) : Type
   pub held : Gives files file text
   pub read : IsTextOf text o
 
--- the machines of the program that the file holds, which has no controllable variables, and of which each contract is kept: each does what its node does. Which machines do so, of the many that might, is told by `machines`: two calls over one text have the same, so each takes the checkpoints of the other
+-- Machines of the program that the file holds, of which each contract is kept. What the machine of a node says, the program allows; and if it calls none in whose contract integers are compared, its controllable variables have the greatest permitted values, so it keeps its contract while the nodes that it calls keep theirs. Without controllable variables it does what its node does, in each reaction of which each instance keeps its contract. Which machines do so, of the many that might, is told by `machines`: each call over a text takes the checkpoints of the others.
 pub record AreCompiled (files : Option Files) (file : List ℕ) (o : Obc) : Type 0 where
   pub program : List Item
   pub held : IsHeld files file program
-  pub uncontrolled : has_controls program ≡ false
   pub kept : AreKeptInGames held.clocked
-  pub agree : AgreeWithNodes held.clocked o
-  pub machines : AreMachinesOf held.clocked o
-
--- the machines of such a program as they are written: those of its nodes, and between them those of its contracts
-pub record AreWritten (files : Option Files) (file : List ℕ) (o : Obc) : Type 0 where
-  pub own : Obc
-  pub compiled : AreCompiled files file own
-  pub with_contracts : AreWithContracts compiled.held.clocked own o
-
--- machines of the program that the file holds, of which each contract is kept; some node of it chooses the values of its controllable variables, or it is asked what contracts assume and enforce. What the machines of nodes say, the program allows; and in a node that calls none in whose contract integers are compared, these variables have the greatest permitted values, so the node keeps its contract while the nodes that it calls keep theirs
-pub record AreChosen (files : Option Files) (file : List ℕ) (o : Obc) : Type 0 where
-  pub program : List Item
-  pub held : IsHeld files file program
-  pub kept : AreKeptInGames held.clocked
-  pub machines : AreControlledMachines held.clocked o
-  pub says : AllSayGreatest held.clocked o
-
--- The words ask to run the machine of this name among these, and the file holds them, or the program that they are of.
-pub data AreAskedFor (words : List (List ℕ)) (files : Option Files) (node : List ℕ) (o : Obc) : Type 0 where
-  in_text : {file : List ℕ} → IsExecOf words file node → AreMachines files file o → AreAskedFor words files node o
-  of_program : {file : List ℕ} → IsRunOf words file node → AreCompiled files file o → AreAskedFor words files node o
-
--- What is asked for has no such name: no machine of the text has it, or no node of the program.
-abbrev pub LacksNode : (words : List (List ℕ)) (files : Option Files) (node : List ℕ) (o : Obc) → AreAskedFor words files node o → Type 0
-LacksNode words files node o (AreAskedFor.in_text w machines) = machine_named o.machines node ≡ None
-LacksNode words files node o (AreAskedFor.of_program w compiled) = node_among compiled.held.clocked node ≡ None
+  pub are : AreMachinesFor program held.clocked o
 
 -- the machine of this name among some, which is within the limits of what is executed
 pub record IsMachine (node : List ℕ) (o : Obc) : Type 0 where
@@ -115,16 +85,14 @@ pub record IsMachine (node : List ℕ) (o : Obc) : Type 0 where
   pub chain : longest_chain o.machines node ≤ most_chained
   pub count : instance_count o.machines node ≤ most_instances
 
--- The words ask to run this, and the file holds it: a node of a program without controllable variables whose contracts are kept, as it is once it is arranged, whose machine is within the limits; a machine of a text of machines;
--- or a machine of a program whose contracts are kept, which has the inputs and outputs of the node of the name, and says what the program allows. Controllable variables have the greatest permitted values in a node that calls none in whose contract integers are compared; elsewhere it is said that they have values of their types.
+-- The words ask to run this machine, and the file holds it, or the program that it is of: a machine of a text of machines; that of a node of a program whose contracts are kept, with its inputs and outputs, of which `AreCompiled` says what it does; or one that also tells the values of the node's contract.
 pub data IsAskedFor (words : List (List ℕ)) (files : Option Files) : System → Type 0 where
-  a_node : {file node : List ℕ} {o : Obc} → IsRunOf words file node → (compiled : AreCompiled files file o) → IsMachine node o → IsAskedFor words files (of_node compiled.held.clocked node)
+  a_node : {file node : List ℕ} {o : Obc} (n : Node) → IsRunOf words file node → (compiled : AreCompiled files file o) → node_among compiled.held.clocked node ≡ Some n → IsMachine node o →
+      IsChosen node o n → IsAskedFor words files (of_machine o node)
   a_machine : {file node : List ℕ} {o : Obc} → IsExecOf words file node → AreMachines files file o → IsMachine node o → IsAskedFor words files (of_machine o node)
-  a_chosen_node : {file node : List ℕ} {o : Obc} (n : Node) → IsRunOf words file node → (chosen : AreChosen files file o) → has_controls chosen.program ≡ true →
-      node_among chosen.held.clocked node ≡ Some n → IsMachine node o → IsChosen node o n → IsAskedFor words files (of_machine o node)
-  a_contract : {file node : List ℕ} {o : Obc} (n : Node) → IsTellOf words file node → (chosen : AreChosen files file o) → node_among chosen.held.clocked node ≡ Some n →
+  a_contract : {file node : List ℕ} {o : Obc} (n : Node) → IsTellOf words file node → (compiled : AreCompiled files file o) → node_among compiled.held.clocked node ≡ Some n →
       IsTrue (is_some n.contract) → IsMachine (node ++ codes "$contract") o → IsToldBy (node ++ codes "$contract") o n → IsAskedFor words files (that_tells ending.Told o (node ++ codes "$contract"))
-  no_contract : {file node : List ℕ} {o : Obc} (n : Node) → IsTellOf words file node → (chosen : AreChosen files file o) → node_among chosen.held.clocked node ≡ Some n →
+  no_contract : {file node : List ℕ} {o : Obc} (n : Node) → IsTellOf words file node → (compiled : AreCompiled files file o) → node_among compiled.held.clocked node ≡ Some n →
       n.contract ≡ None → IsMachine node o → IsChosen node o n → IsAskedFor words files (that_tells ending.Kept o node)
 
 -- Whenever input was asked for, it had not ended, what was said were the answers to the whole lines heard before, and no line heard before has a fault.
@@ -150,10 +118,10 @@ module _ (words : List (List ℕ)) (files : Option Files) where
     contract_refused : {file : List ℕ} {program : List Item} (cause : ContractErr) → IsOverSource words file → (held : IsHeld files file program) → has_contract program ≡ true →
         cause ≢ OutOfMemory → RefusesInGames held.clocked cause → Outcome [] (contract_line cause) 1
     -- the program has no node of this name to be run
-    no_node_to_run : {file name : List ℕ} {program : List Item} → AsksToRun words file name program → (held : IsHeld files file program) → AreKeptInGames held.clocked →
+    no_node_to_run : {file name : List ℕ} {program : List Item} → IsRunOf words file name ⊎ IsTellOf words file name → (held : IsHeld files file program) → AreKeptInGames held.clocked →
         node_among held.clocked name ≡ None → Outcome [] (no_node_line name) 1
-    -- the machine that is run for the node of this name passes a limit
-    chosen_too_large : {file node name : List ℕ} {o : Obc} (limit : Limit) → (chosen : AreChosen files file o) → AsksToRun words file node chosen.program → IsRunFor node name →
+    -- the machine that is run for the node of this name passes a limit; of programs without controllable variables that of a contract alone may do so
+    chosen_too_large : {file node name : List ℕ} {o : Obc} (limit : Limit) → (compiled : AreCompiled files file o) → AsksToRun words file node compiled.program → IsRunFor node name →
         IsPassed o name limit → Outcome [] (executor_line limit) 1
     -- the program is accepted: each contract is kept, so no violation is ever forced in its game
     accepted : {file : List ℕ} {program : List Item} (print : Bool) → IsCheckOf words file print → (held : IsHeld files file program) → AreKeptInGames held.clocked →
@@ -197,18 +165,14 @@ module _ (words : List (List ℕ)) (files : Option Files) where
     no_text : {file node : List ℕ} (text : List ℕ) (at : Span) → IsExecOf words file node → Gives files file text → IsRefused text at → Outcome [] (no_text_line at) 8
     -- a word of the text is the first that breaks a rule of form
     no_form : {file node : List ℕ} (text : List ℕ) (at : Span) → IsExecOf words file node → Gives files file text → BreaksForm text at → Outcome [] (no_form_line at) 8
-    -- there is no machine of this name in the text, or no node in the program
-    no_machine : {node : List ℕ} {o : Obc} (asked : AreAskedFor words files node o) → LacksNode words files node o asked → Outcome [] (no_node_line node) 1
+    -- there is no machine of this name in the text
+    no_machine : {file node : List ℕ} {o : Obc} → IsExecOf words file node → AreMachines files file o → machine_named o.machines node ≡ None → Outcome [] (no_node_line node) 1
     -- the machine of this name, of a text of machines, passes a limit: that on the machines on a chain of instances comes first, and then that on all instances
     too_large : {file node : List ℕ} {o : Obc} (limit : Limit) → IsExecOf words file node → AreMachines files file o → IsPassed o node limit → Outcome [] (executor_line limit) 1
-    -- the machines of the program were written, which has no controllable variables
-    compiled : {file out : List ℕ} {o : Obc} → IsCompileOf words file out → AreWritten files file o → Outcome [] [] 0
+    -- the machines of the program were written
+    compiled : {file out : List ℕ} {o : Obc} → IsCompileOf words file out → AreCompiled files file o → Outcome [] [] 0
     -- they could not be written
-    not_written : {file out : List ℕ} {o : Obc} → IsCompileOf words file out → AreWritten files file o → Outcome [] [] 5
-    -- the machines of a program with controllable variables were written
-    chosen_compiled : {file out : List ℕ} {o : Obc} → IsCompileOf words file out → (chosen : AreChosen files file o) → has_controls chosen.program ≡ true → Outcome [] [] 0
-    -- they could not be written
-    chosen_not_written : {file out : List ℕ} {o : Obc} → IsCompileOf words file out → (chosen : AreChosen files file o) → has_controls chosen.program ≡ true → Outcome [] [] 5
+    not_written : {file out : List ℕ} {o : Obc} → IsCompileOf words file out → AreCompiled files file o → Outcome [] [] 5
     -- the program of a source text was written without the formulas of its contracts, or was not
     past : {file out line : List ℕ} {status : ℕ} → IsPastOf words file out → PastOutcome files file line status → Outcome [] line status
     -- the summary of a sweep, or the first bytes of it, where a put failed

@@ -16,22 +16,19 @@ pub use Rattle.hp_driver.specs.Asking.{run_words}
 use Rattle.hp_driver.specs.BadLines.{bad_line_line}
 use Rattle.hp_driver.specs.Checkpoints.{IsCheckpointOf, RefusesCheckpoint, memory_behind}
 use Rattle.hp_driver.specs.Command.{IsNoSegment, IsSegmentOf}
-use Rattle.hp_driver.specs.Controls.{has_controls}
 use Rattle.hp_driver.specs.Diagnostics.{checkpoint_line, too_long_line}
 use Rattle.hp_driver.specs.Given.{Gives, GivesMoreThan}
 use Rattle.hp_driver.specs.Lines.{whole_lines, lines_of}
 use Rattle.hp_driver.specs.Log.{heard, said, has_ended}
-use Rattle.hp_driver.specs.Outcome.{AreChosen, AreCompiled, InLockstep, IsMachine, Outcome}
-use Rattle.hp_driver.specs.Systems.{System, of_node, of_machine, from_memory, inputs_of}
+use Rattle.hp_driver.specs.Outcome.{AreCompiled, InLockstep, IsMachine, Outcome}
+use Rattle.hp_driver.specs.Systems.{System, of_machine, from_memory, inputs_of}
 use Rattle.hp_driver.specs.Values.{first_bad, inputs_until}
 use Rattle.hp_driver.specs.WrittenText.{WritesText}
 use Rattle.hp_driver.specs.declared.trace_limits.BadLine.{BadLine}
 
--- The machine that `run` runs for the node is among these, and it does what this does: the node itself, of a program without controllable variables; or else the machine.
+-- The machine that `run` runs for the node is among these.
 pub data AreRun (files : Option Files) (file node : List ℕ) (o : Obc) : System → Type 0 where
-  of_program : (compiled : AreCompiled files file o) → AreRun files file node o (of_node compiled.held.clocked node)
-  that_choose : (n : Node) → (chosen : AreChosen files file o) → has_controls chosen.program ≡ true → node_among chosen.held.clocked node ≡ Some n → IsChosen node o n →
-      AreRun files file node o (of_machine o node)
+  own : (n : Node) → (compiled : AreCompiled files file o) → node_among compiled.held.clocked node ≡ Some n → IsChosen node o n → AreRun files file node o (of_machine o node)
 
 -- It is there, within the limits of what is executed, and takes the inputs of what is run; and the machines have form.
 pub record IsRunnable (files : Option Files) (file node : List ℕ) (o : Obc) : Type 0 where

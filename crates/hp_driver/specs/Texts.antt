@@ -1,10 +1,9 @@
 -- The program of a text, and that there is no other, or none.
 -- Source: own.
-use Rattle.std.specs.Prelude.{◌≡◌, ℕ, false, List}
+use Rattle.std.specs.Prelude.{◌≡◌, ℕ, List}
 use Rattle.hp_tree.specs.declared.program.Item.{Item}
 use Rattle.hp_compile.specs.Arranged.{IsArranged, IsArrangeable}
 use Rattle.hp_compile.specs.Judged.{IsJudged}
-use Rattle.hp_driver.specs.Controls.{has_controls}
 
 -- the text has no other program
 abbrev pub IsOnly : List ℕ → List Item → Type 0
@@ -17,7 +16,3 @@ HasNoProgram text = (program : List Item) → IsJudged text program → IsArrang
 -- A text has this program, and this is it once it is arranged.
 abbrev pub IsArrangedText : List Item → List Item → Type 0
 IsArrangedText program ordered = (text : List ℕ) × (ranks : List (List ℕ)) × IsJudged text program × IsArranged program ordered ranks
-
--- So it is of a program without controllable variables.
-abbrev pub IsPlainText : List Item → Type 0
-IsPlainText ordered = (program : List Item) × IsArrangedText program ordered × (has_controls program ≡ false)

@@ -1,4 +1,4 @@
-//! Programs whose nodes choose the values of their controllable variables: their machines are run on a trace, with or without the values of contracts.
+//! The machines of programs, whose nodes choose the values of their controllable variables: they are run on a trace, with or without the values of contracts.
 ghost use Rattle.std.specs.Prelude.{◌≡◌, ◌≢◌, ◌++◌, ℕ, List, None, codes, is_some, IfOk, IsSome, IsTrue};
 ghost use Rattle.std.specs.String.{string_bytes};
 ghost use Rattle.hp_controlled.specs.Chosen.{IsChosen, IsToldBy};
@@ -8,14 +8,14 @@ ghost use Rattle.hp_obc.specs.Form.{TypesForm, machine_named};
 ghost use Rattle.hp_tree.specs.declared.program.Item.{Item};
 ghost use Rattle.hp_verdicts.specs.Decided.{AreKept};
 ghost use Rattle.hp_driver.specs.Faults.{TakeFaults, PutFaults, BothPutFaults};
-ghost use Rattle.hp_driver.specs.Follows.{IsArrangedText, ChoosingRun, ChoosingTell, ChosenOutcome, NodeRun, NodeTold, RefusedChosen};
+ghost use Rattle.hp_driver.specs.Follows.{IsArrangedText, OrderedRun, OrderedTell, ChosenOutcome, NodeRun, NodeTold, RefusedChosen};
 ghost use Rattle.hp_driver.specs.Happened.{Happened};
 ghost use Rattle.hp_driver.specs.Status.{code_of};
 ghost use Rattle.hp_driver.specs.Systems.{of_machine, that_tells};
 ghost use Rattle.hp_driver.specs.declared.telling.Ending.TheVariants.{Told};
 
 use crate::certificate::node_named;
-use crate::compiling::chosen_machines;
+use crate::compiling::{machines_do_what_programs_say, machines_of};
 use crate::execution::Execution;
 use crate::machines::report_large;
 use crate::refuse::report_no_node;
@@ -28,7 +28,7 @@ use hp_io::{Console, Sink};
 use hp_native::{Answers, NativeExec};
 use hp_obc::Obc;
 use hp_tree::{Node, Program};
-use law_controlled::{machines_of_texts_choose_the_greatest, nodes_have_their_machines};
+use law_controlled::nodes_have_their_machines;
 use std::alloc::{AllocError, Global};
 
 /// The name of the machine that also tells what the contract of a node assumes and enforces.
@@ -137,17 +137,17 @@ pub(crate) fn run_choosing<N: Answers, C: Console, E: Sink>(
     requires arranged { (program : List Item) × IsArrangedText program ordered.now }
     requires kept { AreKept ordered.now ordered.now }
     ensures outcome { Happened (C.events console.old) (C.events console.new) (C.left console.old) (C.left console.new) (E.took diag.old) (E.took diag.new)
-        (λ log line. ChoosingRun node.now ordered.now log line (code_of result)) }
+        (λ log line. OrderedRun node.now ordered.now log line (code_of result)) }
     ensures takes { TakeFaults (code_of result) (C.take_faults console.old) (C.take_faults console.new) }
     ensures puts { BothPutFaults (code_of result) (C.put_faults console.old) (C.put_faults console.new) (E.faults diag.old) (E.faults diag.new) }
 {
     let Some(found) = node_named(ordered, node) else {
         return report_no_node(resources.alloc, diag, node);
     };
-    // Laws: each line that the machines say is one that the program allows; where nothing is free but inputs, and comparisons of integers and outputs of calls in bodies, with the greatest permitted values. And the node has a machine of its name.
-    machines_of_texts_choose_the_greatest();
+    // Laws: the machines do what the program says, and the node has a machine of its name.
+    machines_do_what_programs_say();
     nodes_have_their_machines();
-    match chosen_machines(resources.alloc, ordered) {
+    match machines_of(resources.alloc, ordered) {
         Ok(machines) => run_node(resources, &machines, found, node, console, diag),
         Err(_) => Status::NoMemory,
     }
@@ -215,17 +215,17 @@ pub(crate) fn tell_choosing<N: Answers, C: Console, E: Sink>(
     requires arranged { (program : List Item) × IsArrangedText program ordered.now }
     requires kept { AreKept ordered.now ordered.now }
     ensures outcome { Happened (C.events console.old) (C.events console.new) (C.left console.old) (C.left console.new) (E.took diag.old) (E.took diag.new)
-        (λ log line. ChoosingTell name.now ordered.now log line (code_of result)) }
+        (λ log line. OrderedTell name.now ordered.now log line (code_of result)) }
     ensures takes { TakeFaults (code_of result) (C.take_faults console.old) (C.take_faults console.new) }
     ensures puts { BothPutFaults (code_of result) (C.put_faults console.old) (C.put_faults console.new) (E.faults diag.old) (E.faults diag.new) }
 {
     let Some(node) = node_named(ordered, name) else {
         return report_no_node(resources.alloc, diag, name);
     };
-    // Laws: each line that the machines say is one that the program allows; where nothing is free but inputs, and comparisons of integers and outputs of calls in bodies, with the greatest permitted values. And the node has a machine of its name, as has its contract.
-    machines_of_texts_choose_the_greatest();
+    // Laws: the machines do what the program says, and the node has a machine of its name, as has its contract.
+    machines_do_what_programs_say();
     nodes_have_their_machines();
-    match chosen_machines(resources.alloc, ordered) {
+    match machines_of(resources.alloc, ordered) {
         Ok(machines) => tell_node(resources, &machines, node, name, console, diag),
         Err(_) => Status::NoMemory,
     }

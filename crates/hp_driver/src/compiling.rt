@@ -3,7 +3,7 @@ ghost use Rattle.hp_compile.specs.Judged.{IsJudged};
 ghost use Rattle.hp_controlled.specs.Chosen.{AreControlledMachines};
 ghost use Rattle.hp_tree.specs.declared.program.Item.{Item};
 ghost use Rattle.hp_verdicts.specs.Decided.{AreKept};
-ghost use Rattle.hp_driver.specs.Compiled.{AreMachinesFor, HasCircuit, IsCompiled, IsFound, IsNotCompiled};
+ghost use Rattle.hp_driver.specs.Compiled.{HasCircuit, IsCompiled, IsFound, IsNotCompiled, MachinesLaw};
 ghost use Rattle.hp_driver.specs.Texts.{IsArrangedText, IsOnly};
 
 use crate::compile_error::CompileErr;
@@ -19,12 +19,29 @@ use law_controlled::{
     machines_of_texts_choose_the_greatest, machines_that_choose_are_built,
     machines_without_choices_are_of_nodes,
 };
-use law_decided::outcomes_are_so;
-use law_history::streams::{machines_of_texts_are_built, machines_run_the_nodes_of_texts};
+use law_decided::{machines_keep_contracts, outcomes_are_so};
+use law_history::streams::{
+    machines_of_texts_are_built, machines_of_texts_are_within_limits,
+    machines_run_the_nodes_of_texts,
+};
 use std::alloc::{AllocError, Global};
 
+/// A law: what is compiled so does what the program says.
+pub(crate) fn machines_do_what_programs_say()
+    ensures { MachinesLaw }
+{
+    machines_of_texts_are_built();
+    machines_run_the_nodes_of_texts();
+    machines_of_texts_are_within_limits();
+    machines_do_the_same_among_others();
+    own_machines_do_the_same();
+    machines_without_choices_are_of_nodes();
+    machines_of_texts_choose_the_greatest();
+    machines_keep_contracts();
+}
+
 /// The machines of an arranged program whose contracts are kept: of its nodes, which choose the values of their controllable variables, and of its contracts between them.
-pub(crate) fn chosen_machines(alloc: Global, ordered: &Program) -> Result<Obc, AllocError>
+pub(crate) fn machines_of(alloc: Global, ordered: &Program) -> Result<Obc, AllocError>
     requires arranged { (program : List Item) × IsArrangedText program ordered.now }
     requires kept { AreKept ordered.now ordered.now }
     ensures { IfOk result (AreControlledMachines ordered.now) }
@@ -38,30 +55,15 @@ pub(crate) fn chosen_machines(alloc: Global, ordered: &Program) -> Result<Obc, A
     }
 }
 
-/// The same, as `compile` writes them.
-fn machines_of(alloc: Global, ordered: &Program) -> Result<Obc, AllocError>
-    requires arranged { (program : List Item) × IsArrangedText program ordered.now }
-    requires kept { AreKept ordered.now ordered.now }
-    ensures { (program : List Item) → IsArrangedText program ordered.now → IfOk result (AreMachinesFor program ordered.now) }
-{
-    // A law: without controllable variables they are those of its nodes, with those of its contracts between them.
-    machines_without_choices_are_of_nodes();
-    chosen_machines(alloc, ordered)
-}
-
 /// The machines of an arranged program, if its contracts are kept.
 fn compile_ordered(alloc: Global, program: &Program, ordered: Ordered) -> Result<Obc, CompileErr>
     requires { IsArrangedText program.now ordered.program }
     ensures compiled { (text : List ℕ) → IsFound text program.now ordered.program → MatchResult result (IsCompiled text) (IsNotCompiled text) }
     ensures circuits { IfErr result HasCircuit }
 {
-    // Laws: what is found of contracts says so of their games; machines do what nodes do, also among those of contracts; and what machines say that choose, the program allows.
+    // Laws: what is found of contracts says so of their games, and machines do what the program says.
     outcomes_are_so();
-    machines_of_texts_are_built();
-    machines_run_the_nodes_of_texts();
-    machines_do_the_same_among_others();
-    own_machines_do_the_same();
-    machines_of_texts_choose_the_greatest();
+    machines_do_what_programs_say();
     decide(alloc, &ordered.program)?;
     let machines = machines_of(alloc, &ordered.program)?;
     Ok(machines)

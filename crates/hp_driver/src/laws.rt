@@ -4,22 +4,15 @@ ghost use Rattle.hp_driver.specs.Joined.{ContinuedLaw, JoinedLaw, JoinedRunLaw, 
 ghost use Rattle.hp_driver.specs.Mirrored.{MirrorLaw};
 ghost use Rattle.hp_driver.specs.Written.{WrittenLaw};
 
-use hp_controlled::{machines_do_the_same_among_others, own_machines_do_the_same};
-use hp_machines::programs_have_one_list_of_machines;
 use hp_meaning::clocking::one_shortest_assignment;
 use law_controlled::programs_that_choose_have_one_list_of_machines;
-use law_decided::{machines_keep_contracts, machines_mirror_contracts};
-use law_history::streams::{machines_of_texts_are_built, machines_run_the_nodes_of_texts};
+use law_decided::machines_mirror_contracts;
 use law_wellmade::lettered::names_are_spelled;
 
 /// `exec` says of the text that `compile` writes what `run` says of its program, also where machines of contracts stand in it.
 pub fn written_machines_agree_with_nodes()
     ensures { WrittenLaw }
-{
-    machines_of_texts_are_built();
-    machines_do_the_same_among_others();
-    own_machines_do_the_same();
-}
+{}
 
 /// Of the contracts of a program without contracts nothing is asked, that a call over it be one of which nothing is wrong.
 pub fn plain_programs_are_good()
@@ -49,10 +42,7 @@ pub fn stopped_runs_are_joined()
     ensures taken { TakenAgainLaw }
     ensures left { LeftLaw }
 {
-    machines_run_the_nodes_of_texts();
-    machines_keep_contracts();
     one_shortest_assignment();
-    programs_have_one_list_of_machines();
     programs_that_choose_have_one_list_of_machines();
 }
 

@@ -22,8 +22,6 @@ use hp_io::{Console, Sink};
 use hp_native::{Answers, NativeExec};
 use hp_obc::Obc;
 use hp_obctext::{ObcErr, read_obc};
-use law_decided::machines_keep_contracts;
-use law_history::streams::{machines_of_texts_are_within_limits, machines_run_the_nodes_of_texts};
 use std::alloc::Global;
 
 /// Reports the place of the word for which a text is refused.
@@ -74,8 +72,6 @@ pub(crate) fn report_machine<E: Sink>(
     ensures status { code_of result ≢ 4 }
     ensures faults { PutFaults (code_of result) (E.faults diag.old) (E.faults diag.new) }
 {
-    // A law: no machine of a program passes a limit.
-    machines_of_texts_are_within_limits();
     match error {
         ExecErr::NoNode => report_no_node(alloc, diag, node),
         ExecErr::Limit(limit) => report_large(alloc, diag, limit),
@@ -97,9 +93,6 @@ pub(crate) fn run_machines<N: Answers, C: Console, E: Sink>(
     ensures takes { TakeFaults (code_of result) (C.take_faults console.old) (C.take_faults console.new) }
     ensures puts { BothPutFaults (code_of result) (C.put_faults console.old) (C.put_faults console.new) (E.faults diag.old) (E.faults diag.new) }
 {
-    // Laws: machines of a program run its nodes, and keep contracts.
-    machines_run_the_nodes_of_texts();
-    machines_keep_contracts();
     let exec = match NativeExec::new(resources.alloc, machines, node, resources.natives) {
         Ok(exec) => exec,
         Err(error) => return report_machine(resources.alloc, diag, node, error),

@@ -9,7 +9,6 @@ ghost use Rattle.hp_driver.specs.Commanded.{Spells, SpellsSegment};
 ghost use Rattle.hp_driver.specs.Status.{code_of};
 ghost use Rattle.hp_driver.specs.declared.status.Status.TheVariants.{ReadFailed, NoMemory};
 
-use crate::laws::written_machines_agree_with_nodes;
 use crate::resources::Extras;
 use crate::status::Status;
 use crate::tool::run_tool;
@@ -117,7 +116,6 @@ pub fn run_in_memory(
 ) -> Answer
     ensures { Ends (map string_bytes words.now) files.old.files input.items result.said.items result.diagnostics.items files.new.files result.status }
 {
-    written_machines_agree_with_nodes();
     let mut console = MemConsole::new(input, Vec::new(alloc), Vec::new(alloc));
     let mut diag = MemSink::new(Vec::new(alloc));
     let extras = Extras::none(alloc);

@@ -4,36 +4,30 @@ ghost use Rattle.hp_compile.specs.Judged.{IsJudged};
 ghost use Rattle.hp_controlled.specs.Chosen.{AreControlledMachines, IsChosen};
 ghost use Rattle.hp_exec.specs.Answers.{Executes};
 ghost use Rattle.hp_io.specs.Told.{Grows};
-ghost use Rattle.hp_machines.specs.Machined.{AreMachinesOf};
 ghost use Rattle.hp_obc.specs.Form.{TypesForm};
 ghost use Rattle.hp_tree.specs.Meaning.{node_among};
 ghost use Rattle.hp_tree.specs.Programs as programs;
 ghost use Rattle.hp_tree.specs.declared.program.Item.{Item};
 ghost use Rattle.hp_verdicts.specs.Decided.{AreKept};
 ghost use Rattle.hp_driver.specs.Faults.{PutFaults};
-ghost use Rattle.hp_driver.specs.Follows.{ChoosingRun, DecidedOutcome, IsArrangedText, IsPlainText, NodeRun, OrderedRun, OutcomeOf, ProgramOutcome};
+ghost use Rattle.hp_driver.specs.Follows.{DecidedOutcome, IsArrangedText, NodeRun, OrderedRun, OutcomeOf, ProgramOutcome};
 ghost use Rattle.hp_driver.specs.Restoring.{Ends, RunDecided, RunProgram, RunText, ending};
 ghost use Rattle.hp_driver.specs.Status.{code_of};
 ghost use Rattle.hp_driver.specs.declared.words.Task.TheVariants as Task;
 
 use crate::certificate::node_named;
 use crate::choosing::report_choosing;
-use crate::compiling::chosen_machines;
-use crate::controls::has_controls;
-use crate::machines::report_machine;
+use crate::compiling::{machines_do_what_programs_say, machines_of};
 use crate::refuse::{report_contract, report_no_node, report_refusal};
 use crate::status::Status;
-use hp_cause::Ordered;
 use hp_compile::{arrange, judge};
 use hp_exec::Exec;
 use hp_io::Sink;
-use hp_machines::{MachineErr, machines};
 use hp_obc::Obc;
 use hp_tree::{Node, Program};
 use hp_verdicts::decide;
-use law_controlled::{machines_of_texts_choose_the_greatest, nodes_have_their_machines};
-use law_decided::{machines_keep_contracts, outcomes_are_so};
-use law_history::streams::{machines_of_texts_are_built, machines_run_the_nodes_of_texts};
+use law_controlled::nodes_have_their_machines;
+use law_decided::outcomes_are_so;
 use std::alloc::Global;
 
 /// A machine that is to be run, and the machines among which it stands.
@@ -41,36 +35,6 @@ use std::alloc::Global;
 pub(crate) struct Runnable {
     pub machines: Obc,
     pub exec: Exec,
-}
-
-/// The machine of the node of this name, in an ordered program without controllable variables, or the status with which the call ends.
-fn plain_runnable<E: Sink>(
-    alloc: Global,
-    ordered: Ordered,
-    node: &str,
-    diag: &mut E,
-) -> Result<Runnable, Status>
-    requires { IsPlainText ordered.program }
-    ensures runs { IfOk result (λ r. Executes r.machines node.now r.exec) }
-    ensures machines { IfOk result (λ r. AreMachinesOf ordered.program r.machines) }
-    ensures told { (line : List ℕ) × Grows (E.took diag.old) (E.took diag.new) line × Ends (OrderedRun node.now ordered.program []) result line }
-    ensures fails { IfErr result (λ status. code_of status ≢ 0) }
-    ensures status { IfErr result (λ status. code_of status ≢ 4) }
-    ensures faults { PutFaults (ending result) (E.faults diag.old) (E.faults diag.new) }
-{
-    // Laws: nothing is in the way of the machines, and they do what the nodes do.
-    machines_of_texts_are_built();
-    machines_run_the_nodes_of_texts();
-    machines_keep_contracts();
-    let machines = match machines(alloc, ordered.program) {
-        Ok(machines) => machines,
-        Err(MachineErr::NotBuilt) => unreachable!(),
-        Err(MachineErr::OutOfMemory) => return Err(Status::NoMemory),
-    };
-    match Exec::new(alloc, &machines, node) {
-        Ok(exec) => Ok(Runnable { machines, exec }),
-        Err(error) => Err(report_machine(alloc, diag, node, error)),
-    }
 }
 
 /// The machine of a node among these, or the status with which the call ends.
@@ -96,7 +60,7 @@ fn chosen_runnable<E: Sink>(
     }
 }
 
-/// The machine of the node of this name, in an ordered program with controllable variables, or the status with which the call ends.
+/// The machine of the node of this name, in an ordered program whose contracts are kept, or the status with which the call ends.
 fn choosing_runnable<E: Sink>(
     alloc: Global,
     ordered: &Program,
@@ -108,7 +72,7 @@ fn choosing_runnable<E: Sink>(
     ensures runs { IfOk result (λ r. Executes r.machines node.now r.exec) }
     ensures machines { IfOk result (λ r. AreControlledMachines ordered.now r.machines) }
     ensures chosen { IfOk result (λ r. (n : programs.Node) × (node_among ordered.now node.now ≡ Some n) × IsChosen node.now r.machines n) }
-    ensures told { (line : List ℕ) × Grows (E.took diag.old) (E.took diag.new) line × Ends (ChoosingRun node.now ordered.now []) result line }
+    ensures told { (line : List ℕ) × Grows (E.took diag.old) (E.took diag.new) line × Ends (OrderedRun node.now ordered.now []) result line }
     ensures fails { IfErr result (λ status. code_of status ≢ 0) }
     ensures status { IfErr result (λ status. code_of status ≢ 4) }
     ensures faults { PutFaults (ending result) (E.faults diag.old) (E.faults diag.new) }
@@ -116,10 +80,10 @@ fn choosing_runnable<E: Sink>(
     let Some(found) = node_named(ordered, node) else {
         return Err(report_no_node(alloc, diag, node));
     };
-    // Laws: each line that the machines say is one that the program allows; where nothing is free but inputs, and comparisons of integers and outputs of calls in bodies, with the greatest permitted values. And the node has a machine of its name.
-    machines_of_texts_choose_the_greatest();
+    // Laws: the machines do what the program says, and the node has a machine of its name.
+    machines_do_what_programs_say();
     nodes_have_their_machines();
-    match chosen_machines(alloc, ordered) {
+    match machines_of(alloc, ordered) {
         Ok(machines) => chosen_runnable(alloc, machines, found, node, diag),
         Err(_) => Err(Status::NoMemory),
     }
@@ -129,32 +93,27 @@ fn choosing_runnable<E: Sink>(
 fn decided_runnable<E: Sink>(
     alloc: Global,
     program: &Program,
-    ordered: Ordered,
+    ordered: &Program,
     node: &str,
     diag: &mut E,
 ) -> Result<Runnable, Status>
-    requires { IsArrangedText program.now ordered.program }
+    requires { IsArrangedText program.now ordered.now }
     ensures runs { IfOk result (λ r. Executes r.machines node.now r.exec) }
     ensures form { IfOk result (λ r. TypesForm r.machines.types) }
-    ensures are { IfOk result (λ r. RunDecided node.now program.now ordered.program r.machines) }
+    ensures are { IfOk result (λ r. RunDecided node.now program.now ordered.now r.machines) }
     ensures told { (line : List ℕ) × Grows (E.took diag.old) (E.took diag.new) line
-        × Ends (DecidedOutcome (Task.Run node.entry) program.now ordered.program []) result line }
+        × Ends (DecidedOutcome (Task.Run node.entry) program.now ordered.now []) result line }
     ensures fails { IfErr result (λ status. code_of status ≢ 0) }
     ensures status { IfErr result (λ status. code_of status ≢ 4) }
     ensures faults { PutFaults (ending result) (E.faults diag.old) (E.faults diag.new) }
 {
-    // Laws: what is found of contracts says so of their games; machines do what nodes do; and each line that machines say which choose is one that the program allows, where nothing is free but inputs, and comparisons of integers and outputs of calls in bodies, with the greatest permitted values.
+    // Laws: what is found of contracts says so of their games, and machines do what the program says.
     outcomes_are_so();
-    machines_run_the_nodes_of_texts();
-    machines_keep_contracts();
-    machines_of_texts_choose_the_greatest();
-    if let Err(error) = decide(alloc, &ordered.program) {
+    machines_do_what_programs_say();
+    if let Err(error) = decide(alloc, ordered) {
         return Err(report_contract(alloc, diag, &error));
     }
-    if has_controls(program) {
-        return choosing_runnable(alloc, &ordered.program, node, diag);
-    }
-    plain_runnable(alloc, ordered, node, diag)
+    choosing_runnable(alloc, ordered, node, diag)
 }
 
 /// The machine of the node of this name, in a program, if that can be arranged and its contracts are kept, or the status with which the call ends.
@@ -174,7 +133,7 @@ fn program_runnable<E: Sink>(
     ensures faults { PutFaults (ending result) (E.faults diag.old) (E.faults diag.new) }
 {
     match arrange(alloc, program) {
-        Ok(ordered) => decided_runnable(alloc, program, ordered, node, diag),
+        Ok(ordered) => decided_runnable(alloc, program, &ordered.program, node, diag),
         Err(refusal) => Err(report_refusal(alloc, diag, &refusal)),
     }
 }

@@ -6,8 +6,7 @@ ghost use Rattle.hp_io.specs.Reads.{NothingRead};
 ghost use Rattle.hp_io.specs.Told.{Grows};
 ghost use Rattle.hp_driver.specs.Command.{accepted_text};
 ghost use Rattle.hp_compile.specs.Judged.{IsJudged};
-ghost use Rattle.hp_driver.specs.Follows.{OutcomeOf, DecidedOutcome, ProgramOutcome, OrderedRun, Accepts, IsArrangedText, IsPlainText, RefusedCompile};
-ghost use Rattle.hp_driver.specs.Compiled.{HasCircuit};
+ghost use Rattle.hp_driver.specs.Follows.{OutcomeOf, DecidedOutcome, ProgramOutcome, Accepts, IsArrangedText};
 ghost use Rattle.hp_driver.specs.Leaving.{WritesText, WritesMachines, ProgramLeaves, LeavesBy, RoseInWrite};
 ghost use Rattle.hp_driver.specs.declared.words.Task.TheVariants as Task;
 ghost use Rattle.hp_driver.specs.Faults.{TakeFaults, PutFaults, BothPutFaults, WriteFaults, WriteOrPutFaults, OutputFaults};
@@ -16,25 +15,20 @@ ghost use Rattle.hp_driver.specs.Status.{code_of};
 
 use crate::choosing::{run_choosing, tell_choosing};
 use crate::compiling::compile_program;
-use crate::controls::has_controls;
 use crate::follow::say;
-use crate::machines::run_machines;
 use crate::refuse::{report_contract, report_refusal, report_uncompiled};
 use crate::resources::Resources;
 use crate::status::Status;
 use crate::words::Task;
-use hp_cause::Ordered;
 use hp_compile::{arrange, judge};
 use hp_io::{Console, Folder, Sink, WriteErr};
-use hp_machines::{MachineErr, machines};
 use hp_native::Answers;
 use hp_obc::Obc;
 use hp_obctext::print_obc;
 use hp_print::print;
 use hp_tree::Program;
 use hp_verdicts::decide;
-use law_decided::{machines_keep_contracts, outcomes_are_so};
-use law_history::streams::{machines_of_texts_are_built, machines_run_the_nodes_of_texts};
+use law_decided::outcomes_are_so;
 use std::alloc::{AllocError, Global};
 
 const ACCEPTED: &[u8] = b"accepted\n";
@@ -115,55 +109,27 @@ fn check_program<C: Console, E: Sink>(
     }
 }
 
-/// Runs the machine of the node of this name, in an ordered program, on the trace that the console gives.
-fn run_ordered<N: Answers, C: Console, E: Sink>(
-    resources: &Resources<'_, N>,
-    ordered: Ordered,
-    node: &str,
-    console: &mut C,
-    diag: &mut E,
-) -> Status
-    requires { IsPlainText ordered.program }
-    ensures outcome { Happened (C.events console.old) (C.events console.new) (C.left console.old) (C.left console.new) (E.took diag.old) (E.took diag.new)
-        (λ log line. OrderedRun node.now ordered.program log line (code_of result)) }
-    ensures takes { TakeFaults (code_of result) (C.take_faults console.old) (C.take_faults console.new) }
-    ensures puts { BothPutFaults (code_of result) (C.put_faults console.old) (C.put_faults console.new) (E.faults diag.old) (E.faults diag.new) }
-{
-    // Laws: nothing is in the way of the machines, and they do what the nodes do.
-    machines_of_texts_are_built();
-    machines_run_the_nodes_of_texts();
-    machines_keep_contracts();
-    match machines(resources.alloc, ordered.program) {
-        Ok(machines) => run_machines(resources, &machines, node, console, diag),
-        Err(MachineErr::NotBuilt) => unreachable!(),
-        Err(MachineErr::OutOfMemory) => Status::NoMemory,
-    }
-}
-
-/// Runs the node of this name, of a program, if its contracts are kept. Where the program has no controllable variables, its machine is the one that is proved to be the node's.
+/// Runs the node of this name, of a program, if its contracts are kept.
 fn run_decided<N: Answers, C: Console, E: Sink>(
     resources: &Resources<'_, N>,
     program: &Program,
-    ordered: Ordered,
+    ordered: &Program,
     node: &str,
     console: &mut C,
     diag: &mut E,
 ) -> Status
-    requires { IsArrangedText program.now ordered.program }
+    requires { IsArrangedText program.now ordered.now }
     ensures outcome { Happened (C.events console.old) (C.events console.new) (C.left console.old) (C.left console.new) (E.took diag.old) (E.took diag.new)
-        (λ log line. DecidedOutcome (Task.Run node.entry) program.now ordered.program log line (code_of result)) }
+        (λ log line. DecidedOutcome (Task.Run node.entry) program.now ordered.now log line (code_of result)) }
     ensures takes { TakeFaults (code_of result) (C.take_faults console.old) (C.take_faults console.new) }
     ensures puts { BothPutFaults (code_of result) (C.put_faults console.old) (C.put_faults console.new) (E.faults diag.old) (E.faults diag.new) }
 {
     // A law: what is found of contracts says so of their games.
     outcomes_are_so();
-    if let Err(error) = decide(resources.alloc, &ordered.program) {
+    if let Err(error) = decide(resources.alloc, ordered) {
         return report_contract(resources.alloc, diag, &error);
     }
-    if has_controls(program) {
-        return run_choosing(resources, &ordered.program, node, console, diag);
-    }
-    run_ordered(resources, ordered, node, console, diag)
+    run_choosing(resources, ordered, node, console, diag)
 }
 
 /// Runs the node of this name, in the program, on the trace that the console gives.
@@ -181,7 +147,7 @@ fn run_program<N: Answers, C: Console, E: Sink>(
     ensures puts { BothPutFaults (code_of result) (C.put_faults console.old) (C.put_faults console.new) (E.faults diag.old) (E.faults diag.new) }
 {
     match arrange(resources.alloc, program) {
-        Ok(ordered) => run_decided(resources, program, ordered, node, console, diag),
+        Ok(ordered) => run_decided(resources, program, &ordered.program, node, console, diag),
         Err(refusal) => report_refusal(resources.alloc, diag, &refusal),
     }
 }
@@ -276,9 +242,6 @@ fn write_program<F: Folder, E: Sink>(
     ensures reads { NothingRead (F.reads files.old) (F.reads files.new) }
     ensures writes { WriteOrPutFaults out.now (code_of result) (F.write_faults files.old) (F.write_faults files.new) (E.faults diag.old) (E.faults diag.new) }
 {
-    // Laws: machines do what nodes do, and keep their contracts.
-    machines_run_the_nodes_of_texts();
-    machines_keep_contracts();
     match compile_program(alloc, program) {
         Ok(machines) => write_machines(alloc, &machines, out, files),
         Err(error) => report_uncompiled(alloc, diag, &error),

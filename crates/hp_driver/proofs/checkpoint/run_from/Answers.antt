@@ -19,7 +19,7 @@ returns-in-Err-clause-outcome g c =
       Grows-nil (g.C.Console.events c.args.console.now),
       heard_nothing (g.C.Console.left c.args.console.now),
       told.1,
-      not_begun c.machines_run_the_nodes_of_texts.ensures (g.F.Folder.files c.args.files.now) (g.F.Folder.files c.begin.new.files) s.node.now (option_copied s.from) s.out.now c.args.runnable.machines c.types-types.ensures.form (record { machine = h.machine; named = h.named; chain = h.chain; count = h.count }) told.0
+      not_begun (g.F.Folder.files c.args.files.now) (g.F.Folder.files c.begin.new.files) s.node.now (option_copied s.from) s.out.now c.args.runnable.machines c.types-types.ensures.form (record { machine = h.machine; named = h.named; chain = h.chain; count = h.count }) told.0
           (code_of c.in-Err.status) told.2 c.in-Err.ensures.fails c.begin.ensures.files,
     )
 
@@ -39,7 +39,7 @@ returns-clause-outcome g c =
       ran.2,
       ran.3,
       Grows-trans (g.E.Sink.took c.args.diag.now) (g.E.Sink.took c.begin.new.diag) (g.E.Sink.took c.run_and_save.new.diag) [] ran.1 quiet ran.4,
-      segment_of_machines c.machines_run_the_nodes_of_texts.ensures c.machines_keep_contracts.ensures.run before after s.node.now (option_copied s.from) s.out.now o e c.types-types.ensures.form c.in_default.ensures.stands c.in_default.ensures.memory ran.0 ran.1 status
+      segment_of_machines before after s.node.now (option_copied s.from) s.out.now o e c.types-types.ensures.form c.in_default.ensures.stands c.in_default.ensures.memory ran.0 ran.1 status
           (subst (λ files. KeepsRun o s.node.now e s.out.now files after ran.0 ran.1 status) c.begin.ensures.files ran.5),
     )
 

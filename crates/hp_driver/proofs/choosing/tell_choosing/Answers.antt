@@ -2,9 +2,9 @@ use Rattle.std.proofs.Common.{[]}
 use Rattle.std.proofs.lemmas.Option.{MatchOption-at_none, MatchOption-at_some}
 use Rattle.hp_io.proofs.ToldLaws.{Grows-nil}
 use Rattle.hp_driver.specs.Command.{no_node_line}
-use Rattle.hp_driver.specs.Follows.{ChoosingTell}
+use Rattle.hp_driver.specs.Follows.{OrderedTell}
 use Rattle.hp_driver.specs.Status.{code_of}
-use Rattle.hp_driver.proofs.ChoosingLaws.{its_machine, tell_failed, tell_memory, tell_no_node, choosing_told}
+use Rattle.hp_driver.proofs.ChoosingLaws.{its_machine, tell_failed, tell_memory, tell_no_node, ordered_told}
 use Rattle.hp_driver.proofs.OutcomeLaws.{told_or_not}
 use Rattle.hp_driver.proofs.RanLaws.{heard_nothing}
 use Rattle.hp_driver.proofs.choosing.tell_choosing.Goals as goal
@@ -13,7 +13,7 @@ pub returns-in_default-clause-outcome : goal.returns-in_default-clause-outcome
 returns-in_default-clause-outcome g c =
     let name = c.args.name.now in
     let ordered = c.args.ordered.now in
-    let told = told_or_not (ChoosingTell name ordered []) (tell_failed name ordered []) (tell_memory name ordered) (g.E.Sink.took c.args.diag.now) (g.E.Sink.took c.report_no_node.new.diag) (no_node_line name) 1 (code_of c.report_no_node.result)
+    let told = told_or_not (OrderedTell name ordered []) (tell_failed name ordered []) (tell_memory name ordered) (g.E.Sink.took c.args.diag.now) (g.E.Sink.took c.report_no_node.new.diag) (no_node_line name) 1 (code_of c.report_no_node.result)
     c.report_no_node.ensures.reports (tell_no_node name ordered (MatchOption-at_none _ _ c.in_default.is c.node_named.ensures)) in
     ([], told.0, Grows-nil (g.C.Console.events c.args.console.now), heard_nothing (g.C.Console.left c.args.console.now), told.1, told.2)
 
@@ -39,7 +39,7 @@ returns-in-Ok-clause-outcome g c =
       ran.2,
       ran.3,
       ran.4,
-      choosing_told c.args.name.now c.args.ordered.now c.machines_of_texts_choose_the_greatest.ensures c.in-Ok.machines c.in-Ok.ensures node.now (MatchOption-at_some _ _ node c.in-Some.is c.node_named.ensures) ran.0 ran.1 (code_of c.tell_node.result) ran.5,
+      ordered_told c.args.name.now c.args.ordered.now c.machines_do_what_programs_say.ensures c.in-Ok.machines c.in-Ok.ensures node.now (MatchOption-at_some _ _ node c.in-Some.is c.node_named.ensures) ran.0 ran.1 (code_of c.tell_node.result) ran.5,
     )
 
 pub returns-in-Err-clause-outcome : goal.returns-in-Err-clause-outcome

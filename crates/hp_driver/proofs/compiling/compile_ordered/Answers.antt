@@ -28,5 +28,4 @@ returns-in_err-machines-clause-compiled c = λ text found.
 
 pub returns-clause-compiled : goal.returns-clause-compiled
 returns-clause-compiled c = λ text found.
-    compiled_by text c.args.program.now c.args.ordered.program found c.outcomes_are_so.ensures c.in_ok-decide.ensures.kept c.machines_run_the_nodes_of_texts.ensures c.machines_of_texts_are_built.ensures
-    c.machines_do_the_same_among_others.ensures.form c.own_machines_do_the_same.ensures c.machines_of_texts_choose_the_greatest.ensures c.in_ok-machines.machines (c.in_ok-machines.ensures c.args.program.now c.requires)
+    compiled_by text c.args.program.now c.args.ordered.program found c.outcomes_are_so.ensures c.in_ok-decide.ensures.kept c.machines_do_what_programs_say.ensures c.in_ok-machines.machines c.in_ok-machines.ensures

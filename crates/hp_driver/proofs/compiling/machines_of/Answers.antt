@@ -1,6 +1,5 @@
-use Rattle.std.proofs.lemmas.Result.{IfOk-weaker}
-use Rattle.hp_driver.proofs.CompilingLaws.{machines_for}
+use Rattle.hp_driver.proofs.AcceptedLaws.{are_built}
 use Rattle.hp_driver.proofs.compiling.machines_of.Goals as goal
 
-pub returns : goal.returns
-returns c = λ program arranged. IfOk-weaker c.chosen_machines.result _ _ (λ o are. machines_for c.machines_without_choices_are_of_nodes.ensures program c.args.ordered.now arranged o are) c.chosen_machines.ensures
+pub unreachable-requires : goal.unreachable-requires
+unreachable-requires c = are_built c.machines_that_choose_are_built.ensures c.args.ordered.now c.requires.arranged c.requires.kept (c.in-Err-NotBuilt.ensures c.in-Err-NotBuilt.field-0-is)

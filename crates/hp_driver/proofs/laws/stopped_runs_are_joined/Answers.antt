@@ -6,18 +6,18 @@ pub returns-clause-lines : goal.returns-clause-lines
 returns-clause-lines c = joined
 
 pub returns-clause-runs : goal.returns-clause-runs
-returns-clause-runs c = joined_run c.machines_run_the_nodes_of_texts.ensures c.machines_keep_contracts.ensures.run
+returns-clause-runs c = joined_run
 
 pub returns-clause-resumed : goal.returns-clause-resumed
 returns-clause-resumed c =
-    resumed c.machines_run_the_nodes_of_texts.ensures c.machines_keep_contracts.ensures.run c.one_shortest_assignment.ensures c.programs_have_one_list_of_machines.ensures c.programs_that_choose_have_one_list_of_machines.ensures.texts
+    resumed c.one_shortest_assignment.ensures c.programs_that_choose_have_one_list_of_machines.ensures.texts
 
 pub returns-clause-continued : goal.returns-clause-continued
 returns-clause-continued c =
-    continued c.machines_run_the_nodes_of_texts.ensures c.machines_keep_contracts.ensures.run c.one_shortest_assignment.ensures c.programs_have_one_list_of_machines.ensures c.programs_that_choose_have_one_list_of_machines.ensures.texts
+    continued c.one_shortest_assignment.ensures c.programs_that_choose_have_one_list_of_machines.ensures.texts
 
 pub returns-clause-taken : goal.returns-clause-taken
-returns-clause-taken c = taken c.one_shortest_assignment.ensures c.programs_have_one_list_of_machines.ensures c.programs_that_choose_have_one_list_of_machines.ensures.texts
+returns-clause-taken c = taken c.one_shortest_assignment.ensures c.programs_that_choose_have_one_list_of_machines.ensures.texts
 
 pub returns-clause-left : goal.returns-clause-left
-returns-clause-left c = left_is_taken c.one_shortest_assignment.ensures c.programs_have_one_list_of_machines.ensures c.programs_that_choose_have_one_list_of_machines.ensures.texts
+returns-clause-left c = left_is_taken c.one_shortest_assignment.ensures c.programs_that_choose_have_one_list_of_machines.ensures.texts

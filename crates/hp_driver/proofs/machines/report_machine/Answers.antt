@@ -18,7 +18,7 @@ returns-in-Limit-clause-told g c =
     let node = c.args.node.now in
     let line = executor_line c.in-Limit.limit in
     machine_told node c.args.error (g.E.Sink.took c.args.diag.now) (g.E.Sink.took c.report_large.new.diag) (code_of c.report_large.result) line 1 c.report_large.ensures.reports
-    (subst (λ e. RefusedMachine node e line 1) (sym c.in-Limit.is) (too_large c.machines_of_texts_are_within_limits.ensures node c.in-Limit.limit))
+    (subst (λ e. RefusedMachine node e line 1) (sym c.in-Limit.is) (too_large node c.in-Limit.limit))
 
 pub returns-in-OutOfMemory-clause-told : goal.returns-in-OutOfMemory-clause-told
 returns-in-OutOfMemory-clause-told g c = ([], Grows-nil (g.E.Sink.took c.args.diag.now), machine_no_memory c.args.node.now c.args.error)

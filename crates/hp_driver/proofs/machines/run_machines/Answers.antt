@@ -30,7 +30,7 @@ returns-in_default-clause-outcome g c = (
   Grows-nil (g.C.Console.events c.args.console.now),
   heard_nothing (g.C.Console.left c.args.console.now),
   Grows-nil (g.E.Sink.took c.args.diag.now),
-  λ words files asked. Outcome.no_memory,
+  λ words files file w machines. Outcome.no_memory,
 )
 
 pub returns-clause-outcome : goal.returns-clause-outcome
@@ -44,6 +44,6 @@ returns-clause-outcome g c =
       ran.2,
       ran.3,
       ran.4,
-      machine_ran c.machines_run_the_nodes_of_texts.ensures c.machines_keep_contracts.ensures.run node o e ran.0 ran.1 (code_of c.run_trace.result) c.in-Ok.ensures
+      machine_ran node o e ran.0 ran.1 (code_of c.run_trace.result) c.in-Ok.ensures
           (subst (λ s. Ran executing s ran.0 ran.1 (code_of c.run_trace.result)) c.in-Ok-new.ensures ran.5.0),
     )

@@ -25,7 +25,7 @@ returns-in-Ok c =
     let said : answer.said.items ≡ said_bytes ran.new.console.events = search rules in
     let took : answer.diagnostics.items ≡ ran.new.diag.took = search rules in
     let status : answer.status ≡ ran.result = search rules in
-    told_answer (map string_bytes c.args.words.now) c.args.files.now.files ran.new.files.files c.args.input.items c.written_machines_agree_with_nodes.ensures c.new-console.result.events ran.new.console.events c.new-console.result.left ran.new.console.left
+    told_answer (map string_bytes c.args.words.now) c.args.files.now.files ran.new.files.files c.args.input.items c.new-console.result.events ran.new.console.events c.new-console.result.left ran.new.console.left
     c.new-diag.result.took ran.new.diag.took ran.result c.new-console.ensures.events c.new-console.ensures.left c.new-diag.ensures.took ran.ensures.outcome ran.ensures.leaves not_four not_five
     answer.said.items answer.diagnostics.items answer.status said took status
 

@@ -2,7 +2,7 @@ use Rattle.std.proofs.Common.{[]}
 use Rattle.hp_io.proofs.ToldLaws.{Grows-nil}
 use Rattle.hp_driver.specs.declared.words.Task.TheVariants.{Tell}
 use Rattle.hp_driver.specs.Status.{code_of}
-use Rattle.hp_driver.proofs.ContractLaws.{contract_told, choosing_tell}
+use Rattle.hp_driver.proofs.ContractLaws.{contract_told, ordered_tell}
 use Rattle.hp_driver.proofs.GameLaws.{contracts_are_built}
 use Rattle.hp_driver.proofs.RanLaws.{heard_nothing}
 use Rattle.hp_driver.proofs.source.tell_decided.Goals as goal
@@ -16,7 +16,7 @@ returns-in-Err-clause-outcome g c =
 pub returns-clause-outcome : goal.returns-clause-outcome
 returns-clause-outcome g c =
     let ran = c.tell_choosing.ensures.outcome in
-    (ran.0, ran.1, ran.2, ran.3, ran.4, choosing_tell c.outcomes_are_so.ensures c.args.program.now c.args.ordered.now c.in_default.ensures.kept c.args.node ran.0 ran.1 (code_of c.tell_choosing.result) ran.5)
+    (ran.0, ran.1, ran.2, ran.3, ran.4, ordered_tell c.outcomes_are_so.ensures c.args.program.now c.args.ordered.now c.in_default.ensures.kept c.args.node ran.0 ran.1 (code_of c.tell_choosing.result) ran.5)
 
 pub report_contract-requires : goal.report_contract-requires
 report_contract-requires g c = contracts_are_built c.outcomes_are_so.ensures c.args.program.now c.args.ordered.now c.requires c.in-Err.error c.in-Err.ensures.refused

@@ -12,14 +12,14 @@ returns-in-Ok-clause-outcome g c = (
   λ text judged only words files file w gives.
       let o = c.in-Ok.machines in
       let compiled = c.in-Ok.ensures.compiled text judged only in
-      written c.machines_run_the_nodes_of_texts.ensures c.machines_keep_contracts.ensures.run text files file gives o compiled words c.args.out.now w compiled.machines (code_of c.write_machines.result) c.write_machines.ensures.status,
+      written text files file gives o compiled words c.args.out.now w (code_of c.write_machines.result) c.write_machines.ensures.status,
 )
 
 pub returns-in-Ok-clause-leaves : goal.returns-in-Ok-clause-leaves
 returns-in-Ok-clause-leaves g c = λ words file text judged only gives w.
     let o = c.in-Ok.machines in
     let compiled = c.in-Ok.ensures.compiled text judged only in
-    left c.machines_run_the_nodes_of_texts.ensures c.machines_keep_contracts.ensures.run text (g.F.Folder.files c.args.files.now) file gives o compiled words c.args.out.now w compiled.machines (g.F.Folder.files c.write_machines.new.files)
+    left text (g.F.Folder.files c.args.files.now) file gives o compiled words c.args.out.now w (g.F.Folder.files c.write_machines.new.files)
     (code_of c.write_machines.result) c.write_machines.ensures.leaves
 
 pub returns-in-Err-clause-outcome : goal.returns-in-Err-clause-outcome
