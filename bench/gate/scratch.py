@@ -58,6 +58,11 @@ def split_block(lines):
     return lines[:end + 1], chunks_of(rest, indent), indent
 
 
+def rows_in(kind, lines):
+    """The rows of a data type; a record has none."""
+    return {name for line in lines[1:] if kind == 'data' and ':' in line for name in line.split(':')[0].split()}
+
+
 def names_in(lines):
     """What a block declares."""
     found = set()
@@ -66,7 +71,7 @@ def names_in(lines):
         if BLOCK.match(head):
             found |= names_in(chunk)
         elif TYPED.match(head):
-            found.add(TYPED.match(head)[2])
+            found |= {TYPED.match(head)[2]} | rows_in(TYPED.match(head)[1], chunk)
         elif HEAD.match(head + ' '):
             found.add(HEAD.match(head + ' ')[1])
     return found
@@ -88,8 +93,7 @@ def item_of(lines):
         return Item('block', None, names_in(lines), lines)
     typed = TYPED.match(head)
     if typed:
-        rows = {name for line in lines[1:] if typed[1] == 'data' and ':' in line for name in line.split(':')[0].split()}
-        return Item(typed[1], typed[2], {typed[2]} | rows, lines)
+        return Item(typed[1], typed[2], {typed[2]} | rows_in(typed[1], lines), lines)
     named = HEAD.match(head + ' ')
     if named:
         return Item('abbrev' if head.startswith('abbrev') else 'definition', named[1], {named[1]}, lines)
@@ -333,8 +337,8 @@ class Writer:
         answers = [answer.rsplit('.', 1) for answer in ([asked] if isinstance(asked, str) else asked)]
         heads = {module for module, _ in answers}
         uses = [f'use {self.new_name(name)}.{{{named}}}' for name in self.scratch.plan['modules'] if '.proofs.' in name and name not in heads for named in self.public(name)]
-        uses += [f'use {self.new_name(module)}.{{{lemma}}}' for module, lemma in answers]
-        laws = ' '.join(f'let law{at} = {lemma} in' for at, (_, lemma) in enumerate(answers))
+        uses += [f'use {self.new_name(module)}.{{{lemma} as asked{at}}}' for at, (module, lemma) in enumerate(answers)]
+        laws = ' '.join(f'let law{at} = asked{at} in' for at in range(len(answers)))
         self.put(f'{self.crate}/src/lib.rt', '//! Scratch.\n#![tactic(auto)]\n\nghost use Rattle.std.specs.Prelude.{◌≡◌, true};\n\n/// Loads the laws.\npub fn checked()\n    ensures { true ≡ true }\n{}\n')
         text = '\n'.join(uses + ['use Rattle.std.proofs.Common.{refl}', 'use Rattle.scratch.proofs.checked.Goals as goal', '', 'pub returns : goal.returns', f'returns c = {laws} refl', ''])
         self.put(f'{self.crate}/proofs/checked/Answers.antt', text)

@@ -90,9 +90,9 @@ pub data IsTrace (s : System) (lines : List (List ℕ)) : List ℕ → List ℕ 
   broken : {said : List ℕ} (bad : BadLine) → IsAnswer s lines said → first_bad (inputs_of s) 1 lines ≡ Some bad →
       IsTrace s lines said (bad_line_line bad) 3
 
--- Machines implement a program whose contracts are kept. What they say over inputs of its kinds the program allows; where
--- nothing is free in a node but its inputs, and comparisons of integers and outputs of calls in its body, it has the
--- greatest permitted values; so it keeps its contract while the nodes that it calls keep theirs. And if the program has no
+-- Machines implement a program whose contracts are kept. What they say over inputs of its kinds the program allows; a node
+-- that calls none in whose contract integers are compared has the greatest permitted values; so it keeps its contract while
+-- the nodes that it calls keep theirs. And if the program has no
 -- controllable variables, the machine of each node refuses the lines that the node refuses, and answers the same to others.
 pub record Implement {files : Files} {file : List ℕ} (p : Program files file) (o : Obc) : Type 0 where
   pub kept : AllKept p

@@ -71,7 +71,7 @@ pub record AreMachines (files : Option Files) (file : List ℕ) (o : Obc) : Type
   pub held : Gives files file text
   pub read : IsTextOf text o
 
--- Machines of the program that the file holds, of which each contract is kept. What the machine of a node says, the program allows; and where nothing is free in the node but its inputs, and comparisons of integers and outputs of calls in its body, its controllable variables have the greatest permitted values, so it keeps its contract while the nodes that it calls keep theirs. Without controllable variables it does what its node does, in each reaction of which each instance keeps its contract. Which machines do so, of the many that might, is told by `machines`: each call over a text takes the checkpoints of the others.
+-- Machines of the program that the file holds, of which each contract is kept. What the machine of a node says, the program allows; and if it calls none in whose contract integers are compared, its controllable variables have the greatest permitted values, so it keeps its contract while the nodes that it calls keep theirs. Without controllable variables it does what its node does, in each reaction of which each instance keeps its contract. Which machines do so, of the many that might, is told by `machines`: each call over a text takes the checkpoints of the others.
 pub record AreCompiled (files : Option Files) (file : List ℕ) (o : Obc) : Type 0 where
   pub program : List Item
   pub held : IsHeld files file program

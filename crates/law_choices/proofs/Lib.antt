@@ -23,3 +23,4 @@ pub mod ObservedLemmas
 pub mod PlayingLemmas
 mod SeeingLemmas
 pub mod BroughtLemmas
+mod EmbeddedLemmas

@@ -17,3 +17,6 @@ pub mod Worked
 pub mod Ranks
 pub mod Read
 pub mod Outputs
+pub mod Classed
+pub mod Accepted
+pub mod Meaningful

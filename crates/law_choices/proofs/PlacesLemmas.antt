@@ -9,7 +9,6 @@ pub mod Numbers
 pub mod Slots
 pub mod Absent
 pub mod Values
-pub mod Named
 pub mod Related
 pub mod Standing
 pub mod Grouped

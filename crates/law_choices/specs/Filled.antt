@@ -1,3 +1,4 @@
 pub mod Filled
 pub mod Laws
 pub mod Ready
+pub mod Valued

@@ -22,3 +22,4 @@ pub mod Instances
 pub mod Observed
 pub mod Playing
 pub mod Seeing
+pub mod Embedded

@@ -2,6 +2,5 @@ pub mod Spots
 pub mod Found
 pub mod Laws
 pub mod Values
-pub mod Named
 pub mod Standing
 pub mod Groups

@@ -4,9 +4,8 @@ pub mod Found
 pub mod Held
 pub mod Greatest
 pub mod Plants
-pub mod Named
 pub mod Telling
-pub mod ByName
+pub mod Around
 pub mod InBody
-pub mod SeenByName
-pub mod SeenInBody
+pub mod OwnContract
+pub mod SeenOwn

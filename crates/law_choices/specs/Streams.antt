@@ -3,3 +3,4 @@ pub mod Streams
 pub mod Names
 pub mod Places
 pub mod Uncontrolled
+pub mod Meaningful

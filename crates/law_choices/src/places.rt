@@ -3,9 +3,7 @@
 //! The functions here do nothing: each is a law, which its contract states.
 #![tactic(auto)]
 
-ghost use Rattle.law_choices.specs.Places.Groups.{GroupsLaw};
 ghost use Rattle.law_choices.specs.Places.Laws.{CountLaw, EventsLaw, FoundLaw, SlotsLaw, WalkLaw};
-ghost use Rattle.law_choices.specs.Places.Named.{CopyLaw, NamedLaw};
 ghost use Rattle.law_choices.specs.Places.Standing.{StandingLaw};
 ghost use Rattle.law_choices.specs.Places.Values.{ValuesLaw};
 
@@ -31,18 +29,7 @@ pub fn found_places_keep_values()
     ensures { ValuesLaw }
 {}
 
-/// Where each comparison of a node is the right side of an equation of its body that defines a name, and it calls nothing, the events that are made of it are those of these names, in turn, and the target of each is copied to the variable of the name: so this has its value wherever the event is there.
-pub fn named_comparisons_are_copied()
-    ensures named { NamedLaw }
-    ensures copy { CopyLaw }
-{}
-
 /// Where the variables of what compares or calls stand for the places that its labels name, so do those of the equations that the walk finds.
 pub fn found_places_have_variables()
     ensures { StandingLaw }
-{}
-
-/// What the walk finds brings the free places of a block one by one: a comparison its own place or none, and a call its outputs that are no integers, and the free places of the contract that is called.
-pub fn free_places_are_grouped()
-    ensures { GroupsLaw }
 {}

@@ -3,13 +3,12 @@
 //! The functions here do nothing: each is a law, which its contract states.
 #![tactic(auto)]
 
-ghost use Rattle.law_choices.specs.Seeing.SeenByName.{SeenByNameLaw};
-ghost use Rattle.law_choices.specs.Seeing.SeenInBody.{SeenInBodyLaw};
 ghost use Rattle.law_choices.specs.Seeing.Found.{FilledFoundLaw};
 ghost use Rattle.law_choices.specs.Seeing.Greatest.{SeenGreatestLaw};
 ghost use Rattle.law_choices.specs.Seeing.Held.{HeldCodesLaw};
 ghost use Rattle.law_choices.specs.Seeing.Laws.{GivenLaw, ValuesChoiceLaw, ValuesPlayLaw};
-ghost use Rattle.law_choices.specs.Seeing.Named.{NamedValuesLaw};
+ghost use Rattle.law_choices.specs.Seeing.OwnContract.{CallsNothingLaw, InBodyLaw, InputsAloneLaw};
+ghost use Rattle.law_choices.specs.Seeing.SeenOwn.{SeenOwnLaw};
 ghost use Rattle.law_choices.specs.Seeing.Telling.{SeenToldLaw};
 ghost use Rattle.law_choices.specs.Seeing.Plants.{PlantNamesLaw, PlantReactionLaw};
 
@@ -23,7 +22,7 @@ use crate::choosing::{
 };
 use crate::in_turn::a_node_tells_each_contract;
 use crate::playing::machines_that_are_asked_owe;
-use crate::streams::meanings_keep_places;
+use crate::streams::{meanings_keep_places, observers_keep_places};
 use hp_controller::{
     added_equations_give_inputs, controlled_nodes_follow_their_controller,
     controllers_answer_with_the_choice, gates_have_their_values,
@@ -58,13 +57,6 @@ pub fn found_places_keep_their_values()
 pub fn closed_nodes_react_as_their_plants()
     ensures reaction { PlantReactionLaw }
     ensures names { PlantNamesLaw }
-{
-    added_equations_give_inputs();
-}
-
-/// So where comparisons of a node have names, the targets of their equations have the values of these names in it, wherever the comparisons are there and the names are not Nil.
-pub fn named_comparisons_have_their_values()
-    ensures { NamedValuesLaw }
 {
     added_equations_give_inputs();
 }
@@ -119,36 +111,18 @@ pub fn contracts_that_are_seen_are_told()
     machine_choices_are_kept();
 }
 
-/// In these nodes, if nothing is free in a node but its inputs, and comparisons of integers and outputs of calls that have names, the equations hold values of the free places: of their types, and the reaction's own wherever an instant looks at them.
-pub fn named_places_are_seen()
-    ensures { SeenByNameLaw }
-{
-    meanings_keep_places();
-    programs_have_one_meaning_under_each_choice();
-    chosen_nodes_have_one_reaction();
-    callees_may_differ_elsewhere();
-    equations_may_be_added();
-    made_nodes_may_be_added_to();
-    watched_nodes_choose();
-    extended_nodes_close();
-    targets_differ();
-    calls_are_kept();
-    nodes_have_one_reaction();
-    added_equations_give_inputs();
-    controlled_nodes_follow_their_controller();
-    controllers_answer_with_the_choice();
-    codes_of_values();
-    choices_are_values();
-    reactions_are_instants_of_the_game();
-    permitted_is_fitting();
-    machines_go_along();
-    machine_choices_are_kept();
-}
+/// No integers are compared in the contracts of the nodes that a node calls, where it calls nothing, or where nothing is free in it but inputs, and comparisons of integers and outputs of calls in its body.
+pub fn callees_compare_nothing()
+    ensures calls_nothing { CallsNothingLaw }
+    ensures in_body { InBodyLaw }
+    ensures inputs_alone { InputsAloneLaw }
+{}
 
-/// So they do if nothing is free in a node but its inputs, and comparisons of integers and outputs of calls in its body, wherever these stand: the equations hold values of the free places: of their types, and the reaction's own wherever an instant looks at them.
-pub fn places_of_bodies_are_seen()
-    ensures { SeenInBodyLaw }
+/// In these nodes, if no integers are compared in the contracts of the nodes that a node calls, the equations hold values of its free places: of their types, and the reaction's own wherever an instant looks at them.
+pub fn places_are_seen()
+    ensures { SeenOwnLaw }
 {
+    observers_keep_places();
     meanings_keep_places();
     programs_have_one_meaning_under_each_choice();
     chosen_nodes_have_one_reaction();

@@ -3,6 +3,7 @@
 //! The functions here do nothing: each is a law, which its contract states.
 #![tactic(auto)]
 
+ghost use Rattle.law_choices.specs.Embedded.Meaning.{ObserversKeepLaw, ObserversKnownLaw};
 ghost use Rattle.law_choices.specs.Streams.Alike.{AlikeLaw};
 ghost use Rattle.law_choices.specs.Streams.Names.{NamesLaw, TextNamesLaw};
 ghost use Rattle.law_choices.specs.Streams.Places.{PlacesLaw};
@@ -12,17 +13,17 @@ ghost use Rattle.law_choices.specs.Streams.Uncontrolled.{NoChoiceLaw, Uncontroll
 use crate::choosing::{
     chosen_nodes_have_one_reaction, programs_have_one_meaning_under_each_choice,
 };
-use crate::filled::ready_programs_have_one_filled_reaction;
 use crate::flat::{
     chosen_nodes_answer, equations_answer_under_each_choice,
     equations_keep_names_under_each_choice, equations_keep_places_under_each_choice,
 };
 use hp_meaning::causal::ranks_of_points;
 use law_automata::classed::removing_automata_keeps_classes;
-use law_automata::lowered::ranks_are_kept;
+use law_automata::lowered::{ranks_are_kept, reactions_are_kept};
 use law_automata::readied::programs_with_classes_are_accepted;
 use law_equations::fitting::{calls_are_kept, targets_differ};
 use law_equations::meaning::nodes_have_one_reaction;
+use law_values::filled::programs_have_first_values;
 
 /// Whatever the nodes of a program answer with the chosen values is what their one meaning answers.
 pub fn chosen_answers_are_alike()
@@ -50,7 +51,8 @@ pub fn meanings_give_the_chosen_reactions()
     calls_are_kept();
     chosen_nodes_have_one_reaction();
     nodes_have_one_reaction();
-    ready_programs_have_one_filled_reaction();
+    programs_have_first_values();
+    reactions_are_kept();
     chosen_nodes_answer();
     equations_answer_under_each_choice();
     equations_keep_names_under_each_choice();
@@ -68,7 +70,25 @@ pub fn meanings_keep_places()
     calls_are_kept();
     chosen_nodes_have_one_reaction();
     nodes_have_one_reaction();
-    ready_programs_have_one_filled_reaction();
+    programs_have_first_values();
+    reactions_are_kept();
+    chosen_nodes_answer();
+    equations_answer_under_each_choice();
+    equations_keep_places_under_each_choice();
+}
+
+/// So it is of the observers of a program's contracts, though they are no program of a text: their clocked equations have one meaning, in which the places of comparisons have their values. What is known of observers are their outputs.
+pub fn observers_keep_places()
+    ensures keep { ObserversKeepLaw }
+    ensures known { ObserversKnownLaw }
+{
+    ranks_of_points();
+    ranks_are_kept();
+    targets_differ();
+    calls_are_kept();
+    chosen_nodes_have_one_reaction();
+    nodes_have_one_reaction();
+    reactions_are_kept();
     chosen_nodes_answer();
     equations_answer_under_each_choice();
     equations_keep_places_under_each_choice();

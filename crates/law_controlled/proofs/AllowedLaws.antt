@@ -1,5 +1,5 @@
 -- The machines of a program that chooses give what the program allows.
-use Rattle.std.proofs.Common.{List, [], ◌∷◌, sym, subst}
+use Rattle.std.proofs.Common.{List, [], ◌∷◌, refl, sym, subst}
 use Rattle.std.specs.List.{AllByRecursion}
 use Rattle.hp_obc.specs.Form.{TypesForm}
 use Rattle.hp_obc.specs.Machines.{ObcType}
@@ -23,7 +23,12 @@ use Rattle.law_controlled.specs.Names.{HasFreeNames}
 use Rattle.law_controlled.specs.Program.{MadeNamesLaw, MadeNodesLaw}
 use Rattle.law_controlled.specs.Mirrored.{MirroredLaw}
 use Rattle.law_controlled.specs.Observers.{ObserversSuitLaw}
+use Rattle.hp_expand.specs.Numbering.{replaced}
+use Rattle.law_automata.proofs.LowerableLemmas.Texts.{clocked_of}
+use Rattle.law_wellmade.proofs.BegunLemmas.NamesApart.{lowered_apart}
+use Rattle.law_choices.proofs.ObservedLemmas.Programs.{with_automata}
 use Rattle.law_controlled.specs.Allowed.{AllowedLaw}
+use Rattle.law_controlled.proofs.OwnObservers.{own_observers}
 
 pub writable : (ns : List FlatNode) → AllByRecursion IsWithin ns → AllByRecursion HasFreeNames ns → AllByRecursion IsWritable ns
 writable [] h k = tt
@@ -64,6 +69,9 @@ allowed_law can_law tested_law contracts_law observers_law made_law mirrored_law
       observers = c.observers;
       all = made.all;
       chooses = chooses;
+      silent = calls;
+      observable = observable;
+      own = own_observers after c.observers c.observed (with_automata (enumerations [] after) after [] [] (λ f. refl) tt (lowered_apart program after ready.named (clocked_of (replaced program) after ready.clocks)));
       mirrored = mirrored_law program after ranks types c.observers made.all order made.ask;
       allowed = allowed;
       runs = subst (λ (ts : List ObcType). AnswerAsWhole ts o.machines allowed.one.answers (turn.said_of after made.all).takes (all_nodes made.all)) (sym machines.types) runs;

@@ -24,9 +24,9 @@ use Rattle.law_wellmade.proofs.BegunLemmas.Items.{types_low}
 use Rattle.law_wellmade.proofs.TestedLemmas.FittedLaws.{differ_law}
 use Rattle.law_wellmade.proofs.TimelyLemmas.KindLaws.{are_of}
 use Rattle.law_choices.specs.Playing.Greatest.{ChoosesGreatest, GreatestLaw}
-use Rattle.law_choices.specs.Playing.Telling.{ContractToldLaw}
 use Rattle.law_choices.specs.Runs.Chosen.{ChosenReaction}
-use Rattle.law_choices.specs.Seeing.SeenInBody.{SeenInBodyLaw}
+use Rattle.law_choices.specs.Seeing.OwnContract.{CallsNothingLaw}
+use Rattle.law_choices.specs.Seeing.SeenOwn.{SeenOwnLaw}
 use Rattle.law_choices.specs.Seeing.Greatest.{SeenGreatestLaw}
 use Rattle.law_choices.specs.Seeing.Telling.{SeenToldLaw}
 use Rattle.law_choices.specs.Runs.Laws.{ChoosesValues, OfProgramLaw}
@@ -51,8 +51,8 @@ pub record SteeringLaws : Type 0 where
   pub stands : StandsLaw
   pub instances : InKindLaw
   pub tells : TellsForLaw
-  pub told : ContractToldLaw
-  pub in_body : SeenInBodyLaw
+  pub calls_nothing : CallsNothingLaw
+  pub own : SeenOwnLaw
   pub seen : SeenGreatestLaw
   pub seen_told : SeenToldLaw
 

@@ -1,4 +1,4 @@
--- The machines of a program that chooses say runs of the greatest permitted values, where nothing is free in a node but its inputs, and comparisons and outputs of calls in its body.
+-- The machines of a program that chooses say runs of the greatest permitted values, where no integers are compared in the contracts of the nodes that a node calls.
 use Rattle.std.proofs.Common.{◌≡◌, ℕ, inl, inr, List, [], reverse, Some}
 use Rattle.std.specs.List.{AllByRecursion}
 use Rattle.hp_base.specs.Kinds.{AreOfKinds}
@@ -21,8 +21,8 @@ use Rattle.law_choices.specs.Playing.Greatest.{ChoosesGreatest}
 use Rattle.law_choices.specs.Playing.Telling.{AreToldOf}
 use Rattle.law_choices.specs.Runs.Chosen.{ChosenReaction}
 use Rattle.law_controlled.specs.Allowed.{RunsAllowed}
-use Rattle.law_controlled.specs.AtDepth.{IsSeen, SeesAll}
-use Rattle.law_controlled.specs.Greatest.{IsSteeredRun}
+use Rattle.law_controlled.specs.AtDepth.{SeesAll}
+use Rattle.law_controlled.specs.Greatest.{IsGreatest, IsSteeredRun}
 use Rattle.law_controlled.proofs.KeepingLaws.{keeps_contract}
 use Rattle.law_controlled.proofs.ToldLaws.{told_kept}
 use Rattle.law_controlled.proofs.RunLaws.{chosen_run}
@@ -39,12 +39,11 @@ module _ (laws : SteeringLaws) (program after : List Item) (ranks : List (List �
   Reacts f inputs past = ChosenReaction ((r.allowed).allowed).choices after f inputs past
 
   -- and what is told
-  told_of : (f : List ℕ) (n : Node) (inputs : List (List Value)) (past : Past) → node_among (reverse after) f ≡ Some n → Kinds n inputs → Reacts f inputs past → HasContract n → IsSeen after n → calls_of n ≡ []
+  told_of : (f : List ℕ) (n : Node) (inputs : List (List Value)) (past : Past) → node_among (reverse after) f ≡ Some n → Kinds n inputs → Reacts f inputs past → HasContract n → calls_of n ≡ []
       → AreToldOf past (all_answers (((r.allowed).one).answers f) inputs) (all_answers (((r.allowed).one).answers (contract_name f)) inputs)
-  told_of f n inputs past e kinds reacts has (inl alone) none = laws.told program after ranks r.observers r.all order r.chooses r.mirrored r.allowed f n inputs past e has alone none kinds reacts
-  told_of f n inputs past e kinds reacts has (inr body) none =
+  told_of f n inputs past e kinds reacts has none =
       laws.seen_told program after ranks r.observers r.all order r.chooses r.mirrored r.allowed f n inputs past e has none kinds reacts
-      (laws.in_body program after ranks r.observers r.all order r.chooses r.allowed f n inputs past e body kinds reacts)
+      (laws.own program after ranks r.observers r.all order r.chooses r.silent r.observable r.own r.allowed f n inputs past e (laws.calls_nothing after n none) kinds reacts)
 
   pub steered : (f : List ℕ) (n : Node) (inputs : List (List Value)) → node_among (reverse after) f ≡ Some n → AllByRecursion (AreOfKinds (kinds_of_decls (types_of after) n.inputs)) inputs → IsSteeredRun after f n inputs (all_answers (((r.allowed).one).answers f) inputs) (all_answers (((r.allowed).one).answers (contract_name f)) inputs)
   steered f n inputs e kinds =
@@ -63,16 +62,19 @@ module _ (laws : SteeringLaws) (program after : List Item) (ranks : List (List �
         outputs = it.outputs;
       } in
       let are_greatest : SeesAll after n → Through (ChoosesGreatest after n) before.past = greatest_of laws program after ranks order o r f n inputs before.past e kinds before.is_one in
+      let is_greatest : SeesAll after n → IsGreatest after n before.past = (λ knows.
+      let greatest = are_greatest knows in
+      let duty = keeps laws program after ranks order safe choices are.values f n inputs before.past e rows before.is_one greatest in
+      record { greatest = greatest; duty = duty; contract = λ has none. keeps_contract n none before.past (duty has) }) in
       record {
         allowed = run;
-        greatest = λ knows.
-            let greatest = are_greatest knows in
-            let duty = keeps laws program after ranks order safe choices are.values f n inputs before.past e rows before.is_one greatest in
-            record { greatest = greatest; duty = duty; contract = λ has none. keeps_contract n none before.past (duty has) };
-        is_chosen = λ knows none. chosen_run after f n none laws.of_types inputs (all_answers (((r.allowed).one).answers f) inputs) e rows run (are_greatest knows);
-        tells = λ has seen none.
-            let duty = keeps laws program after ranks order safe choices are.values f n inputs before.past e rows before.is_one (are_greatest (inr seen)) has in
-            let values = told_of f n inputs before.past e kinds before.is_one has seen none in
+        greatest = is_greatest;
+        is_chosen = λ none.
+            let knows : SeesAll after n = inr (laws.calls_nothing after n none) in
+            (is_greatest knows, chosen_run after f n none laws.of_types inputs (all_answers (((r.allowed).one).answers f) inputs) e rows run (are_greatest knows));
+        tells = λ has none.
+            let duty = keeps laws program after ranks order safe choices are.values f n inputs before.past e rows before.is_one (are_greatest (inr (laws.calls_nothing after n none))) has in
+            let values = told_of f n inputs before.past e kinds before.is_one has none in
             record {
               values = values;
               kept = told_kept before.past (all_answers (((r.allowed).one).answers f) inputs) (all_answers (((r.allowed).one).answers (contract_name f)) inputs) values (keeps_contract n none before.past duty);

@@ -32,6 +32,7 @@ pub mod MirrorLaws
 pub mod NameLaws
 pub mod NearlyLaws
 pub mod ObserverLaws
+pub mod OwnObservers
 pub mod ObserverShortLaws
 pub mod OneListLaws
 pub mod OwnContractLaws

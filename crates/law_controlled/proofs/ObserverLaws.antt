@@ -25,13 +25,13 @@ use Rattle.law_controlled.specs.Observers.{ObserversSuitLaw}
 
 -- ---- nodes with contracts
 
-abbrev name_of : Node × Contract → List ℕ
+abbrev pub name_of : Node × Contract → List ℕ
 name_of x = x.0.name
 
-abbrev contract_of : Node × Contract → Contract
+abbrev pub contract_of : Node × Contract → Contract
 contract_of x = x.1
 
-names_are : (items : List Item) → names_with_contracts items ≡ map name_of (contracted_nodes items)
+pub names_are : (items : List Item) → names_with_contracts items ≡ map name_of (contracted_nodes items)
 names_are [] = refl
 names_are (TypeItem t ∷ items) = names_are items
 names_are (NodeItem n ∷ items) = by n.contract (names_are items)
@@ -40,7 +40,7 @@ names_are (NodeItem n ∷ items) = by n.contract (names_are items)
     by None e = e
     by (Some c) e = ap (λ xs. n.name ∷ xs) e
 
-contracts_are : (items : List Item) → contracts_of items ≡ map contract_of (contracted_nodes items)
+pub contracts_are : (items : List Item) → contracts_of items ≡ map contract_of (contracted_nodes items)
 contracts_are [] = refl
 contracts_are (TypeItem t ∷ items) = contracts_are items
 contracts_are (NodeItem n ∷ items) = by n.contract (contracts_are items)

@@ -26,7 +26,6 @@ module _ (laws : SteeringLaws) (program after : List Item) (ranks : List (List �
 
   pub greatest_of : (f : List ℕ) (n : Node) (inputs : List (List Value)) (past : Past) → node_among (reverse after) f ≡ Some n → Kinds n inputs → Reacts f inputs past → SeesAll after n → Through (ChoosesGreatest after n) past
   greatest_of f n inputs past e kinds reacts (inl none) = laws.greatest program after ranks r.observers r.all order r.chooses r.mirrored r.allowed f n inputs past e (inl none) kinds reacts
-  greatest_of f n inputs past e kinds reacts (inr (inl alone)) = laws.greatest program after ranks r.observers r.all order r.chooses r.mirrored r.allowed f n inputs past e (inr alone) kinds reacts
-  greatest_of f n inputs past e kinds reacts (inr (inr body)) =
+  greatest_of f n inputs past e kinds reacts (inr sees) =
       laws.seen program after ranks r.observers r.all order r.chooses r.mirrored r.allowed f n inputs past e kinds reacts
-      (laws.in_body program after ranks r.observers r.all order r.chooses r.allowed f n inputs past e body kinds reacts)
+      (laws.own program after ranks r.observers r.all order r.chooses r.silent r.observable r.own r.allowed f n inputs past e sees kinds reacts)

@@ -12,7 +12,9 @@ use Rattle.hp_automata.specs.NewNames.{is_new}
 use Rattle.law_automata.specs.Lowered.Removable.{IsRemovable}
 use Rattle.law_equations.specs.Made.Types.{obc_types, obc_types_of}
 use Rattle.law_wellmade.specs.Spelled.Integers.{NodeShort}
+use Rattle.hp_meaning.specs.Contract.Forgetting.{ContractsCallNothing}
 use Rattle.hp_watch.specs.Watching.{Observing}
+use Rattle.law_choices.specs.Embedded.Observers.{AreObserversOf}
 use Rattle.law_choices.specs.InTurn.Laws.{IsAllowed, IsChoosing, said_of}
 use Rattle.law_choices.specs.InTurn.Nodes.{Made, all_nodes}
 use Rattle.law_choices.specs.InTurn.Standing.{StandsFor}
@@ -21,11 +23,14 @@ use Rattle.law_choices.specs.Playing.Greatest.{AreMirrored}
 use Rattle.hp_controlled.specs.Chosen.{AreControlledMachines}
 use Rattle.law_controlled.specs.Machines.{AnswerAsWhole}
 
--- Some nodes are made of the program that have one meaning, which the program allows, and the machine of each name gives on inputs of the kinds, oldest first, what its node answers. One of them stands for each node of the program, and each that has a contract asks a machine that mirrors it.
+-- Some nodes are made of the program that have one meaning, which the program allows, and the machine of each name gives on inputs of the kinds, oldest first, what its node answers. One of them stands for each node of the program, and each that has a contract asks a machine that mirrors it. The observers are those of the contracts, which call nothing.
 pub record RunsAllowed (program after : List Item) (o : Obc) : Type 0 where
   pub observers : Observing
   pub all : List Made
   pub chooses : IsChoosing program after observers all
+  pub silent : ContractsCallNothing after
+  pub observable : EachNode IsObservable after
+  pub own : AreObserversOf after observers
   pub mirrored : AreMirrored (obc_types (types_of after)) observers after [] after all
   pub allowed : IsAllowed after all
   pub runs : AnswerAsWhole o.types o.machines allowed.one.answers (said_of after all).takes (all_nodes all)

@@ -16,8 +16,7 @@ use Rattle.hp_meaning.specs.Contract.Forgetting.{erased, erase}
 use Rattle.hp_meaning.specs.Contract.FreePlaces.{calls_of, instance_at}
 use Rattle.hp_meaning.specs.Contract.Guarantee.{AllAssumed, AllSupposed, HasContract, Through}
 use Rattle.law_choices.specs.Playing.Greatest.{ChoosesGreatest}
-use Rattle.law_choices.specs.Playing.Inputs.{HasInputsAlone}
-use Rattle.law_choices.specs.Seeing.InBody.{SeesInBody}
+use Rattle.law_choices.specs.Seeing.OwnContract.{CalleesCompareNothing}
 
 -- A property of a node at an instant, after its own past, is one of the node of this name and of each instance below it that is there, at every depth; the nodes are given the last one first.
 abbrev pub InEach : (Node → Past → Instant → Type 0) → List Item → List ℕ → Past → Instant → Type 0
@@ -28,13 +27,9 @@ InEach P (NodeItem n ∷ earlier) f past now =
     (P n past now × All (λ (k : Placed). IsTrue (is_there (instance_at k now (Fresh ∷ []))) → InEach P earlier k.point.name (own_past (k.place ++ (Instance ∷ [])) past now) (instance_at k now)) (calls_of n))
     (InEach P earlier f past now)
 
--- Nothing is free in a node but its inputs, or but these and comparisons of integers and outputs of calls that stand in the body.
-abbrev pub IsSeen : List Item → Node → Type 0
-IsSeen program n = HasInputsAlone program n ⊎ SeesInBody program n
-
--- A node has no controllable variable, or it is such a node.
+-- A node has no controllable variable, or no integers are compared in the contracts of the nodes that it calls.
 abbrev pub SeesAll : List Item → Node → Type 0
-SeesAll program n = (controls_of n.contract ≡ []) ⊎ IsSeen program n
+SeesAll program n = (controls_of n.contract ≡ []) ⊎ CalleesCompareNothing program n
 
 -- The controllable variables of a node have the greatest permitted values at an instant after its own past. If the node has a contract, its duty holds there, if its hypothesis holds there and held at all instants before; so, if it calls nothing, its guarantee holds where its assumption does and did.
 pub record IsGreatestAt (program : List Item) (n : Node) (past : Past) (now : Instant) : Type 0 where

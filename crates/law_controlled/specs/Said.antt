@@ -28,7 +28,7 @@ SaidLaw =
     → WellNamed program → WellTyped program → WellDefined program → IsFormed program → IsInitialised (replaced program) → AreWritten IsClocked (replaced program) after → AllFall after ranks
     → AreControlledMachines after o → AllSayAllowed after o
 
--- Where nothing is forced at first in any node with a contract, these machines also say runs of the greatest permitted values, if nothing is free in a node but its inputs.
+-- Where nothing is forced at first in any node with a contract, these machines also say runs of the greatest permitted values, if no integers are compared in the contracts of the nodes that a node calls.
 abbrev pub GreatestSaidLaw : Type 0
 GreatestSaidLaw =
     (text : List ℕ) (tokens : List Token) (program after : List Item) (ranks : List (List ℕ)) (o : Obc) → AreTokensOf text tokens → IsProgram (lexemes text tokens) program

@@ -1,4 +1,4 @@
--- Nodes with a controllable variable of which nothing is free but the inputs, comparisons of integers, and outputs of calls. A heater has three modes, one of which is chosen: it is off where it is hot, and never goes from full to off at once, if a warning comes before it gets hot. A house calls it. A cooler is told a temperature, and is off where that is low. A store calls it, and tells it less than is measured. A pump calls a latch with a contract, which tells whether the level was ever high, and does not run then. A valve compares a sum inside an `if`, and names it nowhere. A tap compares sums in its transitions.
+-- Nodes with a controllable variable of which nothing is free but the inputs, comparisons of integers, and outputs of calls. A heater has three modes, one of which is chosen: it is off where it is hot, and never goes from full to off at once, if a warning comes before it gets hot. A house calls it. A cooler is told a temperature, and is off where that is low. A store calls it, and tells it less than is measured. A pump calls a latch with a contract, which tells whether the level was ever high, and does not run then. A valve compares a sum inside an `if`, and names it nowhere. A tap compares sums in its transitions. A gate is promised to be open where much flows: its contract compares.
 -- Source: own.
 use Rattle.std.specs.Prelude.{◌≡◌, codes, true, false, ℕ, pos, IsTrue, List, [], ◌∷◌, ◌++◌, None, Some, map, reverse}
 use Rattle.hp_base.specs.declared.span.Span.{Span}
@@ -22,7 +22,6 @@ use Rattle.hp_meaning.specs.Contract.ChosenRuns.{own_past}
 use Rattle.hp_meaning.specs.Contract.FreePlaces.{calls_of, instance_at}
 use Rattle.hp_meaning.specs.Contract.Guarantee.{HasContract}
 use Rattle.law_choices.specs.Playing.Inputs.{HasInputsAlone}
-use Rattle.law_choices.specs.Seeing.ByName.{SeesByName}
 use Rattle.law_choices.specs.Seeing.InBody.{SeesInBody}
 use Rattle.law_controlled.specs.AtDepth.{InEach, IsGreatestAt, IsGreatestIfSeen, SeesAll}
 
@@ -146,7 +145,7 @@ cooling = TypeItem mode ∷ NodeItem cooler ∷ []
 
 -- It has a contract, nothing is free in it but its input and these comparisons, and it calls nothing.
 abbrev pub CoolerLaw : Type 0
-CoolerLaw = HasContract cooler × SeesByName cooling cooler × (calls_of cooler ≡ [])
+CoolerLaw = HasContract cooler × SeesInBody cooling cooler × (calls_of cooler ≡ [])
 
 -- ---- a store that calls it
 
@@ -231,7 +230,7 @@ pumping = NodeItem latch ∷ NodeItem pump ∷ []
 -- It has a contract, and it sees all. So where each instance that sees all has the greatest permitted values, the pump has them in each of its runs, though its contract reads what it is told by the latch.
 abbrev pub PumpLaw : Type 0
 PumpLaw =
-    HasContract pump × SeesByName pumping pump
+    HasContract pump × SeesInBody pumping pump
     × ((past : Past) (now : Instant) → InEach (IsGreatestIfSeen pumping) (reverse pumping) pump.name past now → IsGreatestAt pumping pump past now)
 
 -- ---- a valve that compares inside an `if`
@@ -262,10 +261,10 @@ valve = record {
 abbrev pub valving : List Item
 valving = NodeItem valve ∷ []
 
--- It has a contract, and its comparison has no name. It sees in its body, so where each instance that sees all has the greatest permitted values, the valve has them in each of its runs.
+-- It has a contract, and its comparison has no name. Nothing else is free but the inputs, so where each instance that sees all has the greatest permitted values, the valve has them in each of its runs.
 abbrev pub ValveLaw : Type 0
 ValveLaw =
-    HasContract valve × (SeesByName valving valve → ⊥) × SeesInBody valving valve
+    HasContract valve × SeesInBody valving valve
     × ((past : Past) (now : Instant) → InEach (IsGreatestIfSeen valving) (reverse valving) valve.name past now → IsGreatestAt valving valve past now)
 
 -- ---- a tap that compares in its transitions
@@ -296,8 +295,38 @@ tap = record {
 abbrev pub tapping : List Item
 tapping = NodeItem tap ∷ []
 
--- It has a contract, and its comparisons stand in a weak and in a strong transition. It sees in its body, so where each instance that sees all has the greatest permitted values, the tap has them in each of its runs.
+-- It has a contract, and its comparisons stand in a weak and in a strong transition. Nothing else is free but the inputs, so where each instance that sees all has the greatest permitted values, the tap has them in each of its runs.
 abbrev pub TapLaw : Type 0
 TapLaw =
     HasContract tap × SeesInBody tapping tap
     × ((past : Past) (now : Instant) → InEach (IsGreatestIfSeen tapping) (reverse tapping) tap.name past now → IsGreatestAt tapping tap past now)
+
+-- ---- a gate whose contract compares
+
+abbrev pub open_promise : Contract
+open_promise = record {
+  span = somewhere;
+  body = block [] (eqns_of []);
+  assume = None;
+  enforce = Some (two somewhere Imp (two somewhere Gt (read (codes "flow")) (constant somewhere (const.I (pos 10)))) (read (codes "open")));
+  controls = declared (codes "on") ty.Bool ∷ [];
+}
+
+abbrev pub gate : Node
+gate = record {
+  name = codes "gate";
+  inputs = declared (codes "flow") ty.Int ∷ [];
+  outputs = declared (codes "open") ty.Bool ∷ [];
+  contract = Some open_promise;
+  body = block [] (eqns_of (equals (codes "open") (read (codes "on")) ∷ []));
+  span = somewhere;
+}
+
+abbrev pub gating : List Item
+gating = NodeItem gate ∷ []
+
+-- It has a contract, whose comparison is free, and it calls nothing. So where each instance that sees all has the greatest permitted values, the gate has them in each of its runs.
+abbrev pub GateLaw : Type 0
+GateLaw =
+    HasContract gate × (calls_of gate ≡ []) × (SeesInBody gating gate → ⊥) × SeesAll gating gate
+    × ((past : Past) (now : Instant) → InEach (IsGreatestIfSeen gating) (reverse gating) gate.name past now → IsGreatestAt gating gate past now)

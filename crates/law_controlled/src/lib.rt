@@ -1,4 +1,4 @@
-//! Laws: each line that the machines of a program say whose nodes choose the values of their controllable variables is one that the program allows; where nothing is free in a node but its inputs, and comparisons of integers and outputs of calls that have names, it is one of a run of the greatest permitted values. `hp_driver` uses it for `run` and `compile`.
+//! Laws: each line that the machines of a program say whose nodes choose the values of their controllable variables is one that the program allows; where no integers are compared in the contracts of the nodes that a node calls, it is one of a run of the greatest permitted values. `hp_driver` uses it for `run` and `compile`.
 //!
 //! The functions here do nothing: each is a law, which its contract states.
 #![tactic(auto)]
@@ -16,7 +16,7 @@ ghost use Rattle.law_controlled.specs.One.{OneListLaw, OneTextListLaw};
 ghost use Rattle.law_controlled.specs.Parts.{MadePartLaw};
 ghost use Rattle.law_controlled.specs.Said.{GreatestSaidLaw, SaidLaw};
 ghost use Rattle.law_controlled.specs.Program.{ChoosingNamesLaw, MadeNamesLaw, MadeNodesLaw};
-ghost use Rattle.law_controlled.specs.Worked.{CoolerLaw, HeaterLaw, HouseLaw, PumpLaw, StoreLaw, TapLaw, ValveLaw};
+ghost use Rattle.law_controlled.specs.Worked.{CoolerLaw, GateLaw, HeaterLaw, HouseLaw, PumpLaw, StoreLaw, TapLaw, ValveLaw};
 
 use hp_abstract::nodes_have_one_abstraction;
 use hp_form::regular::regular_equations_have_form;
@@ -44,13 +44,12 @@ use law_choices::on_clocks::programs_have_one_meaning;
 use law_choices::part::{parts_keep_form, parts_keep_reactions};
 use law_choices::places::walks_find_places;
 use law_choices::playing::{
-    contracts_are_told, copied_gates_tell_what_is_owed, drawn_machines_mirror,
-    nodes_that_know_all_choose_the_greatest,
+    copied_gates_tell_what_is_owed, drawn_machines_mirror, nodes_that_know_all_choose_the_greatest,
 };
 use law_choices::runs::chosen_values_make_one_reaction;
 use law_choices::seeing::{
-    contracts_that_are_seen_are_told, nodes_that_see_values_choose_the_greatest,
-    places_of_bodies_are_seen,
+    callees_compare_nothing, contracts_that_are_seen_are_told,
+    nodes_that_see_values_choose_the_greatest, places_are_seen,
 };
 use law_choices::undisturbed::{
     controls_are_apart, ready_programs_keep_contracts, ready_programs_keep_dependence,
@@ -155,7 +154,7 @@ pub fn machines_of_texts_say_what_is_allowed()
     contracts_of_texts_can_be_observed();
 }
 
-/// And if nothing is free in such a node but its inputs, and comparisons of integers and outputs of calls in its body, the controllable variables have the greatest permitted values in that reaction; so it keeps its contract. So it is of each instance in the reaction, at every depth, if nothing is free in its node but inputs and such comparisons and outputs. The machine of a contract says what the machine of its node says, with two truth values behind; if the node is such a node, and it calls nothing, these are the values of the assumption and of the guarantee in that reaction.
+/// And if no integers are compared in the contracts of the nodes that such a node calls, the controllable variables have the greatest permitted values in that reaction; so it keeps its contract. So it is of each instance in the reaction, at every depth. The machine of a contract says what the machine of its node says, with two truth values behind; if the node calls nothing, these are the values of the assumption and of the guarantee in that reaction.
 pub fn machines_of_texts_choose_the_greatest()
     ensures { GreatestSaidLaw }
 {
@@ -163,8 +162,8 @@ pub fn machines_of_texts_choose_the_greatest()
     nodes_that_know_all_choose_the_greatest();
     instances_react_in_kind();
     a_node_tells_each_contract();
-    contracts_are_told();
-    places_of_bodies_are_seen();
+    callees_compare_nothing();
+    places_are_seen();
     nodes_that_see_values_choose_the_greatest();
     contracts_that_are_seen_are_told();
     chosen_values_make_one_reaction();
@@ -315,4 +314,9 @@ pub fn a_worked_valve()
 /// In a tap that is told two flows, and compares their sum in a weak and in a strong transition, nothing is free but the inputs and these comparisons. So it has the greatest permitted values.
 pub fn a_worked_tap()
     ensures { TapLaw }
+{}
+
+/// The contract of a gate compares a flow, and it calls nothing. So it has the greatest permitted values.
+pub fn a_worked_gate()
+    ensures { GateLaw }
 {}

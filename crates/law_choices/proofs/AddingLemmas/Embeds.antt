@@ -63,7 +63,7 @@ renamed : ℕ → List Variable → List Variable
 renamed from [] = []
 renamed from (v ∷ vs) = added_variable from v.ty ∷ renamed (from + 1) vs
 
-input_eqns : Clock → ℕ → List Atom → List FlatEqn
+unfoldable pub input_eqns : Clock → ℕ → List Atom → List FlatEqn
 input_eqns clock target [] = []
 input_eqns clock target (a ∷ args) = operator_eqn target clock Copy (a ∷ []) ∷ input_eqns clock (target + 1) args
 
@@ -121,6 +121,20 @@ module _ (observer : FlatNode) (site : Site) (n : FlatNode) where
       let named = with_variables observer.variables n in
       let inputs = input_eqns site.clock V site.inputs in
       moved-behind site V observer.eqns n (with_room observer site n) vs inputs (inputs-behind site.clock site.inputs n named vs [] V (variables-behind observer.variables n n [] [] V refl (nothing-behind n)))
+
+  -- its equations
+  pub embedded-eqns : (embedded observer site n).eqns ≡ n.eqns ++ (input_eqns site.clock (length n.variables) site.inputs ++ map (moved_eqn site (length n.variables)) observer.eqns)
+  embedded-eqns = (embedded-behind).eqns
+
+  -- and those that are there before the observer's own ones
+  pub room-eqns : (with_room observer site n).eqns ≡ n.eqns ++ input_eqns site.clock (length n.variables) site.inputs
+  room-eqns = (inputs-behind site.clock site.inputs n (with_variables observer.variables n) (renamed (length n.variables) observer.variables) [] (length n.variables) (variables-behind observer.variables n n [] [] (length n.variables) refl (nothing-behind n))).eqns
+
+  -- how many variables it has
+  pub embedded-many : length (embedded observer site n).variables ≡ length n.variables + length observer.variables
+  embedded-many =
+      let vs = renamed (length n.variables) observer.variables in
+      ap length (embedded-behind).variables ∙ length-append n.variables vs ∙ ap (λ k. length n.variables + k) (renamed-length (length n.variables) observer.variables)
 
   -- the node stays
   pub embedded-grows : Grows n (embedded observer site n)

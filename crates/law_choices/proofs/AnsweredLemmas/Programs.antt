@@ -24,7 +24,7 @@ use Rattle.hp_flat.specs.Nodes.{FlatNode}
 use Rattle.law_equations.specs.Fitting.Fitting.{CallsLaw, TargetsLaw}
 use Rattle.law_equations.specs.Meaning.Kinding.{kind_of_type}
 use Rattle.law_equations.specs.Meaning.Reactions.{Answers, inputs_of}
-use Rattle.law_equations.specs.Made.Making.{Known, flat_type}
+use Rattle.law_equations.specs.Made.Making.{Known, flat_type, outputs_of}
 use Rattle.law_equations.specs.Made.Types.{obc_types, obc_types_of}
 use Rattle.hp_complete.specs.Declaring.{known_of}
 use Rattle.hp_complete.specs.Made.{AreMadeOf}
@@ -131,6 +131,14 @@ takes_kinds program after r form f n e =
     let full = some_of (types_of program) form.counts in
     let firsts = each_found (NodeHasFirsts (types_of after)) (reverse after) f n (each_reverse (NodeHasFirsts (types_of after)) after (ready_firsts program after r full)) e in
     ap (λ o. kinds_of_decls (obc_types (types_of after)) (known_of low) (given_to o)) (nodes-known low f ∙ lowered_there after f n e) ∙ decls_kinds program after r form n.inputs firsts.inputs
+
+-- and what it gives are values of the kinds of its outputs
+pub gives_kinds : (program after : List Item) → IsReady program after → TypesForm (obc_types_of program) → (f : List ℕ) (n : Node) → node_among (reverse after) f ≡ Some n → (callees_of after).gives f ≡ timely.kinds_of_decls (types_of after) n.outputs
+gives_kinds program after r form f n e =
+    let low = lowered_program after in
+    let full = some_of (types_of program) form.counts in
+    let firsts = each_found (NodeHasFirsts (types_of after)) (reverse after) f n (each_reverse (NodeHasFirsts (types_of after)) after (ready_firsts program after r full)) e in
+    ap (λ o. kinds_of_decls (obc_types (types_of after)) (known_of low) (outputs_of o)) (nodes-known low f ∙ lowered_there after f n e) ∙ decls_kinds program after r form n.outputs firsts.outputs
 
 -- ---- what is answered
 

@@ -6,6 +6,7 @@ use Rattle.hp_tree.specs.declared.program.Item.{Item}
 use Rattle.hp_tree.specs.declared.program.Item.TheVariants.{TypeItem, NodeItem}
 use Rattle.hp_tree.specs.Blocks.{Decl}
 use Rattle.hp_tree.specs.Meaning.{types_of, controls_of}
+use Rattle.law_judged.specs.Named.Scoped.{EachNode}
 use Rattle.hp_automata.specs.Lowering.{lowered_program}
 use Rattle.hp_flat.specs.Nodes.{FlatNode}
 use Rattle.law_equations.specs.Meaning.Kinding.{OneReactionLaw, OutputsOfKindsLaw, kind_of_type}
@@ -13,12 +14,16 @@ use Rattle.law_equations.specs.Fitting.Fitting.{CallsLaw, TargetsLaw}
 use Rattle.law_equations.specs.Made.Making.{Known, flat_type, outputs_of}
 use Rattle.law_equations.specs.Made.Types.{obc_types}
 use Rattle.hp_complete.specs.Declaring.{known_of}
+use Rattle.hp_complete.specs.Made.{AreMadeOf}
+use Rattle.law_wellmade.specs.Spelled.Integers.{NodeShort}
 use Rattle.law_wellmade.specs.Regular.Kinds.{kinds_of_decls}
 use Rattle.law_choices.specs.OnClocks.WellMade.{given_to, calls_of, callees_of}
-use Rattle.law_choices.proofs.OnClocksLemmas.OneMeaning.{AreTurned, ready_nodes}
+use Rattle.law_choices.proofs.OnClocksLemmas.OneMeaning.{AreTurned, AreReady, compiled_nodes, ready_nodes}
 use Rattle.law_choices.proofs.OnClocksLemmas.Texts.{when_accepted}
-use Rattle.law_choices.specs.Choosing.Meaning.{AreInTurn}
-use Rattle.law_choices.specs.Choosing.Programs.{steered_by, controls_in, ReadyLaw, TextLaw}
+use Rattle.law_choices.specs.Closed.Compilable.{HasTypesOf, IsCompilable}
+use Rattle.law_choices.specs.Choosing.Choices.{Choices}
+use Rattle.law_choices.specs.Choosing.Meaning.{AreInTurn, HasOneMeaningUnder}
+use Rattle.law_choices.specs.Choosing.Programs.{steered_by, controls_in, AreChoices, ReadyLaw, TextLaw}
 use Rattle.law_choices.proofs.ChoosingLemmas.Meanings.{meaning_law}
 
 -- the kinds of a node's inputs, and behind them those of its controllable variables
@@ -45,12 +50,19 @@ module _ (types : List ObcType) (k : Known) where
       )
 
 module _ (targets : TargetsLaw) (calls_law : CallsLaw) (one : OneReactionLaw) (outputs_law : OutputsOfKindsLaw) where
-  pub ready_law : ReadyLaw
-  ready_law program after r ok form short choices fit fs made =
+  of_nodes : (after : List Item) (choices : Choices) → AreChoices after choices → (fs : List FlatNode) → AreReady after fs → HasOneMeaningUnder choices (callees_of after) fs
+  of_nodes after choices fit fs nodes =
       let low = lowered_program after in
       let types = obc_types (types_of after) in
-      let nodes = ready_nodes targets calls_law program after r ok form short fs made in
       meaning_law one outputs_law types (callees_of after) (controls_in after) choices fs (in_turn types (known_of low) [] low fs nodes.turned) fit nodes.some
+
+  -- so have those of a program that can be compiled
+  pub compiled_law : (program after : List Item) → HasTypesOf program (lowered_program after) → IsCompilable (lowered_program after) → EachNode NodeShort (lowered_program after) → (choices : Choices) → AreChoices after choices
+      → (fs : List FlatNode) → AreMadeOf (known_of (lowered_program after)) (lowered_program after) fs → HasOneMeaningUnder choices (callees_of after) fs
+  compiled_law program after t c short choices fit fs made = of_nodes after choices fit fs (compiled_nodes targets calls_law program after t c short fs made)
+
+  pub ready_law : ReadyLaw
+  ready_law program after r ok form short choices fit fs made = of_nodes after choices fit fs (ready_nodes targets calls_law program after r ok form short fs made)
 
   pub text_law : TextLaw
   text_law text tokens program after a p n t d f i c choices fit fs made =

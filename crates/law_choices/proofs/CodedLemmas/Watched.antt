@@ -47,7 +47,7 @@ constructor-of types (Enum t) (E u d) c h a k = let e = bytes_at types t h in le
     nat-self d = grind (arith, nat_tests)
 constructor-of types (Enum t) v c h a k = absurd k
 
-holds-front : (c more : Clock) (now : Instant) → holds (c ++ more) now ≡ true → holds c now ≡ true
+pub holds-front : (c more : Clock) (now : Instant) → holds (c ++ more) now ≡ true → holds c now ≡ true
 holds-front [] more now h = refl
 holds-front (on ∷ c) more now h = by (has_constructor on.1 (now on.0)) h (holds-front c more now)
   where
@@ -69,7 +69,7 @@ module _ (answers : Answers) (past : List Instant) (now : Instant) (types : List
 
   module _ (n : FlatNode) (clock : ℕ → Clock) (typed : IsTypedAt types n clock now) where
     -- the value that is lifted is of its kind
-    value-typed : (c : Clock) (x : ℕ) → IsOn n clock c (type_at n x) x → HasValue types (type_at n x) → (b : Bool) → holds c now ≡ b → IsOfKind (kind_of_type types (type_at n x)) (if b then now x else some_value (type_at n x))
+    pub value-typed : (c : Clock) (x : ℕ) → IsOn n clock c (type_at n x) x → HasValue types (type_at n x) → (b : Bool) → holds c now ≡ b → IsOfKind (kind_of_type types (type_at n x)) (if b then now x else some_value (type_at n x))
     value-typed c x on value true e = let front = on.there in typed x on.variable (holds-front (clock x) front.0 now (ap (λ d. holds d now) (sym front.1) ∙ e))
     value-typed c x on value false e = (first_of types (type_at n x) value).0
 

@@ -23,8 +23,7 @@ use Rattle.law_equations.specs.Flattened.Numbered.{AreEquationsFor, AreRows, Sta
 use Rattle.law_equations.specs.Made.Labels.{AreMadeAt, Label, arms_labels, block_labels, compares_or_calls, comparison, eqn_labels, eqns_labels, events, expr_labels, exprs_labels, output_places, parts_labels, places_of, with_comparison, calling}
 use Rattle.law_equations.specs.Meaning.Instants.{Instant, holds}
 use Rattle.law_equations.specs.Meaning.Reactions.{has, is_set}
-use Rattle.law_choices.specs.Flat.Places.{AreAlone, IsOn}
-use Rattle.law_choices.specs.Places.Named.{IsIn}
+use Rattle.law_choices.specs.Flat.Places.{IsIn, AreAlone, IsOn}
 
 -- ---- rows of places
 

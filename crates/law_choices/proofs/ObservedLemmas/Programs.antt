@@ -87,7 +87,7 @@ each_node P Q f [] h = tt
 each_node P Q f (TypeItem t ∷ items) h = each_node P Q f items h
 each_node P Q f (NodeItem n ∷ items) h = (f n h.0, each_node P Q f items h.1)
 
-each_low : (enums : Enumerations) (P : Node → Type 0) (items : List Item) → EachNode (λ n. P (lowered_node enums n)) items → EachNode P (map (lowered_item enums) items)
+pub each_low : (enums : Enumerations) (P : Node → Type 0) (items : List Item) → EachNode (λ n. P (lowered_node enums n)) items → EachNode P (map (lowered_item enums) items)
 each_low enums P [] h = tt
 each_low enums P (TypeItem t ∷ items) h = each_low enums P items h
 each_low enums P (NodeItem n ∷ items) h = (h.0, each_low enums P items h.1)

@@ -12,11 +12,10 @@ use Rattle.hp_tree.specs.Meaning.{types_of, controls_of}
 use Rattle.hp_meaning.specs.Causal.Runs.{NoControls}
 use Rattle.law_judged.specs.Named.Scoped.{EachNode}
 use Rattle.law_values.specs.Accepted.Laws.{IsReady}
-use Rattle.hp_expand.specs.Numbering.{replaced}
 use Rattle.hp_automata.specs.Lowering as lowering
 use Rattle.hp_automata.specs.Lowering.{Types, Enumerations, enumerations, lowered_contract, lowered_item, lowered_program}
 use Rattle.law_automata.specs.Lowered.Removable.{IsRemovable}
-use Rattle.law_automata.proofs.LowerableLemmas.Texts.{clocked_of, each_reverse}
+use Rattle.law_automata.proofs.LowerableLemmas.Texts.{each_reverse}
 use Rattle.hp_flat.specs.Equations.{FlatEqn}
 use Rattle.hp_flat.specs.Nodes.{FlatNode}
 use Rattle.law_equations.specs.Flattened.Lifted.{in_body}
@@ -28,11 +27,9 @@ use Rattle.law_equations.specs.Made.Making.{Known, outputs_of, sketch_node}
 use Rattle.law_equations.specs.Made.Types.{obc_types, obc_types_of}
 use Rattle.law_wellmade.specs.Spelled.Integers.{NodeShort}
 use Rattle.law_automata.specs.Readied.Sound.{SoundBehind}
-use Rattle.law_automata.proofs.ReadiedLemmas.SoundPrograms.{ready_sound_law}
 use Rattle.hp_complete.specs.Declaring.{known_of}
 use Rattle.hp_complete.specs.Made.{AreMadeOf}
 use Rattle.hp_complete.proofs.KnownLaws.{nodes-known}
-use Rattle.law_wellmade.proofs.BegunLemmas.NamesApart.{lowered_apart}
 use Rattle.law_wellmade.specs.Regular.Kinds.{kinds_of_decls}
 use Rattle.law_history.proofs.StreamsLemmas.Asked.{names_behind, calls_named, Splits, split_next, split_first}
 use Rattle.law_history.proofs.StreamsLemmas.NamesApart.{each_found}
@@ -41,11 +38,13 @@ use Rattle.law_history.proofs.StreamsLemmas.Texts.{none_controlled}
 use Rattle.law_choices.specs.OnClocks.Meaning.{AreInTurn, HasSome}
 use Rattle.law_choices.specs.OnClocks.Programs.{ReadyLaw, TextMeaningLaw}
 use Rattle.law_choices.specs.OnClocks.WellMade.{given_to, calls_of, callees_of, CalleesLaw}
-use Rattle.law_wellmade.proofs.BegunLemmas.Items.{some_constructors}
-use Rattle.law_choices.proofs.OnClocksLemmas.Programs.{Clocked, some_of, ready_clocked}
+use Rattle.law_wellmade.proofs.BegunLemmas.Items.{types_low}
+use Rattle.law_wellmade.proofs.RegularLemmas.RegularLaws.{lowered}
+use Rattle.law_choices.specs.Closed.Compilable.{HasTypesOf, IsCompilable}
+use Rattle.law_choices.proofs.OnClocksLemmas.Programs.{Clocked, compiled_clocked, compilable_law}
 use Rattle.law_choices.proofs.OnClocksLemmas.CallKinds.{uncontrolled_callees}
 use Rattle.law_choices.proofs.OnClocksLemmas.Headed.{KindsSigned}
-use Rattle.law_choices.proofs.OnClocksLemmas.WellMade.{made_law}
+use Rattle.law_choices.proofs.OnClocksLemmas.WellMade.{compiled_made}
 use Rattle.law_choices.proofs.OnClocksLemmas.Texts.{when_accepted}
 use Rattle.law_choices.proofs.OnClocksLemmas.Meanings.{kinds_some, meaning_law}
 
@@ -168,19 +167,24 @@ pub record AreReady (after : List Item) (fs : List FlatNode) : Type 0 where
   pub turned : AreTurned (obc_types (types_of after)) (known_of (lowered_program after)) [] (lowered_program after) fs
   pub some : (g : List ℕ) → AllByRecursion HasSome ((callees_of after).gives g)
 
+pub compiled_nodes : TargetsLaw → CallsLaw → (program after : List Item) → HasTypesOf program (lowered_program after) → IsCompilable (lowered_program after) → EachNode NodeShort (lowered_program after) → (fs : List FlatNode) → AreMadeOf (known_of (lowered_program after)) (lowered_program after) fs
+    → AreReady after fs
+compiled_nodes targets calls_law program after t c short fs made =
+    let low = lowered_program after in
+    let types = obc_types (types_of after) in
+    let same : types_of low ≡ types_of after = types_low (enumerations [] after) after in
+    let clocked = subst (λ ts. EachNode (Clocked (obc_types ts) (known_of low)) low) same (compiled_clocked program low t c) in
+    let well = subst (λ ts. AllByRecursion (IsWellMade (obc_types ts) (calls_of (obc_types ts) (known_of low))) fs) same (compiled_made targets program low t c short fs made) in
+    record {
+      turned = turned calls_law types (types_of low) low c.sound [] low (split_first low) fs made (all_fresh low c.apart) clocked well;
+      some = gives_some types low (each_gives types (known_of low) low fs made clocked well);
+    }
+
 pub ready_nodes : TargetsLaw → CallsLaw → (program after : List Item) → IsReady program after → IsRemovable after → TypesForm (obc_types_of program) → EachNode NodeShort after → (fs : List FlatNode) → AreMadeOf (known_of (lowered_program after)) (lowered_program after) fs
     → AreReady after fs
 ready_nodes targets calls_law program after r ok form short fs made =
-    let low = lowered_program after in
-    let types = obc_types (types_of after) in
-    let clocked = ready_clocked program after r ok form in
-    let well = made_law targets program after r ok form short fs made in
-    let sound = ready_sound_law program after r ok (some_constructors program (some_of (types_of program) form.counts)) in
-    let apart = lowered_apart program after r.named (clocked_of (replaced program) after r.clocks) in
-    record {
-      turned = turned calls_law types (types_of after) low sound [] low (split_first low) fs made (all_fresh low apart) clocked well;
-      some = gives_some types low (each_gives types (known_of low) low fs made clocked well);
-    }
+    let c = compilable_law program after r ok form in
+    compiled_nodes targets calls_law program after c.0 c.1 (lowered after ok short) fs made
 
 module _ (targets : TargetsLaw) (calls_law : CallsLaw) (one : OneReactionLaw) (outputs_law : OutputsOfKindsLaw) where
   pub ready_law : ReadyLaw

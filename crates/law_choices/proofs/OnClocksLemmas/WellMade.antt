@@ -44,7 +44,7 @@ use Rattle.law_wellmade.proofs.RegularLemmas.GoodPrograms.{NodeGood}
 use Rattle.law_wellmade.proofs.RegularLemmas.RegularLaws.{lowered}
 use Rattle.law_wellmade.specs.Spelled.Integers.{NodeShort}
 use Rattle.law_choices.specs.Closed.Closed.{IsClosed}
-use Rattle.law_choices.specs.Closed.Clocking.{HasClocks}
+use Rattle.law_choices.specs.Closed.Clocking.{HasClocks, HasOwnClocks}
 use Rattle.law_choices.specs.Closed.Exclusive.{IsParted}
 use Rattle.law_choices.proofs.ClosedLemmas.ClosedLaws.{each_other, each_both, NodeFilled, closed, in_range}
 use Rattle.law_choices.proofs.ClosedLemmas.Clocking.{fit_law}
@@ -52,7 +52,7 @@ use Rattle.law_choices.proofs.ClosedLemmas.Exclusive.{is_exclusive, parted_law}
 use Rattle.law_choices.specs.OnClocks.WellMade.{calls_of, callees_of, MadeLaw, ReactionsLaw}
 use Rattle.law_choices.specs.Closed.Compilable.{HasTypesOf, IsCompilable}
 use Rattle.law_wellmade.proofs.BegunLemmas.Items.{each_plain, types_low, names_of_types}
-use Rattle.law_choices.proofs.OnClocksLemmas.Programs.{many_types, constructors_differ, compilable_law, clocks_law}
+use Rattle.law_choices.proofs.OnClocksLemmas.Programs.{all_clocked, compiled_clocked, many_types, constructors_differ, compilable_law}
 use Rattle.law_choices.proofs.OnClocksLemmas.Compilable.{compiled_good, compiled_filled, compiled_begun}
 use Rattle.law_choices.proofs.OnClocksLemmas.CallKinds.{compiled_kinds}
 
@@ -156,12 +156,6 @@ pub record IsSound (types : List ObcType) (callees : Callees) (f : FlatNode) : T
 abbrev pub IsKnown : List ObcType → Callees → FlatNode → Type 0
 IsKnown types callees f = IsSound types callees f × (IsClosed f × IsParted f)
 
--- so it is of each node of a ready program without its automata
-abbrev pub KnownLaw : Type 0
-KnownLaw =
-    (program after : List Item) → IsReady program after → IsRemovable after → TypesForm (obc_types_of program) → EachNode NodeShort after
-    → (fs : List FlatNode) → AreMadeOf (known_of (lowered_program after)) (lowered_program after) fs → AllByRecursion (IsKnown (obc_types (types_of after)) (callees_of after)) fs
-
 well_made : (types : List ObcType) (callees : Callees) (f : FlatNode) → IsSound types callees f → (IsClosed f × IsParted f) × HasClocks types f → IsWellMade types callees f
 well_made types callees f s h =
     record {
@@ -231,17 +225,17 @@ module _ (law : TargetsLaw) (program low : List Item) (t : HasTypesOf program lo
       let parted = parted_law (types_of low) outputs k low fs (compiled_knows program low t c) (constructors_differ program low t) (each_plain low c.whole) c.tested made in
       pair_up (IsSound types (calls_of types k)) (λ f. IsClosed f × IsParted f) fs compiled_sound (pair_up IsClosed IsParted fs compiled_closed parted)
 
-known_law : TargetsLaw → KnownLaw
-known_law law program after r ok form short fs made =
-    let low = lowered_program after in
-    let c = compilable_law program after r ok form in
-    subst (λ ts. AllByRecursion (IsKnown (obc_types ts) (calls_of (obc_types ts) (known_of low))) fs) (types_low (enumerations [] after) after) (compiled_known law program low c.0 c.1 (lowered after ok short) fs made)
+  -- so it is well made
+  pub compiled_made : AllByRecursion (IsWellMade types (calls_of types k)) fs
+  compiled_made =
+      let clocks = each_other (HasOwnClocks types) (HasClocks types) (λ f h. (h.clock, h.clocks)) fs (all_clocked types k low fs made (compiled_clocked program low t c)) in
+      each_both (IsKnown types (calls_of types k)) (HasClocks types) (IsWellMade types (calls_of types k)) (λ f p h. well_made types (calls_of types k) f p.0 (p.1, h)) fs compiled_known clocks
 
 pub made_law : TargetsLaw → MadeLaw
 made_law law program after r ok form short fs made =
-    let types = obc_types (types_of after) in
-    let callees = callees_of after in
-    each_both (IsKnown types callees) (HasClocks types) (IsWellMade types callees) (λ f k h. well_made types callees f k.0 (k.1, h)) fs (known_law law program after r ok form short fs made) (clocks_law program after r ok form fs made)
+    let low = lowered_program after in
+    let c = compilable_law program after r ok form in
+    subst (λ ts. AllByRecursion (IsWellMade (obc_types ts) (calls_of (obc_types ts) (known_of low))) fs) (types_low (enumerations [] after) after) (compiled_made law program low c.0 c.1 (lowered after ok short) fs made)
 
 pub reactions_law : TargetsLaw → OneReactionLaw → ReactionsLaw
 reactions_law law one program after r ok form short fs made answers typed =

@@ -96,7 +96,7 @@ module _ (outputs : List ℕ → List (List ℕ)) (R : Place → Place → Type 
     eqns-hidden (more_eqns e es) w here h =
         all-both (found_in_eqn outputs e (below Head w) (below Head here)) (found_in_eqns outputs es (below Tail w) (below Tail here)) (eqn-hidden e (below Head w) (below Head here) (λ p. h (Head ∷ p))) (eqns-hidden es (below Tail w) (below Tail here) (λ p. h (Tail ∷ p)))
 
-    eqn-hidden : (e : Eqn) (w here : Prefix) → Hidden w → All (found_in_eqn outputs e w here)
+    pub eqn-hidden : (e : Eqn) (w here : Prefix) → Hidden w → All (found_in_eqn outputs e w here)
     eqn-hidden (define s ys e) w here h = expr-related e (below Right w) (below Right here) (λ p. h (Right ∷ p) ((below Right here) p))
     eqn-hidden (switch s e arms) w here h =
         all-both (found outputs e (below Test w) (below Test here)) (found_in_arms outputs arms (below ArmsOf w) (below ArmsOf here)) (expr-related e (below Test w) (below Test here) (λ p. h (Test ∷ p) ((below Test here) p))) (arms-hidden arms (below ArmsOf w) (below ArmsOf here) (λ p. h (ArmsOf ∷ p)))

@@ -212,6 +212,7 @@ module _ (laws : GreatestLaws) (program after : List Item) (ranks : List (List �
     pub its : IsItsChoice answers ((callees_of after).takes c.plant.name) (length (controls_in after c.plant.name)) c.own (choices c.plant.name)
     pub teller : Answered answers all.takes (telling c.chosen)
     pub equations : IsMadeEqns k (lowered_node enums n) c.plant
+    pub contract : (d : Contract) × (n.contract ≡ Some d)
 
   abbrev Found : Node → Type 0
   Found n = (n.contract ≡ None) ⊎ FoundMade n
@@ -275,8 +276,13 @@ module _ (laws : GreatestLaws) (program after : List Item) (ranks : List (List �
         its = their.0;
         teller = given.1.1.0;
         equations = of.0;
+        contract = some m.contract refl is.0;
       } in
       (subst (λ z. FoundOf z c) e.0 (subst (FoundOf m) same found), subst (λ (z : Contracted). Q z.plant) same qs.0)
+    where
+      some : (o : Option Contract) → m.contract ≡ o → IsMade types observers m o (contracted d) → (x : Contract) × (m.contract ≡ Some x)
+      some None q i = absurd i
+      some (Some x) q i = (x, q)
   find-of Q n c (NodeItem m ∷ items) (contracted d ∷ made) is of own grounded given their qs (inr among) = find-of Q n c items made is.1 of.1 own.1 grounded.1 given.1.1.1 their.1 qs.1 among
 
   -- ---- a node

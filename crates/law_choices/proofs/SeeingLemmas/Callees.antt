@@ -20,7 +20,7 @@ use Rattle.law_equations.specs.Meaning.Kinding.{kind_of_type}
 use Rattle.hp_complete.specs.Declaring.{known_of}
 use Rattle.law_history.proofs.StreamsLemmas.NamesApart.{each_found}
 use Rattle.law_wellmade.specs.Timely.Kinds as timely
-use Rattle.law_choices.specs.Seeing.ByName.{outputs_in}
+use Rattle.law_choices.specs.Seeing.Around.{outputs_in}
 use Rattle.law_choices.proofs.AnsweredLemmas.Programs.{decls_kinds}
 use Rattle.law_choices.proofs.OnClocksLemmas.Programs.{some_of}
 use Rattle.law_choices.proofs.SeeingLemmas.Listed.{SameKind}

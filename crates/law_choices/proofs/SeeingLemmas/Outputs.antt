@@ -22,7 +22,7 @@ use Rattle.hp_complete.specs.Declaring.{known_of}
 use Rattle.hp_complete.proofs.KnownLaws.{nodes-known}
 use Rattle.law_games.specs.ReadyGames.Laws.{Stands}
 use Rattle.law_wellmade.proofs.BegunLemmas.Typing.{Grounded}
-use Rattle.law_choices.specs.Seeing.ByName.{outputs_in}
+use Rattle.law_choices.specs.Seeing.Around.{outputs_in}
 
 module _ (program after : List Item) (r : IsReady program after) (removable : IsRemovable after) (form : TypesForm (obc_types_of program)) where
   abbrev enums : Enumerations

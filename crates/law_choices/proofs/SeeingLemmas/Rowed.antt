@@ -69,7 +69,7 @@ walked-have P b es h =
     all (m ∷ ms) (u ∷ us) a = (a.0, all ms us a.1)
 
 -- a comparison that brings a truth value compares integers
-of-integers : (t : Ty) → of_compared (Some t) ≡ ty.Bool ∷ [] → t ≡ ty.Int
+pub of-integers : (t : Ty) → of_compared (Some t) ≡ ty.Bool ∷ [] → t ≡ ty.Int
 of-integers ty.Int e = refl
 of-integers ty.Bool e = absurd cc
 of-integers (ty.Enum x) e = absurd cc

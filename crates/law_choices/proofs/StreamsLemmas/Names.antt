@@ -6,7 +6,6 @@ use Rattle.std.specs.Str.{bytes_eq}
 use Rattle.hp_base.specs.Kinds.{KindData, AreOfKinds}
 use Rattle.hp_base.specs.declared.value.Value.{Value}
 use Rattle.hp_base.specs.declared.span.Span.{Span}
-use Rattle.hp_obc.specs.Form.{TypesForm}
 use Rattle.hp_tree.specs.declared.program.Item.{Item}
 use Rattle.hp_tree.specs.declared.program.Item.TheVariants.{TypeItem, NodeItem}
 use Rattle.hp_tree.specs.Blocks.{Decl, Block, block}
@@ -17,21 +16,18 @@ use Rattle.hp_tree.specs.Instant.{Named, Body, Instant, Past}
 use Rattle.hp_tree.specs.Meaning.{types_of, declares, node_among}
 use Rattle.hp_tree.specs.Reaction.{Each}
 use Rattle.hp_meaning.specs.Causal.OneReaction.{ReactionOf}
-use Rattle.hp_meaning.specs.Causal.RanksOfPoints.{AllFall}
 use Rattle.law_judged.specs.Named.Scoped.{EachNode}
-use Rattle.law_values.specs.Accepted.Laws.{IsReady}
 use Rattle.law_values.specs.Filled.Under.{PastsUnder}
 use Rattle.hp_automata.specs.Lowering as lowering
 use Rattle.hp_automata.specs.Lowering.{Types, Enumerations, enumerations, lowered_body_of, lowered_node, lowered_program}
 use Rattle.hp_automata.specs.Renaming.{renamed_decls}
-use Rattle.law_automata.specs.Lowered.Removable.{IsRemovable}
 use Rattle.law_automata.specs.Lowered.Standing.{Along, NodeStands, either_is, stands_among, Stands}
 use Rattle.law_automata.proofs.LowerableLemmas.Runs.{lowered_there}
 use Rattle.law_automata.specs.Readied.Laws.{IsWhole}
 use Rattle.hp_flat.specs.Nodes.{FlatNode}
 use Rattle.law_equations.specs.Meaning.Instants as flows
 use Rattle.law_equations.specs.Meaning.Reactions.{Answers}
-use Rattle.law_equations.specs.Made.Types.{obc_types, obc_types_of}
+use Rattle.law_equations.specs.Made.Types.{obc_types}
 use Rattle.hp_complete.specs.Declaring.{known_of}
 use Rattle.hp_complete.specs.Made.{IsMadeOf, AreMadeOf}
 use Rattle.law_equations.specs.Answered.Answering.{given_each, AreApart}
@@ -49,9 +45,10 @@ use Rattle.law_choices.specs.Runs.Laws.{ChoosesValues}
 use Rattle.law_choices.specs.Flat.Answering.{AnsweringUnder, ControlsDiffer}
 use Rattle.law_equations.specs.Made.Blocks.{locals_of}
 use Rattle.law_choices.specs.Flat.Names.{is_body_name, values_of, ReadsNames, NamesLaw as NodeNamesLaw}
+use Rattle.law_choices.specs.Streams.Meaningful.{IsMeaningful}
 use Rattle.law_choices.specs.Streams.Names.{AreUnder, IsOnlyReaction, KeepsNamesOf, NamesLaw, TextNamesLaw}
 use Rattle.law_choices.proofs.StreamsLemmas.Alike.{only_law}
-use Rattle.law_choices.proofs.StreamsLemmas.Streams.{Prepared, one_made, all_of, ReadyLaws, Joined, joined, takes_its, filled_one, outputs_are}
+use Rattle.law_choices.proofs.StreamsLemmas.Streams.{Prepared, one_made, all_of, MeaningLaws, ReadyLaws, Joined, joined, ready_meaningful, takes_its, filled_one, outputs_are}
 
 -- ---- the names of a body, with and without automata
 
@@ -126,7 +123,7 @@ module _ (choices : Choices) (program : List Item) (p : Prepared choices program
 
 -- ---- joined
 
-module _ (laws : ReadyLaws) (program after : List Item) (ranks : List (List ℕ)) (r : IsReady program after) (ok : IsRemovable after) (fall : AllFall after ranks) (form : TypesForm (obc_types_of program)) (choices : Choices)
+module _ (laws : MeaningLaws) (program after : List Item) (m : IsMeaningful program after) (choices : Choices)
     (values : EachNode (ChoosesValues (types_of after) choices) after) (fs : List FlatNode) (made : AreMadeOf (known_of (lowered_program after)) (lowered_program after) fs) (one : HasOneMeaningUnder choices (callees_of after) fs) (j : Joined choices after fs one) where
   -- reactions of clocked equations are those of the one meaning
   abbrev pub OnlyOf : FlatNode → Type 0
@@ -137,12 +134,12 @@ module _ (laws : ReadyLaws) (program after : List Item) (ranks : List (List ℕ)
   keeps_names g read only n inputs e kinds_fit =
       let enums = enumerations [] after in
       let low = lowered_program after in
-      let m = lowered_node enums n in
+      let low_node = lowered_node enums n in
       let p = j.prepared in
       let there = lowered_there after g.name n e in
-      let it = filled_one choices after fs one j g.name n e inputs kinds_fit laws program ranks r ok fall form values in
-      let name : m.name ≡ g.name = name_found (reverse low) g.name m there in
-      let same_node : read.0 ≡ m = some_same read.0 m (sym read.1 ∙ there) in
+      let it = filled_one choices after fs one j g.name n e inputs kinds_fit laws m.values values in
+      let name : low_node.name ≡ g.name = name_found (reverse low) g.name low_node there in
+      let same_node : read.0 ≡ low_node = some_same read.0 low_node (sym read.1 ∙ there) in
       let reads = subst (λ (z : Node). ReadsOf choices low p j.answers g z) same_node read.2 in
       let of_types : Each (AreOf (types_of low) n.inputs) inputs = all_of (types_of low) n.inputs inputs p.distinct (subst (λ ts. AllByRecursion (AreOfKinds (kinds_of_decls ts n.inputs)) inputs) (sym j.same) kinds_fit) in
       let reaction = subst (λ (x : List ℕ). ReactionOf (chosen_meaning choices filled low x) inputs (given_each (p.fills x) inputs) it.filled.past) (sym name) it.filled.is_one in
@@ -165,14 +162,15 @@ module _ (laws : ReadyLaws) (program after : List Item) (ranks : List (List ℕ)
       }
 
 pub names_law : NodeNamesLaw → ReadyLaws → NamesLaw
-names_law names laws program after ranks r ok fall form short choices values fit fs made one =
+names_law names ready program after ranks r ok fall form short choices values fit fs made one =
+    let laws = ready.meaning in
     let low = lowered_program after in
-    let j = joined laws program after ranks r ok fall form short choices values fit fs made one in
+    let m = ready_meaningful ready program after ranks r ok fall form short in
+    let j = joined laws program after m choices values fit fs made one in
     let p = j.prepared in
     let read = all_read choices low p j.answers names j.answering [] low fs (split_first low) p.whole p.differ made in
     let only = only_law laws.one laws.outputs (obc_types (types_of after)) (callees_of after) (controls_in after) choices fs j.turned fit one j.answers j.gives in
-    each_both (Reads choices low p j.answers) (OnlyOf laws program after ranks r ok fall form choices values fs made one j) (KeepsNamesOf choices after one.answers)
-    (keeps_names laws program after ranks r ok fall form choices values fs made one j) fs read only
+    each_both (Reads choices low p j.answers) (OnlyOf laws program after m choices values fs made one j) (KeepsNamesOf choices after one.answers) (keeps_names laws program after m choices values fs made one j) fs read only
 
 -- so of the program of a text that the judgements accept
 pub text_names_law : MeaningTextLaw → NodeNamesLaw → ReadyLaws → TextNamesLaw

@@ -3,7 +3,6 @@ use Rattle.std.proofs.Common.{◌≡◌, ℕ, List, [], ◌∷◌, ◌++◌, rev
 use Rattle.std.specs.Prelude.{Some}
 use Rattle.std.specs.List.{AllByRecursion}
 use Rattle.hp_base.specs.Kinds.{KindData, AreOfKinds}
-use Rattle.hp_obc.specs.Form.{TypesForm}
 use Rattle.hp_tree.specs.declared.program.Item.{Item}
 use Rattle.hp_tree.specs.declared.program.Item.TheVariants.{TypeItem, NodeItem}
 use Rattle.hp_tree.specs.Programs.{Node}
@@ -12,16 +11,13 @@ use Rattle.hp_tree.specs.Values.{AreOf}
 use Rattle.hp_tree.specs.Meaning.{types_of, node_among}
 use Rattle.hp_tree.specs.Reaction.{Each}
 use Rattle.hp_meaning.specs.Causal.OneReaction.{ReactionOf}
-use Rattle.hp_meaning.specs.Causal.RanksOfPoints.{AllFall}
 use Rattle.law_judged.specs.Named.Scoped.{EachNode}
-use Rattle.law_values.specs.Accepted.Laws.{IsReady}
 use Rattle.hp_automata.specs.Lowering.{enumerations, lowered_node, lowered_program}
-use Rattle.law_automata.specs.Lowered.Removable.{IsRemovable}
 use Rattle.law_automata.proofs.LowerableLemmas.Runs.{lowered_there}
 use Rattle.law_automata.specs.Readied.Laws.{IsWhole}
 use Rattle.hp_flat.specs.Nodes.{FlatNode}
 use Rattle.law_equations.specs.Meaning.Reactions.{Answers}
-use Rattle.law_equations.specs.Made.Types.{obc_types, obc_types_of}
+use Rattle.law_equations.specs.Made.Types.{obc_types}
 use Rattle.hp_complete.specs.Declaring.{known_of}
 use Rattle.hp_complete.specs.Made.{IsMadeOf, AreMadeOf}
 use Rattle.law_equations.specs.Answered.Answering.{given_each, AreApart}
@@ -32,16 +28,17 @@ use Rattle.law_history.proofs.StreamsLemmas.NamesApart.{name_found, own_found}
 use Rattle.law_choices.specs.OnClocks.WellMade.{callees_of}
 use Rattle.law_choices.specs.Choosing.Choices.{Choices}
 use Rattle.law_choices.specs.Choosing.Meaning.{HasOneMeaningUnder}
-use Rattle.law_choices.specs.Choosing.Programs.{controls_in}
+use Rattle.law_choices.specs.Choosing.Programs.{controls_in, AreChoices}
 use Rattle.law_choices.specs.Runs.Chosen.{chosen_meaning}
 use Rattle.law_choices.specs.Runs.Laws.{ChoosesValues}
 use Rattle.law_choices.specs.Flat.Answering.{AnsweringUnder, ControlsDiffer}
 use Rattle.law_choices.specs.Flat.Places.{StandInPlaces, PlacesLaw as NodePlacesLaw}
 use Rattle.law_choices.specs.Seeing.Found.{FilledFoundLaw}
-use Rattle.law_choices.specs.Streams.Places.{KeepsPlacesOf, PlacesLaw, outputs_low}
+use Rattle.law_choices.specs.Streams.Meaningful.{IsMeaningful}
+use Rattle.law_choices.specs.Streams.Places.{AllKeepPlaces, KeepsPlacesOf, PlacesLaw, outputs_low}
 use Rattle.law_choices.proofs.StreamsLemmas.Alike.{only_law}
 use Rattle.law_choices.proofs.StreamsLemmas.Names.{OnlyOf, some_same}
-use Rattle.law_choices.proofs.StreamsLemmas.Streams.{Prepared, one_made, all_of, ReadyLaws, Joined, joined, takes_its, filled_one, outputs_are}
+use Rattle.law_choices.proofs.StreamsLemmas.Streams.{Prepared, one_made, all_of, MeaningLaws, ReadyLaws, Joined, joined, ready_meaningful, takes_its, filled_one, outputs_are}
 
 -- ---- the nodes of a program without automata
 
@@ -74,18 +71,18 @@ module _ (choices : Choices) (program : List Item) (p : Prepared choices program
 
 -- ---- joined
 
-module _ (laws : ReadyLaws) (found : FilledFoundLaw) (program after : List Item) (ranks : List (List ℕ)) (r : IsReady program after) (ok : IsRemovable after) (fall : AllFall after ranks) (form : TypesForm (obc_types_of program)) (choices : Choices)
+module _ (laws : MeaningLaws) (found : FilledFoundLaw) (program after : List Item) (m : IsMeaningful program after) (choices : Choices)
     (values : EachNode (ChoosesValues (types_of after) choices) after) (fs : List FlatNode) (made : AreMadeOf (known_of (lowered_program after)) (lowered_program after) fs) (one : HasOneMeaningUnder choices (callees_of after) fs) (j : Joined choices after fs one) where
-  keeps_places : (g : FlatNode) → InPlaces choices (lowered_program after) j.prepared j.answers g → OnlyOf laws program after ranks r ok fall form choices values fs made one j g → KeepsPlacesOf choices after one.answers g
+  keeps_places : (g : FlatNode) → InPlaces choices (lowered_program after) j.prepared j.answers g → OnlyOf laws program after m choices values fs made one j g → KeepsPlacesOf choices after one.answers g
   keeps_places g stand only n inputs e kinds_fit =
       let low = lowered_program after in
-      let m = lowered_node (enumerations [] after) n in
+      let low_node = lowered_node (enumerations [] after) n in
       let p = j.prepared in
       let there = lowered_there after g.name n e in
-      let it = filled_one choices after fs one j g.name n e inputs kinds_fit laws program ranks r ok fall form values in
-      let name : m.name ≡ g.name = name_found (reverse low) g.name m there in
-      let same_node : stand.0 ≡ m = some_same stand.0 m (sym stand.1 ∙ there) in
-      let its : StandInPlaces choices j.answers low (p.fills m.name) m g = subst (λ (z : Node). StandsOf choices low p j.answers g z) same_node stand.2 in
+      let it = filled_one choices after fs one j g.name n e inputs kinds_fit laws m.values values in
+      let name : low_node.name ≡ g.name = name_found (reverse low) g.name low_node there in
+      let same_node : stand.0 ≡ low_node = some_same stand.0 low_node (sym stand.1 ∙ there) in
+      let its : StandInPlaces choices j.answers low (p.fills low_node.name) low_node g = subst (λ (z : Node). StandsOf choices low p j.answers g z) same_node stand.2 in
       let of_types : Each (AreOf (types_of low) n.inputs) inputs = all_of (types_of low) n.inputs inputs p.distinct (subst (λ ts. AllByRecursion (AreOfKinds (kinds_of_decls ts n.inputs)) inputs) (sym j.same) kinds_fit) in
       let reaction = subst (λ (x : List ℕ). ReactionOf (chosen_meaning choices filled low x) inputs (given_each (p.fills x) inputs) it.filled.past) (sym name) it.filled.is_one in
       let read = its.read inputs it.filled.past of_types reaction in
@@ -102,12 +99,16 @@ module _ (laws : ReadyLaws) (found : FilledFoundLaw) (program after : List Item)
         values = read.values;
       }
 
-pub places_law : NodePlacesLaw → FilledFoundLaw → ReadyLaws → PlacesLaw
-places_law places found laws program after ranks r ok fall form short choices values fit fs made one =
+-- the places of a program whose clocked equations mean what it does
+pub meaningful_places : NodePlacesLaw → FilledFoundLaw → MeaningLaws → (program after : List Item) → IsMeaningful program after → (choices : Choices) → EachNode (ChoosesValues (types_of after) choices) after → AreChoices after choices
+    → (fs : List FlatNode) → AreMadeOf (known_of (lowered_program after)) (lowered_program after) fs → (one : HasOneMeaningUnder choices (callees_of after) fs) → AllKeepPlaces choices after one.answers fs
+meaningful_places places found laws program after m choices values fit fs made one =
     let low = lowered_program after in
-    let j = joined laws program after ranks r ok fall form short choices values fit fs made one in
+    let j = joined laws program after m choices values fit fs made one in
     let p = j.prepared in
     let stand = all_stand choices low p j.answers places j.answering [] low fs (split_first low) p.whole p.differ made in
     let only = only_law laws.one laws.outputs (obc_types (types_of after)) (callees_of after) (controls_in after) choices fs j.turned fit one j.answers j.gives in
-    each_both (InPlaces choices low p j.answers) (OnlyOf laws program after ranks r ok fall form choices values fs made one j) (KeepsPlacesOf choices after one.answers)
-    (keeps_places laws found program after ranks r ok fall form choices values fs made one j) fs stand only
+    each_both (InPlaces choices low p j.answers) (OnlyOf laws program after m choices values fs made one j) (KeepsPlacesOf choices after one.answers) (keeps_places laws found program after m choices values fs made one j) fs stand only
+
+pub places_law : NodePlacesLaw → FilledFoundLaw → ReadyLaws → PlacesLaw
+places_law places found laws program after ranks r ok fall form short = meaningful_places places found laws.meaning program after (ready_meaningful laws program after ranks r ok fall form short)

@@ -1,5 +1,5 @@
 -- The one meaning of the clocked equations of a ready program under a choice gives the outputs of its one reaction.
-use Rattle.std.proofs.Common.{◌≡◌, ℕ, suc, ◌≤◌, false, if◌then◌else◌, List, [], ◌∷◌, ◌++◌, length, map, reverse, refl, sym, ap, ap₂, subst, ◌∙◌}
+use Rattle.std.proofs.Common.{◌≡◌, ℕ, suc, false, if◌then◌else◌, List, [], ◌∷◌, ◌++◌, length, map, reverse, refl, sym, ap, ap₂, subst, ◌∙◌}
 use Rattle.std.specs.Prelude.{Some, None}
 use Rattle.std.specs.List.{AllByRecursion}
 use Rattle.std.specs.Str.{bytes_eq}
@@ -23,23 +23,19 @@ use Rattle.hp_meaning.specs.Causal.OneReaction.{ReactionOf}
 use Rattle.hp_meaning.specs.Causal.RanksOfPoints.{AllFall, AllRanksLaw}
 use Rattle.law_judged.specs.Named.Scoped.{EachNode}
 use Rattle.law_values.specs.Accepted.Laws.{IsReady}
-use Rattle.law_values.proofs.AcceptedLemmas.Assembled.{types_replaced, types_clocked}
-use Rattle.hp_expand.specs.Numbering.{no_node, replaced}
 use Rattle.law_values.specs.Valued.Values.{Classing, AreAccepted, GivenFits}
 use Rattle.hp_automata.specs.Lowering as lowering
 use Rattle.hp_automata.specs.Lowering.{Enumerations, enumerations, lowered_item, lowered_node, lowered_program}
-use Rattle.law_automata.specs.Lowered.Laws.{RanksLaw}
+use Rattle.law_automata.specs.Lowered.Laws.{OutputsLaw, RanksLaw}
 use Rattle.law_automata.specs.Lowered.Removable.{IsRemovable}
 use Rattle.law_automata.proofs.LowerableLemmas.Runs.{lowered_there}
-use Rattle.law_automata.proofs.LowerableLemmas.Texts.{clocked_of, each_reverse}
+use Rattle.law_automata.proofs.LowerableLemmas.Texts.{each_reverse}
 use Rattle.law_values.specs.Filled.Firsts.{DeclsHaveFirsts, NodeHasFirsts}
-use Rattle.law_values.proofs.FilledLemmas.Ready.{ready_firsts}
+use Rattle.law_values.specs.Filled.Laws.{ReadyFirstsLaw}
 use Rattle.law_automata.specs.Classed.Laws.{ClassesLaw}
 use Rattle.law_automata.specs.Readied.Accepted.{AcceptedLaw}
 use Rattle.law_automata.specs.Readied.Laws.{IsWhole}
 use Rattle.law_automata.specs.Readied.Sound.{SoundBehind}
-use Rattle.law_automata.proofs.ReadiedLemmas.SoundPrograms.{ready_sound_law}
-use Rattle.law_automata.proofs.ReadiedLemmas.Whole.{whole_law}
 use Rattle.hp_flat.specs.Nodes.{FlatNode}
 use Rattle.law_equations.specs.Meaning.Kinding.{OutputsOfKindsLaw, kind_of_type}
 use Rattle.law_equations.specs.Meaning.Reactions.{Answers}
@@ -55,34 +51,36 @@ use Rattle.law_equations.specs.Answered.Answering.{filled_nodes, given_each, Are
 use Rattle.law_equations.specs.Answered.Laws.{IsMade}
 use Rattle.law_wellmade.specs.Spelled.Integers.{NodeShort}
 use Rattle.law_wellmade.specs.Begun.Laws.{Begins}
-use Rattle.law_wellmade.proofs.BegunLemmas.BegunLaws.{begun}
-use Rattle.law_wellmade.proofs.BegunLemmas.LoweredFirsts.{lowered_firsts}
-use Rattle.law_wellmade.proofs.TestedLemmas.FittedLaws.{differ_law}
-use Rattle.law_wellmade.proofs.TestedLemmas.TestedPrograms.{tested_law}
+use Rattle.law_wellmade.proofs.RegularLemmas.RegularLaws.{lowered}
 use Rattle.law_wellmade.specs.Timely.Kinds.{takes_among}
 use Rattle.law_wellmade.specs.Timely.Kinds as timely
 use Rattle.law_wellmade.specs.Timely.Tested.{ConstructorsDiffer, AreTested}
 use Rattle.law_wellmade.proofs.TimelyLemmas.KindLaws.{are_of}
 use Rattle.law_wellmade.specs.Regular.Kinds.{kinds_of_decls}
 use Rattle.law_history.proofs.StreamsLemmas.Asked.{Splits, split_next, split_first, calls_before}
-use Rattle.law_history.proofs.StreamsLemmas.NamesApart.{name_found, each_found, own_found, ready_apart}
+use Rattle.law_history.proofs.StreamsLemmas.NamesApart.{name_found, each_found, own_found}
 use Rattle.law_choices.specs.OnClocks.Meaning.{AnswersAlike}
 use Rattle.law_choices.specs.OnClocks.WellMade.{given_to, calls_of, callees_of}
 use Rattle.law_choices.proofs.OnClocksLemmas.ArmNumbers.{AreFew}
-use Rattle.law_choices.proofs.OnClocksLemmas.OneMeaning.{AreTurned, ready_nodes}
-use Rattle.law_wellmade.proofs.BegunLemmas.Items.{types_low, names_of_types, some_constructors}
-use Rattle.law_choices.proofs.OnClocksLemmas.Programs.{few_of, some_of, number_of}
+use Rattle.law_choices.proofs.OnClocksLemmas.OneMeaning.{AreTurned, compiled_nodes}
+use Rattle.law_wellmade.proofs.BegunLemmas.Items.{types_low, names_of_types}
+use Rattle.law_choices.proofs.OnClocksLemmas.Programs.{few_of, some_of, many_types, constructors_differ, compilable_law}
+use Rattle.law_choices.proofs.OnClocksLemmas.Compilable.{compiled_begun}
 use Rattle.law_choices.proofs.OnClocksLemmas.Texts.{when_accepted}
-use Rattle.law_choices.proofs.OnClocksLemmas.WellMade.{ready_knows}
+use Rattle.law_choices.proofs.OnClocksLemmas.WellMade.{compiled_knows}
 use Rattle.law_choices.specs.Choosing.Choices.{Choices, OneReactionLaw}
 use Rattle.law_choices.specs.Choosing.Meaning.{AreInTurn, GivesAnswer, GivesAnswers, HasOneMeaningUnder}
 use Rattle.law_choices.specs.Choosing.Programs.{steered_by, controls_in, AreChoices, TextLaw as MeaningTextLaw}
 use Rattle.law_choices.specs.Runs.Chosen.{chosen_nodes, chosen_meaning}
 use Rattle.law_choices.specs.Runs.Laws.{ChoosesValues}
-use Rattle.law_choices.specs.Filled.Ready.{FilledForOne, ReadyLaw}
+use Rattle.law_choices.specs.Filled.Ready.{FilledForOne}
+use Rattle.law_choices.specs.Filled.Valued.{HasValues}
+use Rattle.law_choices.proofs.FilledLemmas.Ready.{filled_for_one, ready_values}
+use Rattle.law_choices.proofs.RunsLemmas.Runs.{one_for_one}
 use Rattle.law_choices.specs.Flat.Answering.{AnsweringUnder, ControlsDiffer}
 use Rattle.law_choices.specs.Flat.Laws.{SomeAnswersLaw, EquationsAnswerLaw}
 use Rattle.law_choices.proofs.FlatLemmas.Behave.{outputs_answered}
+use Rattle.law_choices.specs.Streams.Meaningful.{IsMeaningful}
 use Rattle.law_choices.specs.Streams.Streams.{StreamLaw, TextLaw}
 use Rattle.law_choices.proofs.StreamsLemmas.Alike.{alike_law}
 use Rattle.law_choices.proofs.StreamsLemmas.Signatures.{controls_lowered, controls_differ}
@@ -233,23 +231,19 @@ pub all_of : (types : List TypeDecl) (ds : List Decl) (inputs : List (List Value
 all_of types ds [] d h = tt
 all_of types ds (vs ∷ inputs) d h = (are_of types ds vs d h.0, all_of types ds inputs d h.1)
 
--- ---- ready programs
+-- ---- programs that mean something
 
 -- the laws that are joined here
-pub record ReadyLaws : Type 0 where
-  pub classes : ClassesLaw
-  pub accepted : AcceptedLaw
-  pub all_ranks : AllRanksLaw
-  pub ranks : RanksLaw
+pub record MeaningLaws : Type 0 where
   pub targets : TargetsLaw
   pub calls : CallsLaw
   pub one : OneReactionLaw
   pub outputs : OutputsOfKindsLaw
-  pub filled : ReadyLaw
+  pub kept : OutputsLaw
   pub some_answers : SomeAnswersLaw
   pub equations : EquationsAnswerLaw
 
--- What is known of a ready program in which values are chosen, and of the one meaning of its clocked equations: what its nodes answer in the filled form is what these mean.
+-- What is known of such a program in which values are chosen, and of the one meaning of its clocked equations: what its nodes answer in the filled form is what these mean.
 pub record Joined (choices : Choices) (after : List Item) (fs : List FlatNode) (one : HasOneMeaningUnder choices (callees_of after) fs) : Type 0 where
   pub same : types_of (lowered_program after) ≡ types_of after
   pub prepared : Prepared choices (lowered_program after)
@@ -260,56 +254,52 @@ pub record Joined (choices : Choices) (after : List Item) (fs : List FlatNode) (
   pub turned : AreInTurn (obc_types (types_of after)) (callees_of after) (controls_in after) [] fs
   pub alike : AllByRecursion (λ (g : FlatNode). AnswersAlike one.answers answers (callees_of after).takes g.name) fs
 
-pub joined : ReadyLaws → (program after : List Item) (ranks : List (List ℕ)) → IsReady program after → IsRemovable after → AllFall after ranks → TypesForm (obc_types_of program) → EachNode NodeShort after
-    → (choices : Choices) → EachNode (ChoosesValues (types_of after) choices) after → AreChoices after choices
+pub joined : MeaningLaws → (program after : List Item) → IsMeaningful program after → (choices : Choices) → EachNode (ChoosesValues (types_of after) choices) after → AreChoices after choices
     → (fs : List FlatNode) → AreMadeOf (known_of (lowered_program after)) (lowered_program after) fs → (one : HasOneMeaningUnder choices (callees_of after) fs) → Joined choices after fs one
-joined laws program after ranks r ok fall form short choices values fit fs made one =
+joined laws program after m choices values fit fs made one =
     let enums = enumerations [] after in
     let low = lowered_program after in
     let k = known_of low in
     let types = obc_types (types_of after) in
     let callees = callees_of after in
-    let full = some_of (types_of program) form.counts in
-    let few = number_of (types_of program) form.number in
-    let cons = some_constructors program full in
+    let v = m.values in
+    let t = m.types in
+    let c = m.compilable in
+    let form = t.form in
     let same : types_of low ≡ types_of after = types_low enums after in
-    let distinct = differ_law program after r in
-    let c = laws.classes program after r ok in
-    let b = begun program after r ok full few in
+    let b = compiled_begun program low t c in
     let p : Prepared choices low = record {
-      class = c.0;
-      accepted = laws.accepted program after c.0 r ok cons c.1;
-      ranked = laws.ranks after ok (laws.all_ranks after ranks fall);
-      apart = ready_apart program after r;
-      firsts = subst (λ ts. EachNode (NodeHasFirsts ts) low) (sym same) (lowered_firsts (types_of after) enums after (ready_firsts program after r full));
-      sound = subst (λ ts. SoundBehind ts (reverse low)) (sym same) (ready_sound_law program after r ok cons);
-      whole = whole_law program after r ok;
-      differ = controls_differ program after r;
-      distinct = distinct;
-      tested = subst (λ ts. AreTested ts (reverse low)) (sym same) (tested_law program after r ok cons);
-      knows = ready_knows program after r ok form;
+      class = v.low_class;
+      accepted = v.low_accepted;
+      ranked = v.low_ranked;
+      apart = c.apart;
+      firsts = c.firsts;
+      sound = c.sound;
+      whole = c.whole;
+      differ = m.differ;
+      distinct = constructors_differ program low t;
+      tested = c.tested;
+      knows = compiled_knows program low t c;
       chooses = subst (λ ts. EachNode (ChoosesValues ts choices) (reverse low)) (sym same) (each_reverse (ChoosesValues (types_of after) choices) low (chooses_lowered (types_of after) choices enums after values));
       fills = b.0;
       begins = b.1;
     } in
-    let t = laws.some_answers choices low b.0 p.ranked in
-    let same_all : types_of low ≡ types_of program = same ∙ types_clocked (replaced program) after (clocked_of (replaced program) after r.clocks) ∙ types_replaced no_node program in
-    let many : length (types_of low) ≤ 65535 = subst (λ ts. length ts ≤ 65535) (sym same_all) few in
-    let small : AreFew (types_of low) = subst AreFew (sym same_all) (few_of (types_of program) form.counts) in
-    let taken : (g : List ℕ) (m : Node) → node_among (reverse low) g ≡ Some m → DeclsHaveFirsts (types_of low) m.inputs → callees.takes g ≡ timely.kinds_of_decls (types_of low) m.inputs = λ g m e h.
-    ap (λ o. kinds_of_decls types k (given_to o)) (nodes-known low g ∙ e) ∙ ap (λ ts. kinds_of_decls (obc_types ts) k m.inputs) (sym same) ∙ kinds_same low (names_of_types low) many small m.inputs h in
-    let turned = ready_nodes laws.targets laws.calls program after r ok form short fs made in
-    let gives = all_give laws.equations choices low p t.0 t.1 callees.takes taken [] low fs (split_first low) p.whole p.differ p.firsts made in
+    let s = laws.some_answers choices low b.0 p.ranked in
+    let few : AreFew (types_of low) = subst AreFew (sym t.same) (few_of (types_of program) form.counts) in
+    let taken : (g : List ℕ) (n : Node) → node_among (reverse low) g ≡ Some n → DeclsHaveFirsts (types_of low) n.inputs → callees.takes g ≡ timely.kinds_of_decls (types_of low) n.inputs = λ g n e h.
+    ap (λ o. kinds_of_decls types k (given_to o)) (nodes-known low g ∙ e) ∙ ap (λ ts. kinds_of_decls (obc_types ts) k n.inputs) (sym same) ∙ kinds_same low (names_of_types low) (many_types program low t) few n.inputs h in
+    let turned = compiled_nodes laws.targets laws.calls program after t c m.short fs made in
+    let gives = all_give laws.equations choices low p s.0 s.1 callees.takes taken [] low fs (split_first low) p.whole p.differ p.firsts made in
     let in_turns = in_turn types k [] low fs turned.turned in
     record {
       same = same;
       prepared = p;
-      answers = t.0;
-      answering = t.1;
+      answers = s.0;
+      answering = s.1;
       taken = taken;
       gives = gives;
       turned = in_turns;
-      alike = alike_law laws.one laws.outputs types callees (controls_in after) choices fs in_turns fit one t.0 gives;
+      alike = alike_law laws.one laws.outputs types callees (controls_in after) choices fs in_turns fit one s.0 gives;
     }
 
 module _ (choices : Choices) (after : List Item) (fs : List FlatNode) (one : HasOneMeaningUnder choices (callees_of after) fs) (j : Joined choices after fs one) (f : List ℕ) (n : Node) (e : node_among (reverse after) f ≡ Some n) where
@@ -333,15 +323,13 @@ module _ (choices : Choices) (after : List Item) (fs : List FlatNode) (one : Has
 
   module _ (inputs : List (List Value)) (kinds_fit : AllByRecursion (AreOfKinds (timely.kinds_of_decls (types_of after) n.inputs)) inputs) where
     -- its one reaction, and that of the filled form without automata
-    pub filled_one : ReadyLaws → (program : List Item) (ranks : List (List ℕ)) → IsReady program after → IsRemovable after → AllFall after ranks → TypesForm (obc_types_of program) → EachNode (ChoosesValues (types_of after) choices) after
-        → FilledForOne choices after f inputs (given_each (j.prepared.fills f) inputs)
-    filled_one laws program ranks r ok fall form values =
+    pub filled_one : MeaningLaws → HasValues after → EachNode (ChoosesValues (types_of after) choices) after → FilledForOne choices after f inputs (given_each (j.prepared.fills f) inputs)
+    filled_one laws v values =
         let low = lowered_program after in
         let p = j.prepared in
         let begins = p.begins in
-        let full = some_of (types_of program) form.counts in
         let of_types = all_of (types_of after) n.inputs inputs (subst ConstructorsDiffer j.same p.distinct) kinds_fit in
-        laws.filled program after ranks r ok fall full choices values f n inputs e of_types (given_each (p.fills f) inputs)
+        filled_for_one after v choices values f n inputs e of_types (one_for_one laws.kept after v.removable v.ranked v.low_ranked v.class v.accepted choices values f n inputs e of_types) (given_each (p.fills f) inputs)
         (given_all (λ i. GivenFits (types_of low) false (λ given. given) (reverse low) f i) (p.fills f) inputs (begins.fit f)) (given_many (p.fills f) inputs)
 
     -- has the outputs that are answered
@@ -352,10 +340,33 @@ module _ (choices : Choices) (after : List Item) (fs : List FlatNode) (one : Has
         ∙ all_answered choices (lowered_program after) p.fills j.answers p.ranked j.answering f inputs it.filled.past it.filled.is_one
         ∙ alike_answers one.answers j.answers (callees_of after).takes f (own_alike made) inputs (subst (λ ks. AllByRecursion (AreOfKinds ks) inputs) (sym takes_its) kinds_fit)
 
+-- ---- ready programs
+
+-- these laws, and those by which a ready program is such a program
+pub record ReadyLaws : Type 0 where
+  pub classes : ClassesLaw
+  pub accepted : AcceptedLaw
+  pub all_ranks : AllRanksLaw
+  pub ranks : RanksLaw
+  pub firsts : ReadyFirstsLaw
+  pub meaning : MeaningLaws
+
+pub ready_meaningful : ReadyLaws → (program after : List Item) (ranks : List (List ℕ)) → IsReady program after → IsRemovable after → AllFall after ranks → TypesForm (obc_types_of program) → EachNode NodeShort after → IsMeaningful program after
+ready_meaningful laws program after ranks r ok fall form short =
+    let c = compilable_law program after r ok form in
+    record {
+      values = ready_values laws.classes laws.accepted laws.all_ranks laws.ranks laws.firsts program after ranks r ok fall (some_of (types_of program) form.counts);
+      types = c.0;
+      compilable = c.1;
+      short = lowered after ok short;
+      differ = controls_differ program after r;
+    }
+
 pub stream_law : ReadyLaws → StreamLaw
 stream_law laws program after ranks r ok fall form short choices values fit fs made one f n inputs e kinds_fit =
-    let j = joined laws program after ranks r ok fall form short choices values fit fs made one in
-    let it = filled_one choices after fs one j f n e inputs kinds_fit laws program ranks r ok fall form values in
+    let m = ready_meaningful laws program after ranks r ok fall form short in
+    let j = joined laws.meaning program after m choices values fit fs made one in
+    let it = filled_one choices after fs one j f n e inputs kinds_fit laws.meaning m.values values in
     record { one = it.one; outputs = outputs_are choices after fs one j f n e inputs kinds_fit made it }
 
 -- so of the program of a text that the judgements accept

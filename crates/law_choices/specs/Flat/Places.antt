@@ -1,6 +1,6 @@
 -- The places of a node in its clocked equations: a variable that stands for a place has the values of the place.
 -- Source: own.
-use Rattle.std.specs.Prelude.{◌≡◌, ℕ, true, List, [], map, reverse}
+use Rattle.std.specs.Prelude.{◌≡◌, ◌⊎◌, ℕ, true, List, [], ◌∷◌, map, reverse}
 use Rattle.std.specs.List.{AllByRecursion}
 use Rattle.hp_base.specs.declared.value.Value.{Value}
 use Rattle.hp_tree.specs.declared.program.Item.{Item}
@@ -37,6 +37,11 @@ use Rattle.law_choices.specs.Flat.Names.{values_at}
 -- the values at a place, newest first
 abbrev pub values_in : Place → Past → List Value
 values_in p past = map (λ (i : tree.Instant). i p) past
+
+-- one of some equations
+abbrev pub IsIn : List FlatEqn → FlatEqn → Type 0
+IsIn [] c = ⊥
+IsIn (e ∷ es) c = (c ≡ e) ⊎ IsIn es c
 
 -- the equations that define a variable are on one clock
 abbrev pub IsOn : ℕ → Clock → List FlatEqn → Type 0

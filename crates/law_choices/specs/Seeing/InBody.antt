@@ -8,7 +8,7 @@ use Rattle.hp_tree.specs.Meaning.{types_of}
 use Rattle.hp_meaning.specs.Causal.Sources.{below}
 use Rattle.hp_meaning.specs.Contract.Slots.{FreePlace, Slot, free_among, free_places, slots_of_block}
 use Rattle.law_choices.specs.Playing.Inputs.{places_in_row}
-use Rattle.law_choices.specs.Seeing.ByName.{outputs_in, types_around}
+use Rattle.law_choices.specs.Seeing.Around.{outputs_in, types_around}
 
 -- nothing is looked at in what is called
 abbrev pub no_slots : List ℕ → (Place → Place) → List Slot

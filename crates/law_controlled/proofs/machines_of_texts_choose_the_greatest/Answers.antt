@@ -17,8 +17,8 @@ returns c =
       stands = order.stands;
       instances = c.instances_react_in_kind.ensures;
       tells = c.a_node_tells_each_contract.ensures;
-      told = c.contracts_are_told.ensures;
-      in_body = c.places_of_bodies_are_seen.ensures;
+      calls_nothing = c.callees_compare_nothing.ensures.calls_nothing;
+      own = c.places_are_seen.ensures;
       seen = c.nodes_that_see_values_choose_the_greatest.ensures.greatest;
       seen_told = c.contracts_that_are_seen_are_told.ensures;
     })

@@ -8,13 +8,16 @@ returns-clause-ready c = stream_law (record {
   accepted = c.programs_with_classes_are_accepted.ensures;
   all_ranks = c.ranks_of_points.ensures.program;
   ranks = c.ranks_are_kept.ensures.program;
-  targets = c.targets_differ.ensures;
-  calls = c.calls_are_kept.ensures;
-  one = c.chosen_nodes_have_one_reaction.ensures;
-  outputs = c.nodes_have_one_reaction.ensures.outputs;
-  filled = c.ready_programs_have_one_filled_reaction.ensures.ready;
-  some_answers = c.chosen_nodes_answer.ensures.some;
-  equations = c.equations_answer_under_each_choice.ensures;
+  firsts = c.programs_have_first_values.ensures.ready;
+  meaning = record {
+    targets = c.targets_differ.ensures;
+    calls = c.calls_are_kept.ensures;
+    one = c.chosen_nodes_have_one_reaction.ensures;
+    outputs = c.nodes_have_one_reaction.ensures.outputs;
+    kept = c.reactions_are_kept.ensures.outputs;
+    some_answers = c.chosen_nodes_answer.ensures.some;
+    equations = c.equations_answer_under_each_choice.ensures;
+  };
 })
 
 pub returns-clause-text : goal.returns-clause-text
@@ -23,13 +26,16 @@ returns-clause-text c = text_law c.programs_have_one_meaning_under_each_choice.e
   accepted = c.programs_with_classes_are_accepted.ensures;
   all_ranks = c.ranks_of_points.ensures.program;
   ranks = c.ranks_are_kept.ensures.program;
-  targets = c.targets_differ.ensures;
-  calls = c.calls_are_kept.ensures;
-  one = c.chosen_nodes_have_one_reaction.ensures;
-  outputs = c.nodes_have_one_reaction.ensures.outputs;
-  filled = c.ready_programs_have_one_filled_reaction.ensures.ready;
-  some_answers = c.chosen_nodes_answer.ensures.some;
-  equations = c.equations_answer_under_each_choice.ensures;
+  firsts = c.programs_have_first_values.ensures.ready;
+  meaning = record {
+    targets = c.targets_differ.ensures;
+    calls = c.calls_are_kept.ensures;
+    one = c.chosen_nodes_have_one_reaction.ensures;
+    outputs = c.nodes_have_one_reaction.ensures.outputs;
+    kept = c.reactions_are_kept.ensures.outputs;
+    some_answers = c.chosen_nodes_answer.ensures.some;
+    equations = c.equations_answer_under_each_choice.ensures;
+  };
 })
 
 pub returns-clause-names : goal.returns-clause-names
@@ -38,13 +44,16 @@ returns-clause-names c = names_law c.equations_keep_names_under_each_choice.ensu
   accepted = c.programs_with_classes_are_accepted.ensures;
   all_ranks = c.ranks_of_points.ensures.program;
   ranks = c.ranks_are_kept.ensures.program;
-  targets = c.targets_differ.ensures;
-  calls = c.calls_are_kept.ensures;
-  one = c.chosen_nodes_have_one_reaction.ensures;
-  outputs = c.nodes_have_one_reaction.ensures.outputs;
-  filled = c.ready_programs_have_one_filled_reaction.ensures.ready;
-  some_answers = c.chosen_nodes_answer.ensures.some;
-  equations = c.equations_answer_under_each_choice.ensures;
+  firsts = c.programs_have_first_values.ensures.ready;
+  meaning = record {
+    targets = c.targets_differ.ensures;
+    calls = c.calls_are_kept.ensures;
+    one = c.chosen_nodes_have_one_reaction.ensures;
+    outputs = c.nodes_have_one_reaction.ensures.outputs;
+    kept = c.reactions_are_kept.ensures.outputs;
+    some_answers = c.chosen_nodes_answer.ensures.some;
+    equations = c.equations_answer_under_each_choice.ensures;
+  };
 })
 
 pub returns-clause-names_of_text : goal.returns-clause-names_of_text
@@ -53,11 +62,14 @@ returns-clause-names_of_text c = text_names_law c.programs_have_one_meaning_unde
   accepted = c.programs_with_classes_are_accepted.ensures;
   all_ranks = c.ranks_of_points.ensures.program;
   ranks = c.ranks_are_kept.ensures.program;
-  targets = c.targets_differ.ensures;
-  calls = c.calls_are_kept.ensures;
-  one = c.chosen_nodes_have_one_reaction.ensures;
-  outputs = c.nodes_have_one_reaction.ensures.outputs;
-  filled = c.ready_programs_have_one_filled_reaction.ensures.ready;
-  some_answers = c.chosen_nodes_answer.ensures.some;
-  equations = c.equations_answer_under_each_choice.ensures;
+  firsts = c.programs_have_first_values.ensures.ready;
+  meaning = record {
+    targets = c.targets_differ.ensures;
+    calls = c.calls_are_kept.ensures;
+    one = c.chosen_nodes_have_one_reaction.ensures;
+    outputs = c.nodes_have_one_reaction.ensures.outputs;
+    kept = c.reactions_are_kept.ensures.outputs;
+    some_answers = c.chosen_nodes_answer.ensures.some;
+    equations = c.equations_answer_under_each_choice.ensures;
+  };
 })

@@ -8,11 +8,14 @@ returns c = places_law c.equations_keep_places_under_each_choice.ensures filled_
   accepted = c.programs_with_classes_are_accepted.ensures;
   all_ranks = c.ranks_of_points.ensures.program;
   ranks = c.ranks_are_kept.ensures.program;
-  targets = c.targets_differ.ensures;
-  calls = c.calls_are_kept.ensures;
-  one = c.chosen_nodes_have_one_reaction.ensures;
-  outputs = c.nodes_have_one_reaction.ensures.outputs;
-  filled = c.ready_programs_have_one_filled_reaction.ensures.ready;
-  some_answers = c.chosen_nodes_answer.ensures.some;
-  equations = c.equations_answer_under_each_choice.ensures;
+  firsts = c.programs_have_first_values.ensures.ready;
+  meaning = record {
+    targets = c.targets_differ.ensures;
+    calls = c.calls_are_kept.ensures;
+    one = c.chosen_nodes_have_one_reaction.ensures;
+    outputs = c.nodes_have_one_reaction.ensures.outputs;
+    kept = c.reactions_are_kept.ensures.outputs;
+    some_answers = c.chosen_nodes_answer.ensures.some;
+    equations = c.equations_answer_under_each_choice.ensures;
+  };
 })

@@ -1,0 +1,6 @@
+pub mod Observed
+pub mod Reacting
+pub mod Meaning
+pub mod Found
+pub mod Sites
+pub mod Observers
