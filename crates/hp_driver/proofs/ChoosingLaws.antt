@@ -1,12 +1,12 @@
 -- From how a machine that chooses was run, or refused, to what the call did.
-use Rattle.std.proofs.Common.{◌≡◌, ◌≢◌, ℕ, inl, inr, false, true, List, [], ◌∷◌, ◌++◌, None, Some, refl, sym, ap, subst, ◌∙◌}
+use Rattle.std.proofs.Common.{◌≡◌, ◌≢◌, ℕ, inl, inr, Bool, false, true, List, [], ◌∷◌, ◌++◌, None, Some, refl, sym, ap, subst, ◌∙◌}
 use Rattle.std.specs.Prelude.{codes, is_some, IsSome, IsTrue, Option}
 use Rattle.hp_base.specs.declared.limit.Limit.{Limit}
 use Rattle.hp_io.specs.Events.{put_events}
 use Rattle.hp_io.specs.Files.{Files}
 use Rattle.hp_io.specs.declared.console.Event.{Event}
 use Rattle.hp_controlled.specs.Chosen.{AreControlledMachines, IsChosen, IsToldBy}
-use Rattle.hp_exec.specs.Answers.{Executes, Refuses as RefusesMachine}
+use Rattle.hp_exec.specs.Answers.{Executes, IsPassed, Refuses as RefusesMachine}
 use Rattle.hp_exec.specs.Executors.{Executor}
 use Rattle.hp_exec.specs.declared.error.ExecErr.{ExecErr}
 use Rattle.hp_exec.specs.declared.error.ExecErr.TheVariants.{Limit as Passed, NoNode}

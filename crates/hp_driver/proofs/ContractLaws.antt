@@ -21,7 +21,7 @@ use Rattle.hp_verdicts.specs.declared.error.ContractErr.TheVariants as contract
 use Rattle.hp_driver.specs.Controls.{some_variable, has_controls}
 use Rattle.hp_driver.specs.Command.{accepted_text}
 use Rattle.hp_driver.specs.Diagnostics.{contract_line}
-use Rattle.hp_driver.specs.Follows.{DecidedOutcome, OrderedRun, ChoosingRun, ChoosingTell, Accepts}
+use Rattle.hp_driver.specs.Follows.{DecidedOutcome, OrderedRun, OrderedTell, Accepts}
 use Rattle.hp_driver.specs.Outcome.{Outcome, IsHeld}
 use Rattle.hp_driver.specs.Ran.{ReportsOrNot}
 use Rattle.hp_driver.specs.declared.words.Task.{Task}

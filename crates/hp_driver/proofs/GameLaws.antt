@@ -1,17 +1,11 @@
 -- What is found of the contracts of a program that a file holds says so of their games.
 use Rattle.std.proofs.Common.{◌≢◌, ℕ, List, subst}
-use Rattle.std.specs.Prelude.{Option, reverse}
+use Rattle.std.specs.Prelude.{Option}
 use Rattle.hp_io.specs.Files.{Files}
 use Rattle.hp_tree.specs.declared.program.Item.{Item}
-use Rattle.hp_meaning.specs.Contract.Guarantee.{AllSafe}
-use Rattle.hp_obc.specs.Machines.{Obc}
-use Rattle.hp_controlled.specs.Chosen.{AreControlledMachines}
-use Rattle.law_controlled.specs.Greatest.{AllSayGreatest}
-use Rattle.law_controlled.specs.Said.{GreatestSaidLaw}
 use Rattle.hp_driver.proofs.AcceptedLaws.{accepted_by}
 use Rattle.law_decided.specs.Mirrored.{MachinesLaw}
 use Rattle.law_decided.specs.Outcomes.{AreSaid, OutcomesLaw}
-use Rattle.hp_compile.proofs.FormLaws.{formed}
 use Rattle.hp_tree.specs.Programs.{Node}
 use Rattle.hp_verdicts.specs.Decided.{Refuses, RefusesMachine, RefusesProof}
 use Rattle.hp_verdicts.specs.declared.error.ContractErr.{ContractErr}
@@ -28,14 +22,6 @@ pub mirrored : MachinesLaw → MirrorLaw
 mirrored law files file name c has =
     let held = c.held in
     law held.text held.judged.program_of.tokens c.program held.clocked held.ranks (accepted_by held.text c.program held.clocked held.ranks held.judged held.arranged) name c.node c.named has.machine has.is_machine
-
--- what machines say that choose, the program allows, with the greatest permitted values where nothing is free but the inputs, and comparisons of integers and outputs of calls in the body
-pub all_greatest : GreatestSaidLaw → (files : Option Files) (file : List ℕ) (program : List Item) (held : IsHeld files file program) (o : Obc) → AllSafe held.clocked (reverse held.clocked) → AreControlledMachines held.clocked o
-    → AllSayGreatest held.clocked o
-all_greatest law files file program held o safe machines =
-    let j = held.judged in
-    let a = held.arranged in
-    law held.text j.program_of.tokens program held.clocked held.ranks o j.program_of.spelled j.program_of.read j.named j.typed j.defined (formed held.text program j a.well_formed) a.initialised a.clocks a.ordered safe machines
 
 said_of : OutcomesLaw → (program ordered : List Item) → IsArrangedText program ordered → AreSaid ordered
 said_of law program ordered t = law t.0 t.2.program_of.tokens program ordered t.1 (accepted_by t.0 program ordered t.1 t.2 t.3)
