@@ -2,7 +2,7 @@ mod Observed
 mod Reacting
 mod Found
 mod Meaning
-mod Moved
-mod Sites
-mod OwnSite
-mod CalledSites
+pub mod Moved
+pub mod Sites
+pub mod OwnSite
+pub mod CalledSites
