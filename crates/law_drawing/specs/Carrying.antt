@@ -7,3 +7,4 @@ pub mod BlockLaws
 pub mod Drawable
 pub mod WholeBlocks
 pub mod Nodes
+pub mod Told

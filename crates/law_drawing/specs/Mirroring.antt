@@ -1,3 +1,4 @@
 pub mod Codes
 pub mod Gates
 pub mod Carried
+pub mod Told

@@ -3,3 +3,4 @@ pub mod Histories
 pub mod Memories
 pub mod Choices
 pub mod FilledHistories
+pub mod Telling

@@ -4,6 +4,7 @@
 #![tactic(auto)]
 
 ghost use Rattle.law_games.specs.Forced.Twins.{AlongLaw, FirstLaw, LongerLaw, PlayedChoiceLaw, PlaysLaw, SomeTwinLaw, TwinChoicesLaw, TwinsLaw};
+ghost use Rattle.law_games.specs.Forced.Telling.{ToldAlongLaw};
 ghost use Rattle.law_games.specs.Forced.Laws.{ChoicesLaw, ForcedAtFirstLaw, ForcedLaw, GameLaw, GrantedLaw, HistoriesLaw, InstantsLaw, LaterLaw, MachineChoicesLaw, NextLaw, PermittedLaw, SafeAtFirstLaw, SafeGameLaw, SafeLaw, SomeChoiceLaw};
 
 use crate::mirror::choices_are_kept;
@@ -41,7 +42,7 @@ pub fn choices_are_on_machines()
     choices_are_kept();
 }
 
-/// A machine that mirrors the node goes along with the game. Beside each history of the game stands one without Nil, of the same inputs, given values and choices. At the bits that any such one leaves, and the codes of what is given, the machine's next registers are the bits of the longer one; it supposes and owes what the instant does, and chooses what is chosen. So a machine that plays along from its first state chooses the greatest permitted values at each instant.
+/// A machine that mirrors the node goes along with the game. Beside each history of the game stands one without Nil, of the same inputs, given values and choices. At the bits that any such one leaves, and the codes of what is given, the machine's next registers are the bits of the longer one; it supposes and owes what the instant does, gates of it that tell the contract tell it of the instant, and it chooses what is chosen. So a machine that plays along from its first state chooses the greatest permitted values at each instant.
 pub fn machines_go_along()
     ensures twins { TwinsLaw }
     ensures some { SomeTwinLaw }
@@ -49,6 +50,7 @@ pub fn machines_go_along()
     ensures first { FirstLaw }
     ensures chosen { TwinChoicesLaw }
     ensures along { AlongLaw }
+    ensures told { ToldAlongLaw }
     ensures plays { PlaysLaw }
     ensures played { PlayedChoiceLaw }
 {

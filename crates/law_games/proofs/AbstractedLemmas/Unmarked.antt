@@ -244,10 +244,10 @@ module _ (types : List TypeDecl) where
     contract_ok : ContractOk types (node_among earlier) (inside_node (scope_behind earlier) n) (lasts_in n.outputs no_lasts) (seen_in_node (class_here class) n) n.contract
     contract_ok = (node_ok types (node_among earlier) n (scope_behind earlier) (class_here class) ok.0.sound ok.0.classes).1.1.1.1.1
 
-    assumed : assumes j ≡ assumes i
+    pub assumed : assumes j ≡ assumes i
     assumed = ap holds_or_missing (at_none (Assume ∷ []) (assume_first types (node_among earlier) T n.contract (inside_node (scope_behind earlier) n) (seen_in_node (class_here class) n) _ contract_ok))
 
-    enforced : enforces j ≡ enforces i
+    pub enforced : enforces j ≡ enforces i
     enforced = ap holds_or_missing (at_none (Enforce ∷ []) (enforce_first types (node_among earlier) T n.contract (inside_node (scope_behind earlier) n) (seen_in_node (class_here class) n) _ contract_ok))
 
     called_assumes : (c : Placed) → assumes (instance_at c j) ≡ assumes (instance_at c i)

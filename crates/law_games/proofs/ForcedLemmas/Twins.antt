@@ -8,16 +8,19 @@ use Rattle.hp_tree.specs.Operators.{marked}
 use Rattle.hp_tree.specs.Meaning.{types_of}
 use Rattle.hp_meaning.specs.Causal.OneReaction.{OneInstant}
 use Rattle.hp_meaning.specs.Causal.Steering.{steered_by}
-use Rattle.hp_meaning.specs.Contract.Duties.{hypothesis, duty}
+use Rattle.hp_meaning.specs.Contract.Duties.{holds_or_missing, assumes, enforces, hypothesis, duty}
 use Rattle.hp_meaning.specs.Contract.Game.{Choice, IsChoiceOf, at_controls, IsChosen}
 use Rattle.hp_meaning.specs.Contract.Memory.{memory, bits, bits_in}
 use Rattle.hp_meaning.specs.Contract.Slots.{slots_of_node, registers}
 use Rattle.hp_boolx.specs.Game.{joined}
 use Rattle.hp_boolx.specs.Search.{Bits}
 use Rattle.hp_boolx.specs.Solved.{IsChoice}
-use Rattle.hp_boolx.specs.Machine.{Machine, game}
-use Rattle.law_games.specs.Mirror.Mirrored.{early_among, late_among, codes_at, given_with, valuation, Mirrors}
+use Rattle.hp_boolx.specs.Machine.{Machine, at_gate, game}
+use Rattle.law_games.specs.Mirror.Mirrored.{early_among, late_among, codes_at, given_with, read_with, valuation, Mirrors}
 use Rattle.law_games.specs.Mirror.Choices.{choice_bits, SameMemoryPermittedLaw, SameMemoryChoiceLaw}
+use Rattle.law_games.specs.Mirror.Telling.{TellsContract}
+use Rattle.law_games.specs.Forced.Telling.{TellsAlong, ToldAlongLaw}
+use Rattle.law_games.proofs.WiresLemmas.Instants.{tops}
 use Rattle.law_games.specs.Mirror.FilledHistories.{filled_instant, IsFilled, AllFilled}
 use Rattle.law_games.proofs.MirrorLemmas.FilledOne.{filled_one}
 use Rattle.law_games.proofs.MirrorLemmas.SameMemories.{at_hypothesis, at_duty}
@@ -27,7 +30,7 @@ use Rattle.law_games.proofs.AbstractedLemmas.Histories.{all_under}
 use Rattle.law_games.specs.ReadyGames.FittingHistories.{IsFitting, AllFitting}
 use Rattle.law_games.specs.ReadyGames.Laws.{Stands, IsInOrder}
 use Rattle.law_games.proofs.ReadyGamesLemmas.Settled.{class, ranked, settled, shaped}
-use Rattle.law_games.proofs.ReadyGamesLemmas.Histories.{Twins, longer, same_hyp, same_owed}
+use Rattle.law_games.proofs.ReadyGamesLemmas.Histories.{Twins, longer, same_hyp, same_owed, same_assumed, same_enforced}
 use Rattle.law_games.specs.Forced.Twins.{IsTwin, AreTwins, GoesAlong, Plays, TwinsLaw, SomeTwinLaw, LongerLaw, TwinChoicesLaw, AlongLaw, FirstLaw, PlaysLaw, PlayedChoiceLaw}
 use Rattle.law_games.proofs.ForcedLemmas.Choices.{each_choice}
 use Rattle.law_games.proofs.ForcedLemmas.OnMachines.{machine_choices}
@@ -94,6 +97,28 @@ module _ (program after : List Item) (ranks : List (List ℕ)) (o : IsInOrder pr
               (at_duty after cl.0 earlier n m S M mem inputs given c w.0 w.1.wires ∙ ap (duty n) w.2 ∙ same_owed program after ranks o earlier n st h h' now filled both);
         }
 
+    -- gates that tell the contract of the wires tell it of the instant
+    module _ (assume enforce : ℕ) (tells : TellsContract after earlier n m M assume enforce) where
+      tells_along : (h h' : Past) (inputs : List Value) (given : Instant) (c : Choice) (now filled : Instant) → AreTwins after earlier n h h' → IsTwin after earlier n h h' inputs given c now filled → TellsAlong after earlier n m M assume enforce h' inputs given c now
+      unfolding filled_by
+      tells_along h h' inputs given c now filled t x =
+          let cl = class program after ranks o earlier n st in
+          let S = settled program after ranks o earlier n st in
+          let b = are_twins h h' t in
+          let both = more h h' inputs given c now filled b.2 x in
+          let mem = left after cl.0 earlier n m S M h' in
+          let w = wires_of after cl.0 earlier n m S M h' inputs given c filled (all_shaped after cl.0 earlier n m S M (shaped program after ranks o earlier n st) h' b.1) x.choice (filled_by h h' inputs given c now filled x) in
+          let own = tops (types_of after) earlier n inputs (read_with after n mem given c) w.0 w.1.wires.solves in
+          let e : mem ≡ memory after n h' = memory_is after cl.0 earlier n m S M h' in
+          record {
+            assumed =
+                subst (λ i. at_gate m (valuation after n M.is_early i (given_with inputs given c)) assume ≡ assumes now) e
+                (tells.assumed mem inputs given c w.0 w.1.wires ∙ ap holds_or_missing (sym own.0) ∙ ap assumes w.2 ∙ same_assumed program after ranks o earlier n st h h' now filled both);
+            enforced =
+                subst (λ i. at_gate m (valuation after n M.is_early i (given_with inputs given c)) enforce ≡ enforces now) e
+                (tells.enforced mem inputs given c w.0 w.1.wires ∙ ap holds_or_missing (sym own.1) ∙ ap enforces w.2 ∙ same_enforced program after ranks o earlier n st h h' now filled both);
+          }
+
     -- ---- playing along
 
     played : (h : Past) (state : Bits) → Plays after earlier n m M h state → (other : Past) × (AreTwins after earlier n h other × (state ≡ bits after n other))
@@ -136,6 +161,9 @@ at_twins permitted chosen program after ranks o earlier n st m M O long h h' t =
 
 pub along : AlongLaw
 along program after ranks o earlier n st m M h h' inputs given c now filled t x = goes_along program after ranks o earlier n st m M h h' inputs given c now filled t x
+
+pub told_along : ToldAlongLaw
+told_along program after ranks o earlier n st m M assume enforce tells h h' inputs given c now filled t x = tells_along program after ranks o earlier n st m M assume enforce tells h h' inputs given c now filled t x
 
 pub first : FirstLaw
 first program after ranks o earlier n st m M = (tt, M.init)

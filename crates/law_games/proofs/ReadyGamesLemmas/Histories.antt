@@ -22,7 +22,7 @@ use Rattle.hp_meaning.proofs.CausalLemmas.AbstractOne.{abstract_one}
 use Rattle.hp_meaning.proofs.CausalLemmas.Ranking.{all_ranks_enough}
 use Rattle.hp_boolx.specs.Game.{Forced as ForcedOn}
 use Rattle.hp_boolx.specs.Machine.{game}
-use Rattle.hp_meaning.specs.Contract.Duties.{hypothesis, duty}
+use Rattle.hp_meaning.specs.Contract.Duties.{assumes, enforces, hypothesis, duty}
 use Rattle.hp_meaning.specs.Contract.Game.{Choice, at_controls}
 use Rattle.hp_meaning.specs.Contract.Memory.{memory, bits}
 use Rattle.hp_meaning.specs.Contract.Slots.{registers, zero_at}
@@ -38,7 +38,7 @@ use Rattle.law_games.proofs.AbstractedLemmas.Marked.{PastsAgree}
 use Rattle.law_games.proofs.AbstractedLemmas.Instants.{abstract_fits}
 use Rattle.law_games.proofs.AbstractedLemmas.Agreement.{own_marks, abstract_agrees}
 use Rattle.law_games.proofs.AbstractedLemmas.Histories.{all_under}
-use Rattle.law_games.proofs.AbstractedLemmas.Unmarked.{same_hypothesis, same_duty}
+use Rattle.law_games.proofs.AbstractedLemmas.Unmarked.{assumed, enforced, same_hypothesis, same_duty}
 use Rattle.law_games.proofs.AbstractedLemmas.GivenKept.{given_with_nil, given_filled}
 use Rattle.law_games.specs.ReadyGames.Laws.{Stands, IsInOrder, ReadyNilLaw, ReadyFittingGameLaw, ReadyFittingSafeLaw, ReadyHistoryLaw}
 use Rattle.law_games.specs.ReadyGames.FittingHistories.{AllFitting, FittingForced}
@@ -136,6 +136,13 @@ module _ (program after : List Item) (ranks : List (List ℕ)) (o : IsInOrder pr
 
     pub same_owed : duty n now' ≡ duty n now
     same_owed = let cl = class program after ranks o earlier n st in same_duty (types_of after) cl.0 earlier n cl.1 now now' t.1.0
+
+    -- so are assumption and guarantee
+    pub same_assumed : assumes now' ≡ assumes now
+    same_assumed = let cl = class program after ranks o earlier n st in assumed (types_of after) cl.0 earlier n cl.1 now now' t.1.0
+
+    pub same_enforced : enforces now' ≡ enforces now
+    same_enforced = let cl = class program after ranks o earlier n st in enforced (types_of after) cl.0 earlier n cl.1 now now' t.1.0
 
   pub onto : (k : ℕ) (h h' : Past) → Twins h h' → FittingForced after earlier n k h → FilledForced after earlier n k h'
   onto zero h h' t f = absurd f

@@ -1,5 +1,5 @@
 use Rattle.law_games.proofs.forced.machines_go_along.Goals as goal
-use Rattle.law_games.proofs.ForcedLemmas.Twins.{twins, some_twin, both_go_on, first, at_twins, along, plays, played_choice}
+use Rattle.law_games.proofs.ForcedLemmas.Twins.{twins, some_twin, both_go_on, first, at_twins, along, plays, played_choice, told_along}
 
 pub returns-clause-twins : goal.returns-clause-twins
 returns-clause-twins c = twins
@@ -24,3 +24,6 @@ returns-clause-plays c = plays
 
 pub returns-clause-played : goal.returns-clause-played
 returns-clause-played c = played_choice c.choices_are_kept.ensures.permitted c.choices_are_kept.ensures.chosen
+
+pub returns-clause-told : goal.returns-clause-told
+returns-clause-told c = told_along
