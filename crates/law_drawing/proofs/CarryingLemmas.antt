@@ -40,6 +40,7 @@ pub mod ContractScopes
 pub mod NodeParts
 pub mod Nodes
 pub mod NodesDrawn
+pub mod NodesTold
 pub mod NoCalls
 pub mod CallSteps
 pub mod CalleeContracts

@@ -6,6 +6,7 @@ pub mod Solved
 pub mod Reading
 pub mod Carried
 pub mod Bits
+pub mod Told
 pub mod Ends
 pub mod Ready
 pub mod Worked

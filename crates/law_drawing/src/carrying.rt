@@ -6,6 +6,7 @@
 ghost use Rattle.law_drawing.specs.Carrying.BlockLaws.{CallDefinitionLaw, ClockLaw, DefinitionLaw, EnterLaw};
 ghost use Rattle.law_drawing.specs.Carrying.Laws.{ExpressionLaw, NoCallsLaw};
 ghost use Rattle.law_drawing.specs.Carrying.Nodes.{CallsLaw, NodeLaw};
+ghost use Rattle.law_drawing.specs.Carrying.Told.{NodeToldLaw};
 ghost use Rattle.law_drawing.specs.Carrying.WholeBlocks.{BlockLaw};
 
 /// Wherever an expression is drawn, numbers of wires go on so that its wire has the number of its value, its registers take what memory holds next, and its calls suppose and owe what those of its wires do.
@@ -28,8 +29,9 @@ pub fn blocks_are_drawn()
     ensures drawn { BlockLaw }
 {}
 
-/// Numbers solve what is drawn of a node, with its contract: its registers take what its memory holds next, and its hypothesis and its duty are those of its wires. Of the nodes that it calls their contracts are drawn, in which nothing is called; so what is asked of calls is so where these nodes are accepted.
+/// Numbers solve what is drawn of a node, with its contract: its registers take what its memory holds next, its hypothesis and its duty are those of its wires, and so are the wires of what it assumes and enforces. Of the nodes that it calls their contracts are drawn, in which nothing is called; so what is asked of calls is so where these nodes are accepted.
 pub fn nodes_are_drawn()
     ensures node { NodeLaw }
+    ensures told { NodeToldLaw }
     ensures calls { CallsLaw }
 {}

@@ -6,6 +6,7 @@
 ghost use Rattle.law_drawing.specs.Mirroring.Carried.{CarriedGameLaw, CarriedLaw, CarriedSafeLaw, NumberedLaw};
 ghost use Rattle.law_drawing.specs.Mirroring.Codes.{HeldLaw, KindsLaw, NextLaw, ValidLaw, WideLaw};
 ghost use Rattle.law_drawing.specs.Mirroring.Gates.{GatesLaw, ValuationsLaw};
+ghost use Rattle.law_drawing.specs.Mirroring.Told.{GateToldLaw};
 
 /// The codes of a memory and of what is given are as wide as the slots of the circuit. Those of each kind are its bits, and slots have their numbers. What registers take next is the bits of the next memory.
 pub fn codes_are_held()
@@ -16,9 +17,10 @@ pub fn codes_are_held()
     ensures valid { ValidLaw }
 {}
 
-/// So the gates of the machine say at these codes what any numbers say that solve the circuit, and a valuation is valid exactly where it is made of codes of values.
+/// So the gates of the machine say at these codes what any numbers say that solve the circuit, so does each gate of a wire that carries a truth value, and a valuation is valid exactly where it is made of codes of values.
 pub fn gates_say_what_is_solved()
     ensures gates { GatesLaw }
+    ensures told { GateToldLaw }
     ensures valuations { ValuationsLaw }
 {}
 

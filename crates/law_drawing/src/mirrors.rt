@@ -7,8 +7,10 @@ ghost use Rattle.law_drawing.specs.Mirrors.Assumptions.{AssumeLaw};
 ghost use Rattle.law_drawing.specs.Mirrors.Choices.{ChosenLaw, PreferredLaw};
 ghost use Rattle.law_drawing.specs.Mirrors.Drawn.{DrawnCarriesLaw, DrawnGameLaw, DrawnLaterLaw, DrawnMirrorsLaw, DrawnRightLaw, DrawnSafeLaw, ReadsLaw, SolvedLaw};
 ghost use Rattle.law_drawing.specs.Mirrors.Limits.{BitsLaw, LimitLaw};
+ghost use Rattle.law_drawing.specs.Mirrors.Told.{DrawnToldLaw, WiresToldLaw};
 
 use crate::carrying::nodes_are_drawn;
+use crate::form::enforced_wires_carry_truth;
 use law_games::forced::choices_are_on_machines;
 
 /// Wherever the wires of a node of a ready program are typed, some numbers solve the circuit that is drawn of the node, by which registers take the memory behind the instant, and hypothesis and duty are the node's.
@@ -26,6 +28,16 @@ pub fn drawn_nodes_are_mirrored()
     ensures mirrors { DrawnMirrorsLaw }
 {
     drawn_nodes_are_solved();
+}
+
+/// Its wires of what the node assumes and enforces have the values of assumption and guarantee there, so their gates tell the contract, also of a node that calls others.
+pub fn drawn_contracts_are_told()
+    ensures wires { WiresToldLaw }
+    ensures gates { DrawnToldLaw }
+{
+    nodes_are_drawn();
+    drawn_nodes_are_mirrored();
+    enforced_wires_carry_truth();
 }
 
 /// So the game on that machine is the game of the node's contract.

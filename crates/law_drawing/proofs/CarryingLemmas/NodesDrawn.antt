@@ -311,14 +311,16 @@ module _ (F : Frame) (class : Classing) (n : Node) (inputs : List Value) (m : He
   unfolding empty begun sketch_nothing push add_clock
   empty-slots = refl
 
-  abbrev called_in : Placed → Bool
+  abbrev pub called_in : Placed → Bool
   called_in c = is_called (instant_of F.types F.earlier n inputs m now) c
 
-  abbrev NodeDrew : Sketch → Type 0
-  NodeDrew s =
+  -- with the wires of assumption and guarantee
+  abbrev pub NodeDrew : Sketch → drawing.Observer → Type 0
+  NodeDrew s g =
       (ns : List ℕ) × Solved F.slot ns s.wires ns × AreLaid ns F.next (node_slots F n) s.slots × Has ns s.hyp (truth (hypothesis_on called_in n now)) × Has ns s.duty (truth (duty_on called_in n now))
+      × Has ns g.assume (truth (assumes now)) × Has ns g.enforce (truth (enforces now))
 
-  node-drew : NodeDrew (node_by F.brings F.told n empty)
+  node-drew : NodeDrew (node_by F.brings F.told n empty) gs.0
   node-drew =
       let r = with-body in
       let cl = observer_calls n.contract here ++ body_calls in
@@ -342,9 +344,16 @@ module _ (F : Frame) (class : Classing) (n : Node) (inputs : List Value) (m : He
       ∙ ap (λ i. enforces now && list_all (λ c. owes_on (instant_of F.types F.earlier n inputs m now) i c) (calls_of n)) I.wires
       in
       let s = node_by F.brings F.told n empty in
-      (f.numbers, f.solved, laid, subst (λ b. Has f.numbers s.hyp (truth b)) hyp f.hyp, subst (λ b. Has f.numbers s.duty (truth b)) duty f.duty)
+      (f.numbers, f.solved, laid, subst (λ b. Has f.numbers s.hyp (truth b)) hyp f.hyp, subst (λ b. Has f.numbers s.duty (truth b)) duty f.duty, f.more gs.0.assume (truth (assumes now)) r.4, f.more gs.0.enforce (truth (enforces now)) r.5)
+
+-- so it is of what is drawn with the contracts of callees
+pub drawn-with : (F : Frame) (class : Classing) (n : Node) (inputs : List Value) (m : Held) (now : Instant) (K : FrameCalls F) (I : IsNodeIn F class n inputs m now)
+    → NodeDrew F class n inputs m now K I (drawn_node F.told n) (observer_behind contracts F.told n empty).0
+drawn-with F class n inputs m now K I =
+    subst (λ s. NodeDrew F class n inputs m now K I s (observer_behind contracts F.told n empty).0) (same-node F.told n)
+    (subst (λ b. NodeDrew F class n inputs m now K I (node_by b F.told n empty) (observer_behind b F.told n empty).0) I.brings (node-drew F class n inputs m now K I))
 
 pub node-carried : NodeLaw
 node-carried F class n inputs m now K I =
-    let x = subst (λ s. NodeDrew F class n inputs m now K I s) (same-node F.told n) (subst (λ b. NodeDrew F class n inputs m now K I (node_by b F.told n empty)) I.brings (node-drew F class n inputs m now K I)) in
+    let x = drawn-with F class n inputs m now K I in
     record { numbers = x.0; solved = x.1; laid = x.2; hyp = x.3; duty = x.4 }

@@ -17,7 +17,7 @@ use Rattle.hp_drawing.specs.Sketch.{Sketch}
 use Rattle.law_drawing.proofs.FormLemmas.Views.{Has, each-at, slot_by, shape_of, View, view_of, Fits, RoleIs, SlotIs, AreSlots, IsThere, IsReadThere, IsFormed, fit-length}
 use Rattle.law_drawing.proofs.FormLemmas.Steps.{fit-at}
 
-carries : (shapes : List Shape) (i : ℕ) (p : Shape) → Has shapes i p → Carries shapes i p
+pub carries : (shapes : List Shape) (i : ℕ) (p : Shape) → Has shapes i p → Carries shapes i p
 carries shapes i p h = (slice_get_within shapes i p h, get_or_from_slice_get shapes i p Mark h)
 
 module _ (slots : List Slot) (v : View) (same : v.slots ≡ map shape_of slots) where

@@ -12,16 +12,20 @@ use Rattle.law_values.specs.Filled.Firsts.{NodeHasFirsts}
 use Rattle.law_games.specs.ReadyGames.Laws.{Stands, IsInOrder}
 use Rattle.law_games.proofs.ReadyGamesLemmas.Constructors.{HaveOwn, have_own}
 use Rattle.law_games.proofs.ReadyGamesLemmas.Settled.{same_types, firsts, class}
+use Rattle.hp_circuit.specs.declared.circuit.Shape.TheVariants.{Truth}
+use Rattle.hp_circuit.specs.Forms.{Carries}
 use Rattle.hp_drawing.specs.DrawnNodes.{drawn_node}
 use Rattle.hp_drawing.specs.Told.{told_of}
 use Rattle.law_drawing.specs.Carrying.Nodes.{EarlierDrawable}
 use Rattle.law_drawing.proofs.DrawableLemmas.Fitting.{told}
 use Rattle.law_drawing.proofs.DrawableLemmas.Programs.{drawable}
 use Rattle.law_drawing.specs.Form.Laws.{FormLaw}
-use Rattle.law_drawing.proofs.FormLemmas.Views.{IsFormed}
+use Rattle.law_drawing.specs.Form.Told.{EnforcedFormLaw}
+use Rattle.law_drawing.specs.Uncalled.Laws.{observer_of}
+use Rattle.law_drawing.proofs.FormLemmas.Views.{Has, IsFormed}
 use Rattle.law_drawing.proofs.FormLemmas.Nodes.{AllReady, calls-are}
 use Rattle.law_drawing.proofs.FormLemmas.Wholes.{node-formed}
-use Rattle.law_drawing.proofs.FormLemmas.Forming.{circuit-is}
+use Rattle.law_drawing.proofs.FormLemmas.Forming.{carries, circuit-is}
 use Rattle.law_drawing.proofs.FormLemmas.Tables.{counted, firsts-fit}
 
 -- behind each node of a program the nodes are judged, can be drawn, and are told
@@ -43,7 +47,7 @@ all-ready program o classing all later (NodeItem n ∷ items) tells e a d f = (
 )
 
 -- so all fits that is drawn of a node
-node-is : (program after : List Item) (ranks : List (List ℕ)) → IsInOrder program after ranks → (earlier : List Item) (n : Node) → Stands after earlier n → IsFormed [] (drawn_node (told_of after) n)
+node-is : (program after : List Item) (ranks : List (List ℕ)) → IsInOrder program after ranks → (earlier : List Item) (n : Node) → Stands after earlier n → IsFormed [] (drawn_node (told_of after) n) × Has (drawn_node (told_of after) n).shapes (observer_of (told_of after) n).enforce Truth
 node-is program after ranks o earlier n st =
     let types = types_of after in
     let t = told_of after in
@@ -57,4 +61,9 @@ node-is program after ranks o earlier n st =
     node-formed types t F earlier n ready.0 (calls-are types t F earlier ready.1 (tells st.0 earlier n st.1))
 
 pub drawn_form : FormLaw
-drawn_form program after ranks o earlier n st c is = circuit-is c (drawn_node (told_of after) n) is (node-is program after ranks o earlier n st)
+drawn_form program after ranks o earlier n st c is = circuit-is c (drawn_node (told_of after) n) is (node-is program after ranks o earlier n st).0
+
+pub enforced_form : EnforcedFormLaw
+enforced_form program after ranks o earlier n st c is =
+    let w = (observer_of (told_of after) n).enforce in
+    subst (λ ps. Carries ps w Truth) (sym is.shapes) (carries (drawn_node (told_of after) n).shapes w Truth (node-is program after ranks o earlier n st).1)

@@ -28,6 +28,7 @@ use Rattle.hp_drawing.specs.Places.{top_place}
 use Rattle.hp_drawing.specs.Scopes.{Scope, Layer, unseen_entry, entry_in, add, value_by, shape_by, or_found, found, outer_layers, value_in, last_in, shapes_in, push_values, pop_values, push_lasts}
 use Rattle.hp_drawing.specs.DrawnBlocks.{drawn_block}
 use Rattle.hp_drawing.specs.DrawnNodes.{put_row, put_outputs, contract_scope, body_layer, body_scope, contracts, define_from, define_outputs, drawn_observer, drawn_body, with_outputs, with_inputs, with_controls, node_scope, drawn_node}
+use Rattle.law_drawing.specs.Uncalled.Laws.{observer_of}
 use Rattle.law_drawing.specs.Carrying.Drawable.{ContractDrawable}
 use Rattle.law_drawing.proofs.CarryingLemmas.Layers.{same-name, self-name, Knows, knows-add, knows-added, or-cases}
 use Rattle.law_drawing.proofs.CarryingLemmas.Own.{AllEntries}
@@ -209,17 +210,19 @@ module _ (types : List TypeDecl) (t : Told) (F : FirstsFit types t) (items : Lis
           (subst (ContractHasFirsts types) e r.firsts.contract) (record { formed = a; placed = top-placed s a; seen = seen })
 
   rest-step : (z : Scope) (inputs controls outputs : ℕ) (s : Sketch) → IsFormed [] s → outer_layers z.values ≡ [] → AreSeen t own lasting none_lacks z s → AreRow t s inputs n.inputs → AreRow t s controls (controls_of n.contract) → AreHoles t s outputs n.outputs
-      → Step [] s (let g = drawn_observer t z n.contract s in finish g.0.assume g.0.enforce (drawn_body t z (body_layer t n inputs controls) n outputs g.1))
+      → (let g = drawn_observer t z n.contract s in let d = finish g.0.assume g.0.enforce (drawn_body t z (body_layer t n inputs controls) n outputs g.1) in Step [] s d × Has d.shapes g.0.enforce Truth)
   rest-step z inputs controls outputs s a alone seen i c o =
       let g = drawn_observer t z n.contract s in
       let x = observer-step z s a seen in
       let l = body_layer t n inputs controls in
       let d = drawn_body t z l n outputs g.1 in
       let y = body-step z inputs controls outputs g.1 x.0.formed alone (seen-on t own lasting none_lacks z [] s g.1 x.0 seen) (row-on t [] s g.1 inputs n.inputs x.0 i) (row-on t [] s g.1 controls (controls_of n.contract) x.0 c) (holes-on t [] s g.1 outputs n.outputs x.0 o) in
-      let w = finish-step [] g.0.assume g.0.enforce d y.formed (has-on [] g.1 d g.0.assume Truth y x.1) (has-on [] g.1 d g.0.enforce Truth y x.2) in
-      onward [] [] s g.1 (finish g.0.assume g.0.enforce d) x.0 (onward [] [] g.1 d (finish g.0.assume g.0.enforce d) y w)
+      let enforced = has-on [] g.1 d g.0.enforce Truth y x.2 in
+      let w = finish-step [] g.0.assume g.0.enforce d y.formed (has-on [] g.1 d g.0.assume Truth y x.1) enforced in
+      (onward [] [] s g.1 (finish g.0.assume g.0.enforce d) x.0 (onward [] [] g.1 d (finish g.0.assume g.0.enforce d) y w), has-on [] d (finish g.0.assume g.0.enforce d) g.0.enforce Truth w enforced)
 
-  pub node-formed : IsFormed [] (drawn_node t n)
+  -- with the wire of what is enforced
+  pub node-formed : IsFormed [] (drawn_node t n) × Has (drawn_node t n).shapes (observer_of t n).enforce Truth
   node-formed =
       let s1 = with_outputs t n empty in
       let x = holes-step t [] n.outputs empty empty-formed (decls-fit types t F n.outputs r.firsts.outputs) in
@@ -233,4 +236,4 @@ module _ (types : List TypeDecl) (t : Told) (F : FirstsFit types t) (items : Lis
       let to_s4 = onward [] [] s2 z.1 s4 w.0 v.0 in
       let e = rest-step z.0 (next_wire s1) (next_wire z.1) (next_wire empty) s4 v.0.formed (contract-alone t top_place n (next_wire s1) (next_wire empty) s2) (seen-on t own lasting none_lacks z.0 [] z.1 s4 v.0 w.1) (row-on t [] s2 s4 (next_wire s1) n.inputs to_s4 y.1) v.1
       (holes-on t [] s2 s4 (next_wire empty) n.outputs to_s4 outputs2) in
-      e.formed
+      (e.0.formed, e.1)

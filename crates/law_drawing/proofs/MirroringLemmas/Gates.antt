@@ -4,14 +4,16 @@ use Rattle.std.proofs.lemmas.Option.{get_or_from_slice_get}
 use Rattle.hp_tree.specs.Instant.{Place, Instant}
 use Rattle.hp_tree.specs.Programs.{TypeDecl}
 use Rattle.hp_boolx.specs.Game.{joined}
-use Rattle.hp_boolx.specs.Machine.{Machine, game}
+use Rattle.hp_boolx.specs.Machine.{Machine, at_gate, game}
 use Rattle.hp_boolx.specs.Search.{Bits}
 use Rattle.hp_circuit.specs.declared.circuit.Circuit.{Circuit}
 use Rattle.hp_circuit.specs.declared.circuit.Wire.{Wire}
 use Rattle.hp_circuit.specs.declared.circuit.Wire.TheVariants as wire
 use Rattle.hp_circuit.specs.declared.kind.Kind.{Kind}
 use Rattle.hp_circuit.specs.declared.kind.Kind.TheVariants.{Registers, Early, Control, Late}
-use Rattle.hp_circuit.specs.Forms.{wire_at}
+use Rattle.hp_circuit.specs.declared.circuit.Shape.TheVariants.{Truth}
+use Rattle.hp_circuit.specs.Forms.{wire_at, Carries}
+use Rattle.hp_circuit.specs.Giving.{IsGateOf}
 use Rattle.hp_circuit.specs.Kinds.{bits_of}
 use Rattle.hp_circuit.specs.Machines.{IsMachineOf}
 use Rattle.hp_circuit.specs.Meaning.{truth, holds, wire_value, Solves}
@@ -25,6 +27,7 @@ use Rattle.hp_circuit.proofs.PlacedLemmas.Told.{told, valid_codes}
 use Rattle.law_drawing.specs.Carrying.Solving.{Has, Gives, Solved}
 use Rattle.law_drawing.specs.Mirroring.Codes.{AreSlotsOf, codes_for, AreNumbered}
 use Rattle.law_drawing.specs.Mirroring.Gates.{valuation_for, IsSolved, IsSaid, GatesLaw, ValuationsLaw}
+use Rattle.law_drawing.specs.Mirroring.Told.{WireHas, GateToldLaw}
 use Rattle.law_drawing.proofs.MirroringLemmas.Codes.{wide, kinds}
 use Rattle.law_drawing.proofs.MirroringLemmas.Held.{next_bits}
 use Rattle.law_drawing.proofs.MirroringLemmas.Valid.{valid}
@@ -119,6 +122,52 @@ module _ (name : List ℕ) (c : Circuit) (m : Machine) (made : IsMachineOf name 
 
 pub gates : GatesLaw
 gates name c m made types early ss are memory given next supposed owed s = said name c m made types early ss are memory given next supposed owed s
+
+-- ---- a gate of some wire
+
+-- What is shown of the hypothesis of a machine is so of each gate of a wire: the machine with this gate as its hypothesis is that of the circuit with this wire as its hypothesis.
+module _ (name : List ℕ) (c : Circuit) (m : Machine) (made : IsMachineOf name c m) (w gate : ℕ) (carries : Carries c.shapes.items w Truth) (of_wire : IsGateOf c made.places m.gates w gate) where
+  as-hypothesis : IsMachineOf name (record c { hyp = w }) (record m { hyp = gate })
+  as-hypothesis =
+      let form = made.form in
+      record {
+        named = made.named;
+        form = record { shapes = form.shapes; wires = form.wires; slots = form.slots; reads = form.reads; assume = form.assume; hyp = carries; duty = form.duty };
+        acyclic = made.acyclic;
+        registers = made.registers;
+        early = made.early;
+        control = made.control;
+        late = made.late;
+        steered = made.steered;
+        are_steered = made.are_steered;
+        assume = made.assume;
+        many_registers = made.many_registers;
+        many_early = made.many_early;
+        many_control = made.many_control;
+        many_late = made.many_late;
+        widths = made.widths;
+        prefer = made.prefer;
+        init = made.init;
+        places = made.places;
+        placed = made.placed;
+        meant = λ v.
+            let all = made.meant v in
+            record { numbers = all.numbers; solves = all.solves; only = all.only; next = all.next; valid = all.valid; hyp = of_wire.value carries v all.numbers all.solves; duty = all.duty };
+      }
+
+  module _ (types : List TypeDecl) (early : Place → Bool) (ss : List slots.Slot) (are : AreSlotsOf types early made.steered ss c.slots.items) (memory given : Instant) where
+    gate-told : (b : Bool) → WireHas types ss c memory given w b → at_gate m (valuation_for types early memory given ss) gate ≡ b
+    gate-told b h =
+        let codes = codes_for types memory given ss in
+        let v = valuation_of made.steered c.slots.items codes in
+        let e = same_valuation name c m made types early ss are memory given in
+        let t : IsTold (record c { hyp = w }) (record m { hyp = gate }) v (at h.numbers) =
+        told name (record c { hyp = w }) (record m { hyp = gate }) as-hypothesis codes (wide types early made.steered memory given ss c.slots.items are) (at h.numbers) (solves (λ i. number (code_at codes i)) h.numbers c.wires.items h.solved)
+        in
+        ap (λ u. at_gate m u gate) (sym e) ∙ t.hyp ∙ ap holds (read_at h.numbers w (truth b) h.has) ∙ holds_truth b
+
+pub gate_told : GateToldLaw
+gate_told name c m made types early ss are memory given w gate b h carries of_wire = gate-told name c m made w gate carries of_wire types early ss are memory given b h
 
 pub valuations : ValuationsLaw
 valuations name c m made types early ss numbered are r u x w er eu ex ew = valid_at name c m made types early ss are numbered r u x w er eu ex ew

@@ -31,14 +31,14 @@ same_truth false true f g = absurd (let no : false ≡ true = g refl in cc)
 same_truth false false f g = refl
 
 -- what is told of early places is the same at each free place
-same_early : (program : List Item) (n : Node) (early other : Place → Bool) → AreEarly program n early → AreEarly program n other → (p : Place) → IsFree (free_among (slots_of_node program n)) p → early p ≡ other p
+pub same_early : (program : List Item) (n : Node) (early other : Place → Bool) → AreEarly program n early → AreEarly program n other → (p : Place) → IsFree (free_among (slots_of_node program n)) p → early p ≡ other p
 same_early program n early other h k p f = same_truth (early p) (other p) (λ x. (k p f).1 ((h p f).0 x)) (λ x. (h p f).1 ((k p f).0 x))
 
 module _ (early other : Place → Bool) where
-  abbrev Same : List slots.Slot → Type 0
+  abbrev pub Same : List slots.Slot → Type 0
   Same ss = (p : Place) → IsFree (free_among ss) p → early p ≡ other p
 
-  early_ones : (ss : List slots.Slot) → Same ss → early_among early ss ≡ early_among other ss
+  pub early_ones : (ss : List slots.Slot) → Same ss → early_among early ss ≡ early_among other ss
   early_ones [] h = refl
   early_ones (register p s ∷ ss) h = early_ones ss h
   early_ones (free p t ∷ ss) h =
@@ -48,7 +48,7 @@ module _ (early other : Place → Bool) where
   early_ones (input p t ∷ ss) h = ap (λ ps. (p, t) ∷ ps) (early_ones ss (λ q f. h q (inr f)))
   early_ones (control p t ∷ ss) h = early_ones ss h
 
-  late_ones : (ss : List slots.Slot) → Same ss → late_among early ss ≡ late_among other ss
+  pub late_ones : (ss : List slots.Slot) → Same ss → late_among early ss ≡ late_among other ss
   late_ones [] h = refl
   late_ones (register p s ∷ ss) h = late_ones ss h
   late_ones (free p t ∷ ss) h =

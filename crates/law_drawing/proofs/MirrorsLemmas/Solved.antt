@@ -12,6 +12,7 @@ use Rattle.hp_meaning.specs.Causal.Steering.{steered_by}
 use Rattle.hp_circuit.specs.declared.circuit.Circuit.{Circuit}
 use Rattle.hp_circuit.specs.Meaning.{truth}
 use Rattle.hp_circuit.specs.Numbers.{number}
+use Rattle.hp_meaning.specs.Contract.Duties.{assumes, enforces}
 use Rattle.hp_meaning.specs.Contract.Game.{Choice, at_controls}
 use Rattle.hp_meaning.specs.Contract.Slots.{callee_slots, slots_of_node, registers}
 use Rattle.hp_circuit.specs.Placed.Valuations.{code_at}
@@ -33,7 +34,11 @@ use Rattle.law_drawing.proofs.InshapeLemmas.Laws.{node_numbers, zeros}
 use Rattle.law_games.proofs.ReadyGamesLemmas.Settled.{class, found}
 use Rattle.law_drawing.specs.Drawable.Laws.{IsDrawable}
 use Rattle.law_drawing.proofs.DrawableLemmas.Programs.{drawable}
+use Rattle.law_drawing.specs.Carrying.Told.{IsNodeTold, NodeToldLaw}
+use Rattle.law_drawing.specs.Mirroring.Told.{WireHas}
 use Rattle.law_drawing.specs.Mirrors.Drawn.{SolvedLaw}
+use Rattle.law_drawing.specs.Mirrors.Told.{WiresToldLaw}
+use Rattle.law_drawing.specs.Uncalled.Laws.{observer_of}
 
 abbrev decls_by : Option Node → List Decl
 decls_by None = []
@@ -99,6 +104,9 @@ module _ (after earlier : List Item) (n : Node) (mem : Instant) (inputs : List V
       drawn_is : NodeLaw → CallsLaw → IsNodeDrawn frame n inputs (read_with after n mem others choice) now
       drawn_is node_law calls_law = node_law frame class n inputs (read_with after n mem others choice) now (calls_law frame (class_behind class) accepted.1 callable) is_in
 
+      told_is : NodeToldLaw → CallsLaw → IsNodeTold frame n now
+      told_is told_law calls_law = told_law frame class n inputs (read_with after n mem others choice) now (calls_law frame (class_behind class) accepted.1 callable) is_in
+
   -- a circuit that has the lists of what is drawn
   solved_of : (c : Circuit) → IsOf c (drawn_node (told_of after) n) → IsNodeDrawn frame n inputs (read_with after n mem others choice) now
       → IsSolved (types_of after) (slots_of_node after n) c mem (given_with inputs others choice) (next_memory after earlier n mem inputs others choice now)
@@ -111,6 +119,32 @@ module _ (after earlier : List Item) (n : Node) (mem : Instant) (inputs : List V
         hyp = subst (λ w. Has d.numbers w (truth (supposed_at after earlier n mem inputs others choice now))) (sym is.hyp) d.hyp;
         duty = subst (λ w. Has d.numbers w (truth (owed_at after earlier n mem inputs others choice now))) (sym is.duty) d.duty;
       }
+
+  -- the wires of assumption and guarantee there
+  assumed_of : (c : Circuit) → IsOf c (drawn_node (told_of after) n) → IsNodeTold frame n now → WireHas (types_of after) (slots_of_node after n) c mem (given_with inputs others choice) c.assume (assumes now)
+  assumed_of c is d =
+      record {
+        numbers = d.numbers;
+        solved = subst (λ ws. Solved frame.slot d.numbers ws d.numbers) (sym is.wires) d.solved;
+        has = subst (λ w. Has d.numbers w (truth (assumes now))) (sym is.assume) d.assume;
+      }
+
+  enforced_of : (c : Circuit) → IsOf c (drawn_node (told_of after) n) → IsNodeTold frame n now → WireHas (types_of after) (slots_of_node after n) c mem (given_with inputs others choice) (observer_of (told_of after) n).enforce (enforces now)
+  enforced_of c is d = record { numbers = d.numbers; solved = subst (λ ws. Solved frame.slot d.numbers ws d.numbers) (sym is.wires) d.solved; has = d.enforce }
+
+pub wires_told : NodeToldLaw → CallsLaw → WiresToldLaw
+wires_told told_law calls_law program after ranks o earlier n st c is =
+    let a = class program after ranks o earlier n st in
+    let can = drawable program after ranks o earlier n st in
+    let told : (mem : Instant) (inputs : List Value) (others : Instant) (choice : Choice) (now : Instant) → AreWiresOf after earlier n mem inputs others choice now → IsNodeTold (frame after earlier n mem inputs others choice now) n now =
+    λ mem inputs others choice now are.
+    told_is after earlier n mem inputs others choice now (found program after ranks o earlier n st) can a.0 a.1
+    (node_numbers program after ranks earlier n (record { order = o; stands = st; drawable = can.node; earlier_drawable = can.callable }) mem inputs others choice now are) are told_law calls_law
+    in
+    record {
+      assumed = λ mem inputs others choice now are. assumed_of after earlier n mem inputs others choice now c is (told mem inputs others choice now are);
+      enforced = λ mem inputs others choice now are. enforced_of after earlier n mem inputs others choice now c is (told mem inputs others choice now are);
+    }
 
 pub solved : NodeLaw → CallsLaw → SolvedLaw
 solved node_law calls_law program after ranks o earlier n st c is mem inputs others choice now are =
