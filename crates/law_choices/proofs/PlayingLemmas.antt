@@ -10,6 +10,6 @@ pub mod Greatest
 pub mod Programs
 pub mod WorkedMirror
 pub mod Drawn
-pub mod Owed
+pub mod Marked
 pub mod Gates
 pub mod Told

@@ -7,3 +7,4 @@ pub mod Greatest
 pub mod Worked
 pub mod Drawn
 pub mod Telling
+pub mod Gates

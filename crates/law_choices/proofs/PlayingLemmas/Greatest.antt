@@ -8,7 +8,7 @@ use Rattle.hp_base.specs.declared.ty.Ty.{Ty}
 use Rattle.hp_base.specs.declared.ty.Ty.TheVariants as ty
 use Rattle.hp_base.specs.declared.value.Value.{Value}
 use Rattle.hp_base.specs.declared.value.Value.TheVariants.{Absent, Nil, B, E, I, Star}
-use Rattle.hp_boolx.specs.Machine.{Machine, game}
+use Rattle.hp_boolx.specs.Machine.{Machine}
 use Rattle.hp_boolx.specs.Search.{Bits}
 use Rattle.hp_obc.specs.Machines.{ObcType}
 use Rattle.hp_tree.specs.declared.program.Item.{Item}
@@ -25,9 +25,9 @@ use Rattle.hp_flat.specs.Nodes.{FlatNode}
 use Rattle.hp_meaning.specs.Causal.Sources.{below}
 use Rattle.hp_meaning.specs.Contract.ChosenRuns.{NamesApart}
 use Rattle.hp_meaning.specs.Contract.Codes.{CodeLaw, WidthLaw}
-use Rattle.hp_meaning.specs.Contract.Duties.{assumes, duty, enforces, hypothesis}
+use Rattle.hp_meaning.specs.Contract.Duties.{assumes, enforces}
 use Rattle.hp_meaning.specs.Contract.Forgetting.{ContractsCallNothing, erase, erased}
-use Rattle.hp_meaning.specs.Contract.FreePlaces.{InputsFit, IsAbstractOf, calls_of}
+use Rattle.hp_meaning.specs.Contract.FreePlaces.{InputsFit, IsAbstractOf}
 use Rattle.hp_meaning.specs.Contract.Game.{AreChoices, Choice, ChoiceTypesLaw, IsAmong, IsChoiceOf, IsChosen, choices_of, preferred}
 use Rattle.hp_meaning.specs.Contract.Guarantee.{ErasedNextLaw, Through, Typed}
 use Rattle.hp_meaning.specs.Contract.Slots.{FreePlace, slots_of_node}
@@ -39,6 +39,7 @@ use Rattle.law_games.specs.Forced.Laws.{InstantsLaw}
 use Rattle.law_games.specs.Forced.Twins.{PlayedChoiceLaw}
 use Rattle.law_games.specs.Mirror.Choices.{BitsInOrder, choice_bits}
 use Rattle.law_games.specs.Mirror.Mirrored.{Mirrors, controls_among, widths_at}
+use Rattle.law_games.specs.Mirror.Telling.{GatesTellContract}
 use Rattle.law_games.specs.ReadyGames.Laws.{IsInOrder, Stands}
 use Rattle.law_wellmade.specs.Timely.Kinds.{kinds_of_decls}
 use Rattle.law_wellmade.specs.Timely.Tested.{ConstructorsDiffer}
@@ -58,9 +59,9 @@ use Rattle.law_choices.specs.Choosing.Choices.{Choices}
 use Rattle.law_choices.specs.Coded.Codes.{all_bits_at, bits_of_kinds, early_places}
 use Rattle.law_choices.specs.InTurn.Nodes.{Contracted, IsContracted}
 use Rattle.law_choices.specs.OnClocks.Meaning.{GivesAnswers}
+use Rattle.law_choices.specs.Playing.Gates.{GatesHold, InputsTellLaw}
 use Rattle.law_choices.specs.Playing.Inputs.{GiveInputs, GivesInputs, HasInputsAlone, codes_of_inputs, places_in_row}
-use Rattle.law_choices.specs.Playing.Laws.{InputsOweLaw, bits_at}
-use Rattle.law_choices.specs.Playing.Mirrored.{TellsOwed, early_flags, first_gate}
+use Rattle.law_choices.specs.Playing.Mirrored.{early_flags, first_gate}
 use Rattle.law_choices.specs.Playing.Steering.{asking_instants}
 use Rattle.law_choices.specs.Runs.Laws.{ChoosesValues}
 use Rattle.law_choices.proofs.AddingLemmas.Adding.{targets_kinds}
@@ -73,7 +74,6 @@ use Rattle.law_choices.proofs.PlayingLemmas.Flags.{all-early, all_true, flags-in
 use Rattle.law_choices.proofs.PlayingLemmas.Gates.{range-long}
 use Rattle.law_choices.proofs.PlayingLemmas.Holding.{AreLong, Does, Runs, controls-held, found, inputs-held, meets}
 use Rattle.law_choices.proofs.PlayingLemmas.Inputs.{inputs_choice_law}
-use Rattle.law_choices.proofs.PlayingLemmas.Owed.{owed-alone, supposed-alone}
 use Rattle.law_choices.proofs.PlayingLemmas.Playing.{bits-given}
 use Rattle.law_choices.proofs.PlayingLemmas.Told.{told-at}
 
@@ -358,26 +358,26 @@ module _ (laws : ChoiceLaws) (program after : List Item) (ranks : List (List ℕ
         let run = is_steered laws.nodes types all observers n c g answers laws.answers laws.extended laws.controlled gives rows u.instants u.reaction u.possible in
         greatest rows u.instants past kinds u.reaction u.possible runs (typed rows past (rows-of rows kinds) runs) run.steered run.chosen
 
-    -- ---- what the machine supposes and owes
+    -- ---- what gates tell
 
-    -- At the newest instant of a reaction of the equations, beside one of the node, the machine is steered, and supposes and owes what the node does.
-    node-owes : InputsOweLaw → AnswersOfKinds answers all → (row : List Value) (rows : List (List Value)) (now : Instant) (past : Past) → AllByRecursion (AreOfKinds (kinds_of_decls decls n.inputs)) (row ∷ rows) → Runs choices decls earlier n (row ∷ rows) (now ∷ past)
+    -- At the newest instant of a reaction of the equations, beside one of the node, the machine is steered, and gates that tell the contract have the values of the assumption and of the guarantee.
+    node-holds : InputsTellLaw → AnswersOfKinds answers all → (assume enforce : ℕ) → GatesTellContract after earlier n m known.mirrors assume enforce
+        → (row : List Value) (rows : List (List Value)) (now : Instant) (past : Past) → AllByRecursion (AreOfKinds (kinds_of_decls decls n.inputs)) (row ∷ rows) → Runs choices decls earlier n (row ∷ rows) (now ∷ past)
         → (i : flat.Instant) (instants : List flat.Instant) → Reaction answers choosing (row ∷ rows) (i ∷ instants)
-        → IsSteered m p (asked instants) (cut V i) × IsPossible types choosing i × ((game m).hyp (bits_at m p (cut V i)) ≡ hypothesis n (erased now)) × ((game m).duty (bits_at m p (cut V i)) ≡ duty n (erased now))
-    node-owes owe of-kinds row rows now past kinds runs i instants reaction =
+        → IsSteered m p (asked instants) (cut V i) × IsPossible types choosing i × GatesHold m p assume enforce (cut V i) now
+    node-holds tell of-kinds assume enforce tells row rows now past kinds runs i instants reaction =
         let well = (chooses laws.nodes types all observers n c g).0 in
         let u = laws.one types all answers choosing well of-kinds (row ∷ rows) (subst (λ ks. AllByRecursion (AreOfKinds ks) (row ∷ rows)) (sym chosen-kinds) kinds) in
         let possible : AllByRecursion (IsPossible types choosing) (i ∷ instants) = subst (AllByRecursion (IsPossible types choosing)) (sym (u.only (i ∷ instants) reaction)) u.possible in
         let run = is_steered laws.nodes types all observers n c g answers laws.answers laws.extended laws.controlled gives (row ∷ rows) (i ∷ instants) reaction possible in
         let given : GiveInputs after n m p (asked (i ∷ instants)) (now ∷ past) = gives-all (row ∷ rows) (i ∷ instants) (now ∷ past) kinds reaction possible runs (typed (row ∷ rows) (now ∷ past) (rows-of (row ∷ rows) kinds) runs) run.steered run.chosen in
-        let it = owe program after ranks order earlier n stands alone m known.mirrors p none-is-late (cut V i) (asked instants) now past run.steered given in
-        (run.steered.0, possible.0, it.0, it.1)
+        (run.steered.0, possible.0, tell program after ranks order earlier n stands alone m known.mirrors assume enforce tells p none-is-late (cut V i) (asked instants) now past run.steered given)
 
-    -- So if the node calls nothing, the copies of two gates that tell what is supposed and owed have the values of the assumption and of the guarantee.
-    pub node-tells : InputsOweLaw → GatesLaw → AnswersOfKinds answers all → calls_of n ≡ [] → (assume enforce : ℕ) → TellsOwed m assume enforce → (g.is).whole.assume ≡ first_gate types observers n c g.is + assume → (g.is).whole.enforce ≡ first_gate types observers n c g.is + enforce
+    -- So the copies of these gates have them.
+    pub node-tells : InputsTellLaw → GatesLaw → AnswersOfKinds answers all → (assume enforce : ℕ) → GatesTellContract after earlier n m known.mirrors assume enforce → (g.is).whole.assume ≡ first_gate types observers n c g.is + assume → (g.is).whole.enforce ≡ first_gate types observers n c g.is + enforce
         → (row : List Value) (rows : List (List Value)) (now : Instant) (past : Past) → AllByRecursion (AreOfKinds (kinds_of_decls decls n.inputs)) (row ∷ rows) → Runs choices decls earlier n (row ∷ rows) (now ∷ past)
         → (i : flat.Instant) (instants : List flat.Instant) → Reaction answers choosing (row ∷ rows) (i ∷ instants) → (i c.chosen.assume ≡ B (assumes now)) × (i c.chosen.enforce ≡ B (enforces now))
-    node-tells owe gates of-kinds none assume enforce tells assume_copied enforce_copied row rows now past kinds runs i instants reaction =
-        let owed = node-owes owe of-kinds row rows now past kinds runs i instants reaction in
-        told-at laws.nodes types all observers n c g answers instants row i reaction.1 owed.1 (asked instants) owed.0 gates assume enforce tells assume_copied enforce_copied
-        (assumes now) (enforces now) (owed.2 ∙ supposed-alone n none now) (owed.3 ∙ owed-alone n none now)
+    node-tells tell gates of-kinds assume enforce tells assume_copied enforce_copied row rows now past kinds runs i instants reaction =
+        let holds = node-holds tell of-kinds assume enforce tells row rows now past kinds runs i instants reaction in
+        told-at laws.nodes types all observers n c g answers instants row i reaction.1 holds.1 (asked instants) holds.0 gates assume enforce tells.assume_there tells.enforce_there assume_copied enforce_copied
+        (assumes now) (enforces now) (holds.2).assumed (holds.2).enforced

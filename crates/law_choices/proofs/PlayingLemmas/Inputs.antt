@@ -33,6 +33,8 @@ use Rattle.law_games.specs.ReadyGames.Laws.{IsInOrder, Stands}
 use Rattle.hp_controller.specs.Steps.{Placing, bits_of, control_places}
 use Rattle.law_choices.specs.Playing.Given.{GivesSame, GiveSame}
 use Rattle.law_choices.specs.Playing.Inputs.{placed, places_in_row, HasInputsAlone, codes_of_inputs, GivesInputs, GiveInputs}
+use Rattle.law_choices.specs.Playing.Gates.{InputsTellLaw, SteeredTellLaw}
+use Rattle.law_choices.proofs.PlayingLemmas.Marked.{assumes-erased, enforces-erased}
 use Rattle.law_choices.specs.Playing.Laws.{InputsChoiceLaw, InputsOweLaw, SteeredOweLaw}
 use Rattle.law_choices.proofs.PlayingLemmas.Playing.{bits-given, steered_choice_law}
 
@@ -273,3 +275,9 @@ inputs_choice_law fitting played program after ranks order earlier n stands inpu
 pub inputs_owe_law : InstantsLaw → SteeredOweLaw → InputsOweLaw
 inputs_owe_law fitting owe program after ranks order earlier n stands inputs_alone m M p none i instants now past steered given =
     owe program after ranks order earlier n stands m M p i instants (erased now) (erase past) steered (all-same program after ranks order earlier n stands fitting inputs_alone _ refl m M p none (i ∷ instants) (now ∷ past) given)
+
+pub inputs_tell_law : InstantsLaw → SteeredTellLaw → InputsTellLaw
+inputs_tell_law fitting tell program after ranks order earlier n stands inputs_alone m M assume enforce tells p none i instants now past steered given =
+    let same = all-same program after ranks order earlier n stands fitting inputs_alone _ refl m M p none (i ∷ instants) (now ∷ past) given in
+    let held = tell program after ranks order earlier n stands m M assume enforce tells p i instants (erased now) (erase past) steered same in
+    record { assumed = held.assumed ∙ assumes-erased now; enforced = held.enforced ∙ enforces-erased now }

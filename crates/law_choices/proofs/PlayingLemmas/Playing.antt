@@ -3,7 +3,7 @@ use Rattle.std.proofs.Common.{◌≡◌, ℕ, Bool, List, [], ◌∷◌, map, re
 use Rattle.hp_base.specs.declared.value.Value.{Value}
 use Rattle.hp_base.specs.declared.value.Value.TheVariants.{B}
 use Rattle.hp_boolx.specs.Game.{joined}
-use Rattle.hp_boolx.specs.Machine.{Machine, game}
+use Rattle.hp_boolx.specs.Machine.{Machine, at_gate, game}
 use Rattle.hp_boolx.specs.Search.{Bits}
 use Rattle.hp_boolx.specs.Solved.{IsChoice}
 use Rattle.hp_tree.specs.declared.program.Item.{Item}
@@ -11,18 +11,22 @@ use Rattle.hp_tree.specs.Programs.{Node}
 use Rattle.hp_tree.specs.Instant.{Instant, Past}
 use Rattle.hp_tree.specs.Meaning.{types_of}
 use Rattle.hp_tree.specs.Operators.{marked}
-use Rattle.hp_meaning.specs.Contract.Duties.{duty, hypothesis}
+use Rattle.hp_meaning.specs.Contract.Duties.{assumes, duty, enforces, hypothesis}
 use Rattle.hp_meaning.specs.Contract.Game.{Choice, IsChoiceOf}
 use Rattle.hp_meaning.specs.Contract.Memory.{bits as bits_behind, memory}
 use Rattle.hp_meaning.specs.Contract.Slots.{slots_of_node}
 use Rattle.law_games.specs.ReadyGames.FittingHistories.{IsFitting}
 use Rattle.law_equations.specs.Meaning.Instants as flat
-use Rattle.law_games.specs.Forced.Twins.{AlongLaw, LongerLaw, Plays, PlayedChoiceLaw, PlaysLaw}
+use Rattle.law_games.specs.Forced.Telling.{ToldAlongLaw}
+use Rattle.law_games.specs.Forced.Twins.{AlongLaw, AreTwins, IsTwin, LongerLaw, Plays, PlayedChoiceLaw, PlaysLaw}
+use Rattle.law_games.specs.ReadyGames.Laws.{IsInOrder, Stands}
 use Rattle.law_games.specs.Mirror.Choices.{choice_bits}
 use Rattle.law_games.specs.Mirror.Mirrored.{Mirrors, codes_at, controls_among, early_among, given_with, late_among, valuation}
 use Rattle.law_games.proofs.MirrorLemmas.SameChoices.{own_bits}
 use Rattle.law_games.proofs.ReadyGamesLemmas.Settled.{ready_settled}
-use Rattle.hp_controller.specs.Steps.{Placing, bits_of, register_places, control_places, state_after}
+use Rattle.hp_controller.specs.Steps.{AlwaysSteered, Placing, bits_of, register_places, control_places, state_after}
+use Rattle.law_choices.specs.Playing.Gates.{SteeredTellLaw}
+use Rattle.law_choices.specs.Playing.Given.{GiveSame}
 use Rattle.law_choices.specs.Playing.Laws.{PlayingLaw, SteeredChoiceLaw, SteeredOweLaw, bits_at}
 
 pub bits-given : (now : flat.Instant) (xs : List ℕ) (bits : Bits) → map now xs ≡ map (λ b. B b) bits → bits_of now xs ≡ bits
@@ -86,23 +90,60 @@ steered_choice_law played program after ranks order earlier n stands m M prefer 
 follows : (f : Bits → Bool) (u v : Bits) (b : Bool) → u ≡ v → f v ≡ b → f u ≡ b
 follows f u v b e h = ap f e ∙ h
 
+module _ (plays : PlaysLaw) (longer : LongerLaw) (program after : List Item) (ranks : List (List ℕ)) (order : IsInOrder program after ranks) (earlier : List Item) (n : Node) (stands : Stands after earlier n) (m : Machine) (M : Mirrors after earlier n m) (p : Placing) (i : flat.Instant)
+    (instants : List flat.Instant) (now : Instant) (history : Past) (steered : AlwaysSteered m p (i ∷ instants)) (same : GiveSame after earlier n m M p (i ∷ instants) (now ∷ history)) where
+  abbrev given : Instant
+  given = given_with (same.1).inputs ((same.1).fits).others (same.1).chosen
+
+  -- beside the game stands a history without Nil, and the variables of the machine have the bits of what it leaves and the codes of what is given
+  record Beside : Type 0 where
+    other : Past
+    twins : AreTwins after earlier n history other
+    filled : Instant
+    twin : IsTwin after earlier n history other (same.1).inputs ((same.1).fits).others (same.1).chosen now filled
+    valued : bits_at m p i ≡ valuation after n M.is_early (memory after n other) given
+
+  beside : Beside
+  beside =
+      let g = same.1 in
+      let here = steered.0 in
+      let types = types_of after in
+      let slots = slots_of_node after n in
+      let state = playing_law after earlier n m M p instants history steered.1 same.0 in
+      let b = plays program after ranks order earlier n stands m M history (state_after m p instants) state in
+      let y = longer program after ranks order earlier n stands history b.0 g.inputs g.early g.chosen now b.1.0 g.is_choice g.fits in
+      let settled = ready_settled program after ranks order earlier n stands in
+      let registers : bits_of i (register_places m p) ≡ bits_behind after n b.0 = bits-given i (register_places m p) (state_after m p instants) here.registers ∙ b.1.1 in
+      let chosen : bits_of i (control_places m p) ≡ codes_at types (controls_among slots) given = g.chosen_bits ∙ sym (own_bits after settled.0 earlier n m settled.1 M g.inputs (g.fits).others g.chosen) in
+      record {
+        other = b.0;
+        twins = b.1.0;
+        filled = y.0;
+        twin = y.1;
+        valued =
+            same-bits (bits_of i (register_places m p)) (bits_behind after n b.0) (bits_of i p.early) (codes_at types (early_among M.is_early slots) given)
+            (bits_of i (control_places m p)) (codes_at types (controls_among slots) given) (bits_of i p.late) (codes_at types (late_among M.is_early slots) given) registers g.early_bits chosen g.late_bits;
+      }
+
+  -- a function of these variables has there the value that it has beside the game
+  there : (b : Beside) (f : Bits → Bool) (value : Bool) → f (valuation after n M.is_early (memory after n b.other) given) ≡ value → f (bits_at m p i) ≡ value
+  there b f value h = follows f (bits_at m p i) (valuation after n M.is_early (memory after n b.other) given) value b.valued h
+
 pub steered_owe_law : PlaysLaw → LongerLaw → AlongLaw → SteeredOweLaw
 steered_owe_law plays longer along program after ranks order earlier n stands m M p i instants now history steered same =
     let g = same.1 in
-    let here = steered.0 in
-    let types = types_of after in
-    let slots = slots_of_node after n in
-    let state = playing_law after earlier n m M p instants history steered.1 same.0 in
-    let b = plays program after ranks order earlier n stands m M history (state_after m p instants) state in
-    let y = longer program after ranks order earlier n stands history b.0 g.inputs g.early g.chosen now b.1.0 g.is_choice g.fits in
-    let given = given_with g.inputs (g.fits).others g.chosen in
-    let goes = along program after ranks order earlier n stands m M history b.0 g.inputs (g.fits).others g.chosen now y.0 b.1.0 y.1 in
-    let settled = ready_settled program after ranks order earlier n stands in
-    let registers : bits_of i (register_places m p) ≡ bits_behind after n b.0 = bits-given i (register_places m p) (state_after m p instants) here.registers ∙ b.1.1 in
-    let chosen : bits_of i (control_places m p) ≡ codes_at types (controls_among slots) given = g.chosen_bits ∙ sym (own_bits after settled.0 earlier n m settled.1 M g.inputs (g.fits).others g.chosen) in
-    let valued : bits_at m p i ≡ valuation after n M.is_early (memory after n b.0) given =
-    same-bits (bits_of i (register_places m p)) (bits_behind after n b.0) (bits_of i p.early) (codes_at types (early_among M.is_early slots) given)
-    (bits_of i (control_places m p)) (codes_at types (controls_among slots) given) (bits_of i p.late) (codes_at types (late_among M.is_early slots) given) registers g.early_bits chosen g.late_bits in (
-      follows (game m).hyp (bits_at m p i) (valuation after n M.is_early (memory after n b.0) given) (hypothesis n now) valued goes.supposes,
-      follows (game m).duty (bits_at m p i) (valuation after n M.is_early (memory after n b.0) given) (duty n now) valued goes.owes,
+    let b = beside plays longer program after ranks order earlier n stands m M p i instants now history steered same in
+    let goes = along program after ranks order earlier n stands m M history b.other g.inputs (g.fits).others g.chosen now b.filled b.twins b.twin in (
+      there plays longer program after ranks order earlier n stands m M p i instants now history steered same b (game m).hyp (hypothesis n now) goes.supposes,
+      there plays longer program after ranks order earlier n stands m M p i instants now history steered same b (game m).duty (duty n now) goes.owes,
     )
+
+pub steered_tell_law : PlaysLaw → LongerLaw → ToldAlongLaw → SteeredTellLaw
+steered_tell_law plays longer told program after ranks order earlier n stands m M assume enforce tells p i instants now history steered same =
+    let g = same.1 in
+    let b = beside plays longer program after ranks order earlier n stands m M p i instants now history steered same in
+    let goes = told program after ranks order earlier n stands m M assume enforce tells history b.other g.inputs (g.fits).others g.chosen now b.filled b.twins b.twin in
+    record {
+      assumed = there plays longer program after ranks order earlier n stands m M p i instants now history steered same b (λ v. at_gate m v assume) (assumes now) goes.assumed;
+      enforced = there plays longer program after ranks order earlier n stands m M p i instants now history steered same b (λ v. at_gate m v enforce) (enforces now) goes.enforced;
+    }

@@ -18,7 +18,6 @@ use Rattle.hp_tree.specs.Reaction.{controls_at, row_of}
 use Rattle.hp_tree.specs.Values.{AreOf}
 use Rattle.hp_meaning.specs.Contract.Forgetting.{erase}
 use Rattle.hp_meaning.specs.Contract.Duties.{assumes, enforces}
-use Rattle.hp_meaning.specs.Contract.FreePlaces.{calls_of}
 use Rattle.hp_meaning.specs.Contract.Game.{AreChoices, AtMost, Choice, Permitted, choices_of, first_of}
 use Rattle.hp_meaning.specs.Contract.ChosenRuns.{NamesApart}
 use Rattle.hp_meaning.specs.Contract.Guarantee.{Through, Typed}
@@ -61,7 +60,7 @@ use Rattle.law_choices.specs.Answered.Loops as loop
 use Rattle.law_choices.specs.InTurn.Telling.{TellsFor, TellsForLaw}
 use Rattle.law_choices.specs.Playing.Greatest.{AreMirrored, ChoosesGreatest, GreatestLaw, GreatestRunLaw, KnowsAll}
 use Rattle.law_choices.specs.Playing.Inputs.{HasInputsAlone}
-use Rattle.law_choices.specs.Playing.Laws.{InputsOweLaw, SteeredOweLaw}
+use Rattle.law_choices.specs.Playing.Gates.{InputsTellLaw, SteeredTellLaw}
 use Rattle.law_choices.specs.Playing.Mirrored.{IsMirrored}
 use Rattle.law_choices.specs.Playing.Telling.{AreToldOf, ContractToldLaw}
 use Rattle.law_choices.proofs.AnsweredLemmas.Programs.{decls_kinds, takes_kinds}
@@ -446,23 +445,25 @@ module _ (laws : GreatestLaws) (program after : List Item) (ranks : List (List �
     runs-here : (rows : List (List Value)) (past : Past) → ChosenReaction choices after n.name rows past → Runs_here rows past
     runs-here rows past reaction = runs-of choices after found.earlier n found.stands apart-here rows (map (λ (vs : List Value). nothing) rows) past reaction
 
-    -- where nothing is free but the inputs, and nothing is called
-    told-of : InputsOweLaw → GatesLaw → TellsFor after ms answers n.name n → HasInputsAlone after n → calls_of n ≡ [] → (rows : List (List Value)) (past : Past) → Kinds rows → ChosenReaction choices after n.name rows past → AllTold rows past
-    told-of owe gates told alone none rows past kinds reaction =
+    -- where nothing is free but the inputs
+    told-of : InputsTellLaw → GatesLaw → TellsFor after ms answers n.name n → HasInputsAlone after n → (rows : List (List Value)) (past : Past) → Kinds rows → ChosenReaction choices after n.name rows past → AllTold rows past
+    unfolding known-here
+    told-of tell gates told alone rows past kinds reaction =
         told-lines told (λ rs p. ⊤) (λ row rs now p k s. tt)
         (λ row rs now p k r s.
-        node-tells laws.choice program after ranks order found.earlier n found.stands alone types all observers c g known-here choices own-values answers gives its-choice typed-here owe gates
-        (allowed.one).typed none mirror.assume mirror.enforce (mirror.told none) mirror.assume_copied mirror.enforce_copied row rs now p k r) rows past kinds (runs-here rows past reaction) tt
+        node-tells laws.choice program after ranks order found.earlier n found.stands alone types all observers c g known-here choices own-values answers gives its-choice typed-here tell gates
+        (allowed.one).typed mirror.assume mirror.enforce mirror.told mirror.assume_copied mirror.enforce_copied row rs now p k r) rows past kinds (runs-here rows past reaction) tt
 
-    -- where the equations hold values of the reaction, and nothing is called
-    told-seen : SteeredOweLaw → GatesLaw → TellsFor after ms answers n.name n → calls_of n ≡ [] → (rows : List (List Value)) (past : Past) → Kinds rows → ChosenReaction choices after n.name rows past → SeesOwn types observers after ms n answers rows past → AllTold rows past
-    told-seen owe gates told none rows past kinds reaction sees =
+    -- where the equations hold values of the reaction
+    told-seen : SteeredTellLaw → GatesLaw → TellsFor after ms answers n.name n → (rows : List (List Value)) (past : Past) → Kinds rows → ChosenReaction choices after n.name rows past → SeesOwn types observers after ms n answers rows past → AllTold rows past
+    unfolding known-here
+    told-seen tell gates told rows past kinds reaction sees =
         told-lines told (λ rs p. (instants : List flat.Instant) → Reaction answers c.chosen.node rs instants → HoldThroughout types after n (survey_of types observers n c mirror.is) instants p)
         (λ row rs now p k s.
         seen-before laws.choice program after ranks order found.earlier n found.stands types all observers c g known-here choices own-values answers gives its-choice typed-here (allowed.one).typed row rs now p k s)
         (λ row rs now p k r s.
-        node-seen-tells laws.choice program after ranks order found.earlier n found.stands types all observers c g known-here choices own-values answers gives its-choice typed-here owe gates
-        (allowed.one).typed none mirror.assume mirror.enforce (mirror.told none) mirror.assume_copied mirror.enforce_copied row rs now p k r s) rows past kinds (runs-here rows past reaction) (sees found.earlier found.stands c mirror found.among)
+        node-seen-tells laws.choice program after ranks order found.earlier n found.stands types all observers c g known-here choices own-values answers gives its-choice typed-here tell gates
+        (allowed.one).typed mirror.assume mirror.enforce mirror.told mirror.assume_copied mirror.enforce_copied row rs now p k r s) rows past kinds (runs-here rows past reaction) (sees found.earlier found.stands c mirror found.among)
 
     -- so it is where the equations hold values of the reaction
     seen-of : (rows : List (List Value)) (past : Past) → AllByRecursion (AreOfKinds (timely.kinds_of_decls decls n.inputs)) rows → ChosenReaction choices after n.name rows past → SeesOwn types observers after ms n answers rows past
@@ -513,8 +514,8 @@ seen_greatest_law laws program after ranks observers ms order h mirrored allowed
     by own (inl none) r = nothing-through after n past (ap (λ (o : Option Contract). controls_of o) none)
     by own (inr found) r = seen-of laws program after ranks observers ms order h allowed n own found inputs past kinds r sees
 
-pub contract_told_law : GreatestLaws → InputsOweLaw → GatesLaw → TellsForLaw → ContractToldLaw
-contract_told_law laws owe gates told_for program after ranks observers ms order h mirrored allowed f n inputs past e has alone none kinds reaction =
+pub contract_told_law : GreatestLaws → InputsTellLaw → GatesLaw → TellsForLaw → ContractToldLaw
+contract_told_law laws tell gates told_for program after ranks observers ms order h mirrored allowed f n inputs past e has alone kinds reaction =
     let named : n.name ≡ f = name_found (reverse after) f n e in
     let choices = (allowed.allowed).choices in
     let own : node_among (reverse after) n.name ≡ Some n = ap (node_among (reverse after)) named ∙ e in
@@ -529,10 +530,10 @@ contract_told_law laws owe gates told_for program after ranks observers ms order
     by : node_among (reverse after) n.name ≡ Some n → TellsFor after ms (allowed.one).answers n.name n → Found laws program after ranks observers ms order h allowed n → ChosenReaction (allowed.allowed).choices after n.name inputs past
         → AreToldOf past (all_answers ((allowed.one).answers n.name) inputs) (all_answers ((allowed.one).answers (contract_name n.name)) inputs)
     by own told (inl lacks) r = absurd (none-some has.0 (sym lacks ∙ has.1))
-    by own told (inr found) r = told-of laws program after ranks observers ms order h allowed n own found owe gates told alone none inputs past kinds r
+    by own told (inr found) r = told-of laws program after ranks observers ms order h allowed n own found tell gates told alone inputs past kinds r
 
-pub seen_told_law : GreatestLaws → SteeredOweLaw → GatesLaw → TellsForLaw → SeenToldLaw
-seen_told_law laws owe gates told_for program after ranks observers ms order h mirrored allowed f n inputs past e has none kinds reaction sees =
+pub seen_told_law : GreatestLaws → SteeredTellLaw → GatesLaw → TellsForLaw → SeenToldLaw
+seen_told_law laws tell gates told_for program after ranks observers ms order h mirrored allowed f n inputs past e has kinds reaction sees =
     let named : n.name ≡ f = name_found (reverse after) f n e in
     let choices = (allowed.allowed).choices in
     let own : node_among (reverse after) n.name ≡ Some n = ap (node_among (reverse after)) named ∙ e in
@@ -547,4 +548,4 @@ seen_told_law laws owe gates told_for program after ranks observers ms order h m
     by : node_among (reverse after) n.name ≡ Some n → TellsFor after ms (allowed.one).answers n.name n → Found laws program after ranks observers ms order h allowed n → ChosenReaction (allowed.allowed).choices after n.name inputs past
         → AreToldOf past (all_answers ((allowed.one).answers n.name) inputs) (all_answers ((allowed.one).answers (contract_name n.name)) inputs)
     by own told (inl lacks) r = absurd (none-some has.0 (sym lacks ∙ has.1))
-    by own told (inr found) r = told-seen laws program after ranks observers ms order h allowed n own found owe gates told none inputs past kinds r sees
+    by own told (inr found) r = told-seen laws program after ranks observers ms order h allowed n own found tell gates told inputs past kinds r sees

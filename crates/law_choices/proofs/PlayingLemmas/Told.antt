@@ -1,9 +1,9 @@
 -- What the node that chooses tells at an instant, where its machine is steered and sees truth values.
-use Rattle.std.proofs.Common.{◌≡◌, ℕ, suc, ◌+◌, Bool, List, length, sym, ap, subst, ◌∙◌}
+use Rattle.std.proofs.Common.{◌≡◌, ℕ, suc, ◌+◌, ◌<◌, Bool, List, length, sym, ap, subst, ◌∙◌}
 use Rattle.std.specs.Prelude.{[]}
 use Rattle.hp_base.specs.declared.value.Value.{Value}
 use Rattle.hp_base.specs.declared.value.Value.TheVariants.{B}
-use Rattle.hp_boolx.specs.Machine.{Machine, game}
+use Rattle.hp_boolx.specs.Machine.{Machine, at_gate}
 use Rattle.hp_obc.specs.Machines.{ObcType}
 use Rattle.hp_tree.specs.Programs.{Node}
 use Rattle.hp_flat.specs.Nodes.{FlatNode}
@@ -19,7 +19,7 @@ use Rattle.hp_watch.specs.Watching.{Observing, Watched}
 use Rattle.law_choices.specs.Coded.Codes.{all_bits_at, early_places, late_places}
 use Rattle.law_choices.specs.InTurn.Nodes.{Contracted, controller_name}
 use Rattle.law_choices.specs.Playing.Laws.{bits_at}
-use Rattle.law_choices.specs.Playing.Mirrored.{TellsOwed, first_gate}
+use Rattle.law_choices.specs.Playing.Mirrored.{first_gate}
 use Rattle.law_choices.proofs.InTurnLemmas.Contracted.{Ground, NodeLaws}
 use Rattle.law_choices.proofs.PlayingLemmas.Asking.{are-bits, are_coded, asking, controls, cut-all, early_below, late_below, machine, made, survey}
 use Rattle.law_choices.proofs.PlayingLemmas.Gates.{assume-copied, enforce-copied, enough-variables, gate-is, have-all, places-below}
@@ -56,28 +56,26 @@ module _ (laws : NodeLaws) (types : List ObcType) (all : Callees) (observers : O
         (are-bits (cut V i) w.late (all_bits_at types s.node i (late_places s.free (g.is).is_early)) (cut-all V i w.late late ∙ coded.late))
         (cut-all V i (places m p) (places-below w.node m w.early w.late V (enough-variables w.node m (controller_name node.name) w.early w.late cs) early late))
 
-    -- So copies of two gates that tell what is supposed and owed have these values.
-    pub told-at : GatesLaw → (assume enforce : ℕ) → TellsOwed m assume enforce → (g.is).whole.assume ≡ first_gate types observers node c g.is + assume → (g.is).whole.enforce ≡ first_gate types observers node c g.is + enforce
-        → (supposed owed : Bool) → (game m).hyp (bits_at m p (cut V i)) ≡ supposed → (game m).duty (bits_at m p (cut V i)) ≡ owed → (i c.chosen.assume ≡ B supposed) × (i c.chosen.enforce ≡ B owed)
-    told-at gates assume enforce tells assume_copied enforce_copied supposed owed h d =
+    -- So copies of two gates have the values of these.
+    pub told-at : GatesLaw → (assume enforce : ℕ) → assume < length m.gates → enforce < length m.gates → (g.is).whole.assume ≡ first_gate types observers node c g.is + assume → (g.is).whole.enforce ≡ first_gate types observers node c g.is + enforce
+        → (assumed enforced : Bool) → at_gate m (bits_at m p (cut V i)) assume ≡ assumed → at_gate m (bits_at m p (cut V i)) enforce ≡ enforced → (i c.chosen.assume ≡ B assumed) × (i c.chosen.enforce ≡ B enforced)
+    told-at gates assume enforce assume_there enforce_there assume_copied enforce_copied assumed enforced h d =
         let is = g.is in
         let first = is.watched in
         let same : first ≡ w = let it = is.is_watched in it.is in
         let v = bits_at m p (cut V i) in
         let have : HaveBits (places m (placing_of (length first.node.variables) m first.early first.late)) i v = subst (λ (x : Watched). HaveBits (places m (placing_of (length x.node.variables) m x.early x.late)) i v) (sym same) bits-there in
         let holds = goes.equations in
-        let first_value = gate-is first.node choosing m (controller_name node.name) first.early first.late cs is.whole answers past i holds gates v have assume tells.assume_there in
-        let second_value = gate-is first.node choosing m (controller_name node.name) first.early first.late cs is.whole answers past i holds gates v have enforce tells.enforce_there in (
+        let first_value = gate-is first.node choosing m (controller_name node.name) first.early first.late cs is.whole answers past i holds gates v have assume assume_there in
+        let second_value = gate-is first.node choosing m (controller_name node.name) first.early first.late cs is.whole answers past i holds gates v have enforce enforce_there in (
           ap i is.assume
               ∙ assume-copied first.node choosing m (controller_name node.name) first.early first.late cs is.whole answers past i holds
               ∙ ap i assume_copied
               ∙ first_value
-              ∙ ap B (tells.supposes v)
               ∙ ap B h,
           ap i (is.enforce ∙ ap suc is.assume)
               ∙ enforce-copied first.node choosing m (controller_name node.name) first.early first.late cs is.whole answers past i holds
               ∙ ap i enforce_copied
               ∙ second_value
-              ∙ ap B (tells.owes v)
               ∙ ap B d,
         )

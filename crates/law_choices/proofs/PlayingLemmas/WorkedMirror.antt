@@ -33,6 +33,13 @@ abbrev Wires : Instant → List Value → Instant → Choice → Instant → Typ
 Wires mem vs others c now = AreWiresOf contract_program [] contract_tree mem vs others c now
 
 -- nothing is assumed and nothing enforced
+-- it assumes and enforces nothing
+assumed : (mem : Instant) (vs : List Value) (others : Instant) (c : Choice) (now : Instant) → Wires mem vs others c now → assumes now ≡ true
+assumed mem vs others c now w = ap (λ (i : Instant). holds_or_missing (i (Assume ∷ []))) w.solves
+
+enforced : (mem : Instant) (vs : List Value) (others : Instant) (c : Choice) (now : Instant) → Wires mem vs others c now → enforces now ≡ true
+enforced mem vs others c now w = ap (λ (i : Instant). holds_or_missing (i (Enforce ∷ []))) w.solves
+
 supposed : (mem : Instant) (vs : List Value) (others : Instant) (c : Choice) (now : Instant) → Wires mem vs others c now
     → hypothesis_on (is_called (instant_of [] [] contract_tree vs (read_with contract_program contract_tree mem others c) now)) contract_tree now ≡ true
 supposed mem vs others c now w = ap (λ (i : Instant). holds_or_missing (i (Assume ∷ [])) && true) w.solves
@@ -90,6 +97,6 @@ some_mirrored_law well_made = (
     enforce = 0;
     assume_copied = watched_gates.0;
     enforce_copied = watched_gates.1;
-    told = λ none. record { assume_there = omega arith; enforce_there = omega arith; supposes = λ v. refl; owes = λ v. refl };
+    told = record { assume_there = omega arith; enforce_there = omega arith; assumed = λ mem vs others c now w. sym (assumed mem vs others c now w); enforced = λ mem vs others c now w. sym (enforced mem vs others c now w) };
   },
 )

@@ -18,7 +18,6 @@ use Rattle.hp_flat.specs.Nodes.{FlatNode}
 use Rattle.hp_meaning.specs.Causal.Sources.{below}
 use Rattle.hp_meaning.specs.Contract.Duties.{assumes, enforces}
 use Rattle.hp_meaning.specs.Contract.Forgetting.{erase, erased}
-use Rattle.hp_meaning.specs.Contract.FreePlaces.{calls_of}
 use Rattle.hp_meaning.specs.Contract.Game.{AreChoices, IsChoiceOf, IsChosen, preferred}
 use Rattle.hp_meaning.specs.Contract.Guarantee.{Through, Typed}
 use Rattle.hp_meaning.specs.Contract.Slots.{slots_of_node, Slot}
@@ -37,13 +36,14 @@ use Rattle.hp_controller.specs.Extending.{cut}
 use Rattle.hp_controller.specs.Gates.{GatesLaw}
 use Rattle.hp_controller.specs.Steps.{AlwaysSteered, IsSteered, Placing, bits_of, control_places, register_places, state_after}
 use Rattle.hp_watch.specs.Watching.{Observing, Surveyed, Watched}
+use Rattle.law_games.specs.Mirror.Telling.{GatesTellContract}
 use Rattle.law_choices.specs.Answered.Loops.{IsItsChoice}
 use Rattle.law_choices.specs.Choosing.Choices.{Choices}
 use Rattle.law_choices.specs.Coded.Codes.{all_bits_at, early_places, late_places}
 use Rattle.law_choices.specs.InTurn.Nodes.{Contracted}
 use Rattle.law_choices.specs.OnClocks.Meaning.{GivesAnswers}
-use Rattle.law_choices.specs.Playing.Laws.{SteeredOweLaw}
-use Rattle.law_choices.specs.Playing.Mirrored.{TellsOwed, first_gate}
+use Rattle.law_choices.specs.Playing.Gates.{SteeredTellLaw}
+use Rattle.law_choices.specs.Playing.Mirrored.{first_gate}
 use Rattle.law_choices.specs.Playing.Steering.{asking_instants}
 use Rattle.law_choices.specs.Runs.Laws.{ChoosesValues}
 use Rattle.law_choices.proofs.AddingLemmas.Rows.{each_range}
@@ -58,7 +58,7 @@ use Rattle.law_choices.specs.Seeing.Held.{AreHeld, HoldsValues, HoldThroughout}
 use Rattle.law_choices.specs.Seeing.Values.{SeesValues, SeeValues}
 use Rattle.law_choices.proofs.PlayingLemmas.Gates.{range-long}
 use Rattle.law_choices.proofs.PlayingLemmas.Greatest.{ChoiceLaws, Known, all-choices, inputs-fit}
-use Rattle.law_choices.proofs.PlayingLemmas.Owed.{owed-alone, supposed-alone}
+use Rattle.law_choices.proofs.PlayingLemmas.Marked.{assumes-erased, enforces-erased}
 use Rattle.law_choices.proofs.PlayingLemmas.Told.{told-at}
 use Rattle.law_choices.proofs.SeeingLemmas.Held.{held_codes_law}
 use Rattle.law_choices.proofs.SeeingLemmas.Values.{all-same, values_choice_law}
@@ -277,17 +277,17 @@ module _ (laws : ChoiceLaws) (program after : List Item) (ranks : List (List ℕ
         by one only [] r h = absurd r
         by one only (i ∷ xs) r h = subst (λ ys. HoldThroughout types after n s ys past) (only xs r.0 ∙ sym (only instants reaction)) h.0
 
-    -- If the node calls nothing, the copies of two gates that tell what is supposed and owed have the values of the assumption and of the guarantee.
-    pub node-seen-tells : SteeredOweLaw → GatesLaw → AnswersOfKinds answers all → calls_of n ≡ [] → (assume enforce : ℕ) → TellsOwed m assume enforce → (g.is).whole.assume ≡ first_gate types observers n c g.is + assume → (g.is).whole.enforce ≡ first_gate types observers n c g.is + enforce
+    -- The copies of two gates that tell the contract have the values of the assumption and of the guarantee.
+    pub node-seen-tells : SteeredTellLaw → GatesLaw → AnswersOfKinds answers all → (assume enforce : ℕ) → GatesTellContract after earlier n m known.mirrors assume enforce → (g.is).whole.assume ≡ first_gate types observers n c g.is + assume → (g.is).whole.enforce ≡ first_gate types observers n c g.is + enforce
         → (row : List Value) (rows : List (List Value)) (now : Instant) (past : Past) → AllByRecursion (AreOfKinds (kinds_of_decls decls n.inputs)) (row ∷ rows) → Runs choices decls earlier n (row ∷ rows) (now ∷ past) → Sees (row ∷ rows) (now ∷ past)
         → (i : flat.Instant) (instants : List flat.Instant) → Reaction answers choosing (row ∷ rows) (i ∷ instants) → (i c.chosen.assume ≡ B (assumes now)) × (i c.chosen.enforce ≡ B (enforces now))
-    node-seen-tells owe gates of-kinds none assume enforce tells assume_copied enforce_copied row rows now past kinds runs sees i instants reaction =
+    node-seen-tells tell gates of-kinds assume enforce tells assume_copied enforce_copied row rows now past kinds runs sees i instants reaction =
         let well = (chooses laws.nodes types all observers n c g).0 in
         let u = laws.one types all answers choosing well of-kinds (row ∷ rows) (subst (λ ks. AllByRecursion (AreOfKinds ks) (row ∷ rows)) (sym chosen-kinds) kinds) in
         let possible : AllByRecursion (IsPossible types choosing) (i ∷ instants) = subst (AllByRecursion (IsPossible types choosing)) (sym (u.only (i ∷ instants) reaction)) u.possible in
         let run = is_steered laws.nodes types all observers n c g answers laws.answers laws.extended laws.controlled gives (row ∷ rows) (i ∷ instants) reaction possible in
         let given : SeeValues after earlier n m known.mirrors p (asked (i ∷ instants)) (now ∷ past) =
         gives-all (row ∷ rows) (i ∷ instants) (now ∷ past) kinds reaction possible runs (typed (row ∷ rows) (now ∷ past) (rows-of (row ∷ rows) kinds) runs) run.steered run.chosen (sees (i ∷ instants) reaction) in
-        let it = owe program after ranks order earlier n stands m known.mirrors p (cut V i) (asked instants) (erased now) (erase past) run.steered (all-same program after ranks order earlier n stands m known.mirrors p (asked (i ∷ instants)) (now ∷ past) given) in
-        told-at laws.nodes types all observers n c g answers instants row i reaction.1 possible.0 (asked instants) run.steered.0 gates assume enforce tells assume_copied enforce_copied
-        (assumes now) (enforces now) (it.0 ∙ supposed-alone n none now) (it.1 ∙ owed-alone n none now)
+        let holds = tell program after ranks order earlier n stands m known.mirrors assume enforce tells p (cut V i) (asked instants) (erased now) (erase past) run.steered (all-same program after ranks order earlier n stands m known.mirrors p (asked (i ∷ instants)) (now ∷ past) given) in
+        told-at laws.nodes types all observers n c g answers instants row i reaction.1 possible.0 (asked instants) run.steered.0 gates assume enforce tells.assume_there tells.enforce_there assume_copied enforce_copied
+        (assumes now) (enforces now) (holds.assumed ∙ assumes-erased now) (holds.enforced ∙ enforces-erased now)

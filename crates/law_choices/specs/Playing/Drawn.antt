@@ -1,22 +1,20 @@
 -- The machine of the circuit that is drawn of a node mirrors it, and of each input and free place it is told whether it is early as the mirror has it.
 -- Source: own.
-use Rattle.std.specs.Prelude.{◌≡◌, ℕ, List, [], map}
+use Rattle.std.specs.Prelude.{◌≡◌, List, map}
 use Rattle.hp_tree.specs.declared.program.Item.{Item}
 use Rattle.hp_tree.specs.Programs.{Node}
 use Rattle.hp_boolx.specs.Machine.{Machine}
 use Rattle.hp_circuit.specs.declared.circuit.Circuit.{Circuit}
 use Rattle.hp_circuit.specs.declared.given.Given.{Given}
-use Rattle.hp_circuit.specs.Giving.{given_of, IsGateOf}
+use Rattle.hp_circuit.specs.Giving.{given_of}
 use Rattle.hp_circuit.specs.Machines.{IsMachineOf}
 use Rattle.hp_drawing.specs.DrawnNodes.{drawn_node}
 use Rattle.hp_drawing.specs.Seen.{IsOf}
 use Rattle.hp_drawing.specs.Told.{told_of}
-use Rattle.hp_meaning.specs.Contract.FreePlaces.{calls_of}
 use Rattle.hp_meaning.specs.Contract.Slots.{slots_of_node}
 use Rattle.law_games.specs.Forced.Laws.{OfReadyNodes}
 use Rattle.law_games.specs.Mirror.Mirrored.{Mirrors}
-use Rattle.law_drawing.specs.Uncalled.Laws.{observer_of}
-use Rattle.law_choices.specs.Playing.Mirrored.{TellsOwed, early_flags}
+use Rattle.law_choices.specs.Playing.Mirrored.{early_flags}
 
 -- There is such a mirror, and what is told is what it has.
 pub record IsDrawnMirror (after earlier : List Item) (n : Node) (c : Circuit) (m : Machine) (made : IsMachineOf n.name c m) : Type 0 where
@@ -25,9 +23,3 @@ pub record IsDrawnMirror (after earlier : List Item) (n : Node) (c : Circuit) (m
 
 abbrev pub DrawnFlagsLaw : Type 0
 DrawnFlagsLaw = OfReadyNodes (λ after earlier n. (c : Circuit) (m : Machine) → IsOf c (drawn_node (told_of after) n) → (made : IsMachineOf n.name c m) → IsDrawnMirror after earlier n c m made)
-
--- Gates that have the values of what the node assumes and enforces tell what the machine supposes and owes, where the node calls nothing.
-abbrev pub DrawnOwedLaw : Type 0
-DrawnOwedLaw =
-    (program : List Item) (n : Node) (c : Circuit) (m : Machine) → IsOf c (drawn_node (told_of program) n) → (made : IsMachineOf n.name c m) → calls_of n ≡ []
-    → (assume enforce : ℕ) → IsGateOf c made.places m.gates c.assume assume → IsGateOf c made.places m.gates (observer_of (told_of program) n).enforce enforce → TellsOwed m assume enforce

@@ -1,15 +1,13 @@
 -- Nodes with a contract whose controllers are those of machines that mirror it.
 -- Source: own; the controller of Delaval, Marchand and Rutten (LCTES 2010) is made of the contract, beside which it runs.
-use Rattle.std.specs.Prelude.{◌≡◌, ◌+◌, ◌<◌, ℕ, Bool, true, List, [], ◌∷◌, length, map}
-use Rattle.hp_boolx.specs.Machine.{Machine, at_gate, game}
-use Rattle.hp_boolx.specs.Search.{Bits}
+use Rattle.std.specs.Prelude.{◌≡◌, ◌+◌, ℕ, Bool, true, List, [], ◌∷◌, length, map}
 use Rattle.hp_obc.specs.Machines.{ObcType}
 use Rattle.hp_tree.specs.declared.program.Item.{Item}
 use Rattle.hp_tree.specs.Programs.{Node}
 use Rattle.hp_tree.specs.Instant.{Place}
-use Rattle.hp_meaning.specs.Contract.FreePlaces.{calls_of}
 use Rattle.hp_meaning.specs.Contract.Slots.{Slot, free, input, slots_of_node}
 use Rattle.law_games.specs.Mirror.Mirrored.{Mirrors}
+use Rattle.law_games.specs.Mirror.Telling.{GatesTellContract}
 use Rattle.hp_controller.specs.declared.decoding.Control.{Control}
 use Rattle.hp_controller.specs.Controlled.{placing_of}
 use Rattle.hp_watch.specs.Watching.{Observing}
@@ -22,18 +20,11 @@ early_flags early (input p t ∷ slots) = true ∷ early_flags early slots
 early_flags early (free p t ∷ slots) = early p ∷ early_flags early slots
 early_flags early (slot ∷ slots) = early_flags early slots
 
--- Two gates of a machine tell what it supposes and owes: under each valuation they have the values of the hypothesis and of the duty.
-pub record TellsOwed (m : Machine) (assume enforce : ℕ) : Type 0 where
-  pub assume_there : assume < length m.gates
-  pub enforce_there : enforce < length m.gates
-  pub supposes : (v : Bits) → at_gate m v assume ≡ (game m).hyp v
-  pub owes : (v : Bits) → at_gate m v enforce ≡ (game m).duty v
-
 -- the variable of the first gate of the machine, in the node that chooses
 abbrev pub first_gate : (types : List ObcType) (observers : Observing) (n : Node) (c : Contracted) → IsContracted types observers n c → ℕ
 first_gate types observers n c is = (placing_of (length is.watched.node.variables) is.machine is.watched.early is.watched.late).gates
 
--- What is made of a node asks the controller of a machine that mirrors the contract. It is told which free places are early as the mirror has it, and each control variable has as many bits as there. What it tells are copies of two gates; where the node calls nothing, these tell what the machine supposes and owes.
+-- What is made of a node asks the controller of a machine that mirrors the contract. It is told which free places are early as the mirror has it, and each control variable has as many bits as there. What it tells are copies of two gates, which tell the contract of the node.
 pub record IsMirrored (types : List ObcType) (observers : Observing) (after earlier : List Item) (n : Node) (c : Contracted) : Type 0 where
   pub is : IsContracted types observers n c
   pub mirrors : Mirrors after earlier n is.machine
@@ -43,4 +34,4 @@ pub record IsMirrored (types : List ObcType) (observers : Observing) (after earl
   pub enforce : ℕ
   pub assume_copied : is.whole.assume ≡ first_gate types observers n c is + assume
   pub enforce_copied : is.whole.enforce ≡ first_gate types observers n c is + enforce
-  pub told : calls_of n ≡ [] → TellsOwed is.machine assume enforce
+  pub told : GatesTellContract after earlier n is.machine mirrors assume enforce

@@ -10,7 +10,6 @@ use Rattle.hp_tree.specs.Instant.{Past}
 use Rattle.hp_tree.specs.Meaning.{types_of, node_among}
 use Rattle.hp_tree.specs.Programs.{Node}
 use Rattle.hp_meaning.specs.Contract.Duties.{assumes, enforces}
-use Rattle.hp_meaning.specs.Contract.FreePlaces.{calls_of}
 use Rattle.hp_meaning.specs.Contract.Guarantee.{HasContract}
 use Rattle.law_equations.specs.Followed.Programs.{all_answers}
 use Rattle.law_equations.specs.Made.Types.{obc_types}
@@ -29,10 +28,10 @@ AreToldOf [] [] [] = ⊤
 AreToldOf (now ∷ past) (line ∷ lines) (told ∷ more) = (told ≡ line ++ B (assumes now) ∷ B (enforces now) ∷ []) × AreToldOf past lines more
 AreToldOf past lines more = ⊥
 
--- So it is of what the nodes answer in each reaction of a node with a contract of which nothing is free but its inputs, and which calls nothing, where the values are those that the nodes that choose have.
+-- So it is of what the nodes answer in each reaction of a node with a contract of which nothing is free but its inputs, where the values are those that the nodes that choose have.
 abbrev pub ContractToldLaw : Type 0
 ContractToldLaw =
     (program after : List Item) (ranks : List (List ℕ)) (observers : Observing) (ms : List Made) → IsInOrder program after ranks → IsChoosing program after observers ms → AreMirrored (obc_types (types_of after)) observers after [] after ms
-    → (allowed : IsAllowed after ms) (f : List ℕ) (n : Node) (inputs : List (List Value)) (past : Past) → node_among (reverse after) f ≡ Some n → HasContract n → HasInputsAlone after n → calls_of n ≡ []
+    → (allowed : IsAllowed after ms) (f : List ℕ) (n : Node) (inputs : List (List Value)) (past : Past) → node_among (reverse after) f ≡ Some n → HasContract n → HasInputsAlone after n
     → AllByRecursion (AreOfKinds (kinds_of_decls (types_of after) n.inputs)) inputs → ChosenReaction (allowed.allowed).choices after f inputs past
     → AreToldOf past (all_answers ((allowed.one).answers f) inputs) (all_answers ((allowed.one).answers (contract_name f)) inputs)

@@ -18,7 +18,7 @@ use Rattle.hp_meaning.specs.Contract.Game.{Choice}
 use Rattle.hp_meaning.specs.Contract.Slots.{slots_of_node}
 use Rattle.law_games.specs.Forced.Laws.{OfReadyNodes}
 use Rattle.law_games.specs.Mirror.Mirrored.{given_with, AreWiresOf, Mirrors}
-use Rattle.law_games.specs.Mirror.Telling.{TellsContract}
+use Rattle.law_games.specs.Mirror.Telling.{GatesTellContract}
 use Rattle.law_drawing.specs.Mirroring.Told.{WireHas}
 use Rattle.law_drawing.specs.Uncalled.Laws.{observer_of}
 
@@ -41,4 +41,4 @@ DrawnToldLaw =
     OfReadyNodes
     (λ after earlier n.
     (c : Circuit) (m : Machine) → IsOf c (drawn_node (told_of after) n) → (made : IsMachineOf n.name c m) → (M : Mirrors after earlier n m)
-    → (assume enforce : ℕ) → IsGateOf c made.places m.gates c.assume assume → IsGateOf c made.places m.gates (observer_of (told_of after) n).enforce enforce → TellsContract after earlier n m M assume enforce)
+    → (assume enforce : ℕ) → IsGateOf c made.places m.gates c.assume assume → IsGateOf c made.places m.gates (observer_of (told_of after) n).enforce enforce → GatesTellContract after earlier n m M assume enforce)

@@ -18,7 +18,7 @@ use Rattle.hp_boolx.specs.Solved.{IsChoice}
 use Rattle.hp_boolx.specs.Machine.{Machine, at_gate, game}
 use Rattle.law_games.specs.Mirror.Mirrored.{early_among, late_among, codes_at, given_with, read_with, valuation, Mirrors}
 use Rattle.law_games.specs.Mirror.Choices.{choice_bits, SameMemoryPermittedLaw, SameMemoryChoiceLaw}
-use Rattle.law_games.specs.Mirror.Telling.{TellsContract}
+use Rattle.law_games.specs.Mirror.Telling.{GatesTellContract}
 use Rattle.law_games.specs.Forced.Telling.{TellsAlong, ToldAlongLaw}
 use Rattle.law_games.proofs.WiresLemmas.Instants.{tops}
 use Rattle.law_games.specs.Mirror.FilledHistories.{filled_instant, IsFilled, AllFilled}
@@ -98,7 +98,7 @@ module _ (program after : List Item) (ranks : List (List ℕ)) (o : IsInOrder pr
         }
 
     -- gates that tell the contract of the wires tell it of the instant
-    module _ (assume enforce : ℕ) (tells : TellsContract after earlier n m M assume enforce) where
+    module _ (assume enforce : ℕ) (tells : GatesTellContract after earlier n m M assume enforce) where
       tells_along : (h h' : Past) (inputs : List Value) (given : Instant) (c : Choice) (now filled : Instant) → AreTwins after earlier n h h' → IsTwin after earlier n h h' inputs given c now filled → TellsAlong after earlier n m M assume enforce h' inputs given c now
       unfolding filled_by
       tells_along h h' inputs given c now filled t x =

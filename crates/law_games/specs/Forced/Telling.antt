@@ -10,7 +10,7 @@ use Rattle.hp_meaning.specs.Contract.Duties.{assumes, enforces}
 use Rattle.hp_meaning.specs.Contract.Game.{Choice}
 use Rattle.hp_meaning.specs.Contract.Memory.{memory}
 use Rattle.law_games.specs.Mirror.Mirrored.{Mirrors, given_with, valuation}
-use Rattle.law_games.specs.Mirror.Telling.{TellsContract}
+use Rattle.law_games.specs.Mirror.Telling.{GatesTellContract}
 use Rattle.law_games.specs.Forced.Laws.{OfReadyNodes}
 use Rattle.law_games.specs.Forced.Twins.{AreTwins, IsTwin}
 
@@ -24,6 +24,6 @@ abbrev pub ToldAlongLaw : Type 0
 ToldAlongLaw =
     OfReadyNodes
     (λ after earlier n.
-    (m : Machine) (M : Mirrors after earlier n m) (assume enforce : ℕ) → TellsContract after earlier n m M assume enforce
+    (m : Machine) (M : Mirrors after earlier n m) (assume enforce : ℕ) → GatesTellContract after earlier n m M assume enforce
     → (history other : Past) (inputs : List Value) (given : Instant) (c : Choice) (now filled : Instant) → AreTwins after earlier n history other → IsTwin after earlier n history other inputs given c now filled
     → TellsAlong after earlier n m M assume enforce other inputs given c now)

@@ -19,7 +19,7 @@ use Rattle.hp_meaning.specs.Contract.Game.{Choice}
 use Rattle.law_games.specs.Mirror.Mirrored.{AreWiresOf, Mirrors, given_with, valuation}
 
 -- There are such gates. At the codes of a memory and of what is given, whose wires these are, they have the values of the assumption and of the guarantee.
-pub record TellsContract (program earlier : List Item) (n : Node) (m : Machine) (M : Mirrors program earlier n m) (assume enforce : ℕ) : Type 0 where
+pub record GatesTellContract (program earlier : List Item) (n : Node) (m : Machine) (M : Mirrors program earlier n m) (assume enforce : ℕ) : Type 0 where
   pub assume_there : assume < length m.gates
   pub enforce_there : enforce < length m.gates
   pub assumed :
