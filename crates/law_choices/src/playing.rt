@@ -3,7 +3,8 @@
 //! The functions here do nothing: each is a law, which its contract states.
 #![tactic(auto)]
 
-ghost use Rattle.law_choices.specs.Playing.Drawn.{DrawnFlagsLaw, DrawnOwedLaw};
+ghost use Rattle.law_choices.specs.Playing.Drawn.{DrawnFlagsLaw};
+ghost use Rattle.law_choices.specs.Playing.Gates.{InputsTellLaw, SteeredTellLaw};
 ghost use Rattle.law_choices.specs.Playing.Greatest.{GreatestLaw, GreatestRunLaw};
 ghost use Rattle.law_choices.specs.Playing.Laws.{InputsChoiceLaw, InputsOweLaw, PlayingLaw, SteeredChoiceLaw, SteeredOweLaw};
 ghost use Rattle.law_choices.specs.Playing.Telling.{ContractToldLaw};
@@ -24,7 +25,6 @@ use hp_meaning::contract::{
     choices_are_values, codes_of_values, reactions_are_instants_of_the_game,
 };
 use law_drawing::mirrors::{drawn_nodes_are_mirrored, machine_choices_are_kept};
-use law_drawing::uncalled::nothing_else_is_owed;
 use law_equations::fitting::{calls_are_kept, targets_differ};
 use law_equations::meaning::nodes_have_one_reaction;
 use law_games::forced::{machines_go_along, permitted_is_fitting};
@@ -44,6 +44,13 @@ pub fn machines_that_are_asked_owe()
     machines_go_along();
 }
 
+/// Gates of it that tell the contract tell it of each instant of the game.
+pub fn machines_that_are_asked_tell()
+    ensures { SteeredTellLaw }
+{
+    machines_go_along();
+}
+
 /// Where nothing is free but the inputs of a node, each choice that a machine makes which is asked at each instant is the greatest permitted one.
 pub fn machines_that_know_all_choose()
     ensures { InputsChoiceLaw }
@@ -58,6 +65,14 @@ pub fn machines_that_know_all_owe_what_nodes_do()
 {
     permitted_is_fitting();
     machines_that_are_asked_owe();
+}
+
+/// And such gates tell the contract of each instant of the node.
+pub fn machines_that_know_all_tell_what_nodes_do()
+    ensures { InputsTellLaw }
+{
+    permitted_is_fitting();
+    machines_that_are_asked_tell();
 }
 
 /// The node that chooses keeps the registers of its machine and asks its controller: each of its reactions is a run of the node that is watched under the choices of the controller.
@@ -118,19 +133,12 @@ pub fn drawn_machines_mirror()
     drawn_nodes_are_mirrored();
 }
 
-/// Gates of the machine that have the values of what the node assumes and enforces tell what the machine supposes and owes, where the node calls nothing.
-pub fn copied_gates_tell_what_is_owed()
-    ensures { DrawnOwedLaw }
-{
-    nothing_else_is_owed();
-}
-
-/// Line by line: behind what a node answers its contract's node tells whether the assumption and the guarantee hold at the instant, where nothing is free in the node but its inputs and it calls nothing.
+/// Line by line: behind what a node answers its contract's node tells whether the assumption and the guarantee hold at the instant, where nothing is free in the node but its inputs.
 pub fn contracts_are_told()
     ensures { ContractToldLaw }
 {
     a_node_tells_each_contract();
-    machines_that_know_all_owe_what_nodes_do();
+    machines_that_know_all_tell_what_nodes_do();
     gates_have_their_values();
     callees_may_differ_elsewhere();
     equations_may_be_added();

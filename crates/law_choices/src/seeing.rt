@@ -21,7 +21,7 @@ use crate::choosing::{
     chosen_nodes_have_one_reaction, programs_have_one_meaning_under_each_choice,
 };
 use crate::in_turn::a_node_tells_each_contract;
-use crate::playing::machines_that_are_asked_owe;
+use crate::playing::machines_that_are_asked_tell;
 use crate::streams::{meanings_keep_places, observers_keep_places};
 use hp_controller::{
     added_equations_give_inputs, controlled_nodes_follow_their_controller,
@@ -85,12 +85,12 @@ pub fn nodes_that_see_values_choose_the_greatest()
     machine_choices_are_kept();
 }
 
-/// There, if the node has a contract and calls nothing, its contract's node tells the values of the assumption and of the guarantee at each instant behind what the node answers.
+/// There, if the node has a contract, its contract's node tells the values of the assumption and of the guarantee at each instant behind what the node answers.
 pub fn contracts_that_are_seen_are_told()
     ensures { SeenToldLaw }
 {
     a_node_tells_each_contract();
-    machines_that_are_asked_owe();
+    machines_that_are_asked_tell();
     gates_have_their_values();
     callees_may_differ_elsewhere();
     equations_may_be_added();

@@ -8,7 +8,6 @@ use Rattle.hp_tree.specs.declared.program.Item.{Item}
 use Rattle.hp_tree.specs.Meaning.{types_of, node_among}
 use Rattle.hp_tree.specs.Instant.{Past}
 use Rattle.hp_tree.specs.Programs.{Node}
-use Rattle.hp_meaning.specs.Contract.FreePlaces.{calls_of}
 use Rattle.hp_meaning.specs.Contract.Guarantee.{AllSafe, HasContract, Through}
 use Rattle.law_equations.specs.Followed.Programs.{all_answers}
 use Rattle.law_games.specs.ReadyGames.Laws.{IsInOrder}
@@ -20,6 +19,7 @@ use Rattle.law_choices.specs.InTurn.Nodes.{contract_name}
 use Rattle.law_choices.specs.Playing.Greatest.{ChoosesGreatest}
 use Rattle.law_choices.specs.Playing.Telling.{AreToldOf}
 use Rattle.law_choices.specs.Runs.Chosen.{ChosenReaction}
+use Rattle.law_choices.specs.Seeing.OwnContract.{CalleesCompareNothing}
 use Rattle.law_controlled.specs.Allowed.{RunsAllowed}
 use Rattle.law_controlled.specs.AtDepth.{SeesAll}
 use Rattle.law_controlled.specs.Greatest.{IsGreatest, IsSteeredRun}
@@ -39,11 +39,11 @@ module _ (laws : SteeringLaws) (program after : List Item) (ranks : List (List �
   Reacts f inputs past = ChosenReaction ((r.allowed).allowed).choices after f inputs past
 
   -- and what is told
-  told_of : (f : List ℕ) (n : Node) (inputs : List (List Value)) (past : Past) → node_among (reverse after) f ≡ Some n → Kinds n inputs → Reacts f inputs past → HasContract n → calls_of n ≡ []
+  told_of : (f : List ℕ) (n : Node) (inputs : List (List Value)) (past : Past) → node_among (reverse after) f ≡ Some n → Kinds n inputs → Reacts f inputs past → HasContract n → CalleesCompareNothing after n
       → AreToldOf past (all_answers (((r.allowed).one).answers f) inputs) (all_answers (((r.allowed).one).answers (contract_name f)) inputs)
-  told_of f n inputs past e kinds reacts has none =
-      laws.seen_told program after ranks r.observers r.all order r.chooses r.mirrored r.allowed f n inputs past e has none kinds reacts
-      (laws.own program after ranks r.observers r.all order r.chooses r.silent r.observable r.own r.allowed f n inputs past e (laws.calls_nothing after n none) kinds reacts)
+  told_of f n inputs past e kinds reacts has sees =
+      laws.seen_told program after ranks r.observers r.all order r.chooses r.mirrored r.allowed f n inputs past e has kinds reacts
+      (laws.own program after ranks r.observers r.all order r.chooses r.silent r.observable r.own r.allowed f n inputs past e sees kinds reacts)
 
   pub steered : (f : List ℕ) (n : Node) (inputs : List (List Value)) → node_among (reverse after) f ≡ Some n → AllByRecursion (AreOfKinds (kinds_of_decls (types_of after) n.inputs)) inputs → IsSteeredRun after f n inputs (all_answers (((r.allowed).one).answers f) inputs) (all_answers (((r.allowed).one).answers (contract_name f)) inputs)
   steered f n inputs e kinds =
@@ -72,12 +72,12 @@ module _ (laws : SteeringLaws) (program after : List Item) (ranks : List (List �
         is_chosen = λ none.
             let knows : SeesAll after n = inr (laws.calls_nothing after n none) in
             (is_greatest knows, chosen_run after f n none laws.of_types inputs (all_answers (((r.allowed).one).answers f) inputs) e rows run (are_greatest knows));
-        tells = λ has none.
-            let duty = keeps laws program after ranks order safe choices are.values f n inputs before.past e rows before.is_one (are_greatest (inr (laws.calls_nothing after n none))) has in
-            let values = told_of f n inputs before.past e kinds before.is_one has none in
+        tells = λ has sees.
+            let duty = keeps laws program after ranks order safe choices are.values f n inputs before.past e rows before.is_one (are_greatest (inr sees)) has in
+            let values = told_of f n inputs before.past e kinds before.is_one has sees in
             record {
               values = values;
-              kept = told_kept before.past (all_answers (((r.allowed).one).answers f) inputs) (all_answers (((r.allowed).one).answers (contract_name f)) inputs) values (keeps_contract n none before.past duty);
+              kept = λ none. told_kept before.past (all_answers (((r.allowed).one).answers f) inputs) (all_answers (((r.allowed).one).answers (contract_name f)) inputs) values (keeps_contract n none before.past duty);
             };
         at_depth = at_depth laws program after ranks order safe writes o r f n inputs before.past e kinds before.is_one;
       }

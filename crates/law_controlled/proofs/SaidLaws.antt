@@ -119,7 +119,7 @@ module _ (program after : List Item) (o : Obc) (r : RunsAllowed program after o)
         allowed = s.allowed;
         greatest = s.greatest;
         is_chosen = s.is_chosen;
-        tells = λ has none. subst (TellsContract (s.allowed).past said) (sym (contract_said laws.tells f n e has inputs kinds)) (s.tells has none);
+        tells = λ has sees. subst (TellsContract n (s.allowed).past said) (sym (contract_said laws.tells f n e has inputs kinds)) (s.tells has sees);
         at_depth = s.at_depth;
       } in
       subst (λ xs. IsSteeredRun after f n inputs xs told) (sym (answers_said f n e inputs kinds)) run_said

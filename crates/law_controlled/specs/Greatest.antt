@@ -18,6 +18,7 @@ use Rattle.hp_meaning.specs.Contract.Guarantee.{AllAssumed, AllSupposed, HasCont
 use Rattle.law_wellmade.specs.Timely.Kinds.{kinds_of_decls}
 use Rattle.law_choices.specs.InTurn.AllowedRuns.{IsAllowedRun}
 use Rattle.law_choices.specs.Playing.Greatest.{ChoosesGreatest}
+use Rattle.law_choices.specs.Seeing.OwnContract.{CalleesCompareNothing}
 use Rattle.law_controlled.specs.AtDepth.{AreGreatestAtDepth, SeesAll}
 use Rattle.law_controlled.specs.Telling.{TellsBeside, TellsContract}
 
@@ -35,12 +36,12 @@ pub record IsGreatest (program : List Item) (n : Node) (past : Past) : Type 0 wh
   pub duty : HasContract n → KeepsDuty n past
   pub contract : HasContract n → calls_of n ≡ [] → KeepsContract past
 
--- What is said over inputs, newest first, is a run that the program allows. If no integers are compared in the contracts of the nodes that the node calls, the values in this run are the greatest permitted ones. So it is of each node that calls nothing: it is the run of chosen values, and what is told beside, newest first, are the assumption and the guarantee of its contract in this run. Whatever the node is, each instance in the run, at every depth, has the greatest permitted values if no integers are compared in the contracts of what its node calls.
+-- What is said over inputs, newest first, is a run that the program allows. If no integers are compared in the contracts of the nodes that the node calls, the values in this run are the greatest permitted ones. Then what is told beside, newest first, are the assumption and the guarantee of its contract in this run. So it is of each node that calls nothing; and it is the run of chosen values. Whatever the node is, each instance in the run, at every depth, has the greatest permitted values if no integers are compared in the contracts of what its node calls.
 pub record IsSteeredRun (program : List Item) (f : List ℕ) (n : Node) (inputs said told : List (List Value)) : Type 0 where
   pub allowed : IsAllowedRun program f inputs said
   pub greatest : SeesAll program n → IsGreatest program n allowed.past
   pub is_chosen : calls_of n ≡ [] → IsGreatest program n allowed.past × IsChosenRun program f (reverse inputs) (reverse said)
-  pub tells : HasContract n → calls_of n ≡ [] → TellsContract allowed.past said told
+  pub tells : HasContract n → CalleesCompareNothing program n → TellsContract n allowed.past said told
   pub at_depth : AreGreatestAtDepth program f allowed.past
 
 -- So it is of what the machine of a node says over inputs of its kinds, newest first, and the machine of its contract beside it.

@@ -11,6 +11,7 @@ use Rattle.hp_tree.specs.declared.program.Item.{Item}
 use Rattle.hp_tree.specs.Instant.{Past}
 use Rattle.hp_tree.specs.Meaning.{types_of}
 use Rattle.hp_tree.specs.Programs.{Node}
+use Rattle.hp_meaning.specs.Contract.FreePlaces.{calls_of}
 use Rattle.hp_meaning.specs.Contract.Guarantee.{HasContract}
 use Rattle.law_wellmade.specs.Timely.Kinds.{kinds_of_decls}
 use Rattle.law_choices.specs.Playing.Telling.{AreToldOf}
@@ -39,7 +40,7 @@ TellKept [] [] = ⊤
 TellKept (line ∷ lines) (told ∷ more) = (TellAssumed (line ∷ lines) (told ∷ more) → told ≡ line ++ B true ∷ B true ∷ []) × TellKept lines more
 TellKept lines more = ⊥
 
--- What is told, newest first, of what a node says in a reaction: the assumption and the guarantee at each instant; and it tells that the contract is kept.
-pub record TellsContract (past : Past) (said told : List (List Value)) : Type 0 where
+-- What is told, newest first, of what a node says in a reaction: the assumption and the guarantee at each instant; and of a node that calls nothing it tells that the contract is kept.
+pub record TellsContract (n : Node) (past : Past) (said told : List (List Value)) : Type 0 where
   pub values : AreToldOf past said told
-  pub kept : TellKept said told
+  pub kept : calls_of n ≡ [] → TellKept said told

@@ -43,9 +43,7 @@ use law_choices::observed::{
 use law_choices::on_clocks::programs_have_one_meaning;
 use law_choices::part::{parts_keep_form, parts_keep_reactions};
 use law_choices::places::walks_find_places;
-use law_choices::playing::{
-    copied_gates_tell_what_is_owed, drawn_machines_mirror, nodes_that_know_all_choose_the_greatest,
-};
+use law_choices::playing::{drawn_machines_mirror, nodes_that_know_all_choose_the_greatest};
 use law_choices::runs::chosen_values_make_one_reaction;
 use law_choices::seeing::{
     callees_compare_nothing, contracts_that_are_seen_are_told,
@@ -55,7 +53,9 @@ use law_choices::undisturbed::{
     controls_are_apart, ready_programs_keep_contracts, ready_programs_keep_dependence,
     ready_programs_keep_places,
 };
-use law_drawing::mirrors::{drawn_games_are_kept, drawn_nodes_are_mirrored};
+use law_drawing::mirrors::{
+    drawn_contracts_are_told, drawn_games_are_kept, drawn_nodes_are_mirrored,
+};
 use law_equations::fewer::nodes_are_compiled;
 use law_equations::fitting::{calls_are_kept, larger_names_are_free, names_fit, targets_differ};
 use law_equations::followed::names_are_own;
@@ -103,7 +103,7 @@ pub fn nodes_ask_machines_that_mirror()
     ensures { MirroredLaw }
 {
     drawn_machines_mirror();
-    copied_gates_tell_what_is_owed();
+    drawn_contracts_are_told();
 }
 
 /// Names of variables differ in whatever is made of a ready program, also where variables are controllable, and are no names of memories or instances.

@@ -6,7 +6,7 @@ use Rattle.hp_base.specs.declared.value.Value.{Value}
 use Rattle.hp_base.specs.declared.value.Value.TheVariants.{B}
 use Rattle.hp_boolx.specs.Search.{Bits}
 use Rattle.hp_tree.specs.Instant.{Assume, Controls, Enforce, Head, Instant}
-use Rattle.hp_meaning.specs.Contract.Duties.{holds_or_missing}
+use Rattle.hp_meaning.specs.Contract.Duties.{assumes, enforces, holds_or_missing}
 use Rattle.hp_meaning.specs.Contract.Game.{Choice}
 use Rattle.law_games.specs.Mirror.Mirrored.{AreCodes, AreWiresOf, Mirrors}
 use Rattle.law_games.specs.Wires.Laws.{instant_of, is_called, hypothesis_on, duty_on}

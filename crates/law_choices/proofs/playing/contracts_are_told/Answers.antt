@@ -37,4 +37,4 @@ returns c =
       };
       preferred = c.machine_choices_are_kept.ensures.preferred;
     })
-    c.machines_that_know_all_owe_what_nodes_do.ensures c.gates_have_their_values.ensures c.a_node_tells_each_contract.ensures
+    c.machines_that_know_all_tell_what_nodes_do.ensures c.gates_have_their_values.ensures c.a_node_tells_each_contract.ensures
