@@ -1,7 +1,7 @@
 -- Nothing is free in the heater but its inputs, and a house that calls it has its greatest permitted values. The comparisons of the cooler have names, and it has its greatest permitted values in a store that calls it. The output of the latch has a name in the pump, which has its greatest permitted values. So has the valve, whose comparison has none, the tap, whose comparisons stand in transitions, and the gate, whose contract compares.
 use Rattle.std.proofs.Common.{inl, inr, length, refl, ap, arith}
 use Rattle.law_controlled.specs.AtDepth.{SeesAll}
-use Rattle.law_controlled.specs.Worked.{CoolerLaw, GateLaw, HeaterLaw, HouseLaw, PumpLaw, StoreLaw, TapLaw, ValveLaw, cool_promise, cooler, cooler_call, dry_promise, gate, gating, heater, housing, its_call, open_promise, promise, pump, pumping, shut_promise, storing, tap, tapping, valve, valving}
+use Rattle.law_controlled.specs.Worked.{CoolerLaw, GateLaw, HeaterLaw, HouseLaw, PumpLaw, PumpToldLaw, StoreLaw, TapLaw, ValveLaw, cool_promise, cooler, cooler_call, dry_promise, full_promise, gate, gating, heater, housing, its_call, open_promise, promise, pump, pumping, shut_promise, storing, tap, tapping, valve, valving}
 
 pub heater_law : HeaterLaw
 heater_law = ((promise, refl), refl, refl)
@@ -26,6 +26,9 @@ pump_sees = inr refl
 
 pub pump_law : PumpLaw
 pump_law = ((dry_promise, refl), refl, λ past now h. h.0 pump_sees)
+
+pub pump_told_law : PumpToldLaw
+pump_told_law = ((full_promise, refl), refl, refl, λ inputs said told run. (run.tells (dry_promise, refl) refl).values)
 
 valve_sees : SeesAll valving valve
 valve_sees = inr refl

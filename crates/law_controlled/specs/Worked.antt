@@ -5,6 +5,8 @@ use Rattle.hp_base.specs.declared.span.Span.{Span}
 use Rattle.hp_base.specs.declared.ty.Const.TheVariants as const
 use Rattle.hp_base.specs.declared.ty.Ty.{Ty}
 use Rattle.hp_base.specs.declared.ty.Ty.TheVariants as ty
+use Rattle.hp_base.specs.declared.value.Value.{Value}
+use Rattle.hp_base.specs.declared.value.Value.TheVariants.{B}
 use Rattle.hp_tree.specs.declared.block.Trans.{Trans}
 use Rattle.hp_tree.specs.declared.decl.Cons.TheVariants.{True}
 use Rattle.hp_tree.specs.declared.expr.Op1.TheVariants.{Not}
@@ -13,17 +15,20 @@ use Rattle.hp_tree.specs.declared.program.Item.{Item}
 use Rattle.hp_tree.specs.declared.program.Item.TheVariants.{NodeItem, TypeItem}
 use Rattle.hp_tree.specs.Blocks.{Block, Decl, Eqn, States, automaton, block, define, eqns_of, more_states, no_state}
 use Rattle.hp_tree.specs.Expressions.{Expr, call, choose, constant, fby, more_exprs, no_expr, one, two, variable, when_is}
-use Rattle.hp_tree.specs.Instant.{Body, Equations, Fresh, Head, Instance, Instant, Past, Right}
+use Rattle.hp_tree.specs.Instant.{Body, Enforce, Equations, Fresh, Head, Instance, Instant, Past, Right, Tail}
 use Rattle.hp_tree.specs.Operators.{is_there}
 use Rattle.hp_tree.specs.Programs.{Contract, Node, TypeDecl}
 use Rattle.hp_meaning.specs.declared.causal.point.PointKind.TheVariants as kind
 use Rattle.hp_meaning.specs.Causal.Points.{Placed, point_at}
 use Rattle.hp_meaning.specs.Contract.ChosenRuns.{own_past}
+use Rattle.hp_meaning.specs.Contract.Duties.{assumes, hypothesis}
 use Rattle.hp_meaning.specs.Contract.FreePlaces.{calls_of, instance_at}
 use Rattle.hp_meaning.specs.Contract.Guarantee.{HasContract}
 use Rattle.law_choices.specs.Playing.Inputs.{HasInputsAlone}
 use Rattle.law_choices.specs.Seeing.InBody.{SeesInBody}
+use Rattle.law_choices.specs.Playing.Telling.{AreToldOf}
 use Rattle.law_controlled.specs.AtDepth.{InEach, IsGreatestAt, IsGreatestIfSeen, SeesAll}
+use Rattle.law_controlled.specs.Greatest.{IsSteeredRun}
 
 abbrev somewhere : Span
 somewhere = record { line = 1; col = 1; end = 2 }
@@ -232,6 +237,17 @@ abbrev pub PumpLaw : Type 0
 PumpLaw =
     HasContract pump × SeesInBody pumping pump
     × ((past : Past) (now : Instant) → InEach (IsGreatestIfSeen pumping) (reverse pumping) pump.name past now → IsGreatestAt pumping pump past now)
+
+-- where the latch does not keep its contract, whatever else is so
+abbrev pub unkept : Instant
+unkept (Body ∷ Equations ∷ Tail ∷ Head ∷ Right ∷ Instance ∷ Enforce ∷ []) = B false
+unkept p = B true
+
+-- The latch has a contract too, so what the pump supposes is not what it assumes alone. But what is told beside what its machine says are the assumption and the guarantee of the pump, at each instant of the run.
+abbrev pub PumpToldLaw : Type 0
+PumpToldLaw =
+    HasContract latch × (assumes unkept ≡ true) × (hypothesis pump unkept ≡ false)
+    × ((inputs said told : List (List Value)) (run : IsSteeredRun pumping pump.name pump inputs said told) → AreToldOf (run.allowed).past said told)
 
 -- ---- a valve that compares inside an `if`
 

@@ -16,7 +16,7 @@ ghost use Rattle.law_controlled.specs.One.{OneListLaw, OneTextListLaw};
 ghost use Rattle.law_controlled.specs.Parts.{MadePartLaw};
 ghost use Rattle.law_controlled.specs.Said.{GreatestSaidLaw, SaidLaw};
 ghost use Rattle.law_controlled.specs.Program.{ChoosingNamesLaw, MadeNamesLaw, MadeNodesLaw};
-ghost use Rattle.law_controlled.specs.Worked.{CoolerLaw, GateLaw, HeaterLaw, HouseLaw, PumpLaw, StoreLaw, TapLaw, ValveLaw};
+ghost use Rattle.law_controlled.specs.Worked.{CoolerLaw, GateLaw, HeaterLaw, HouseLaw, PumpLaw, PumpToldLaw, StoreLaw, TapLaw, ValveLaw};
 
 use hp_abstract::nodes_have_one_abstraction;
 use hp_form::regular::regular_equations_have_form;
@@ -304,6 +304,11 @@ pub fn a_worked_store()
 /// In a pump that is told a level, and calls a latch, nothing is free but the input, a comparison and the output of the latch, which have names. So it has the greatest permitted values.
 pub fn a_worked_pump()
     ensures { PumpLaw }
+{}
+
+/// It is told by the latch, which has a contract too. What its contract's machine tells are its own assumption and guarantee.
+pub fn a_worked_pump_is_told()
+    ensures { PumpToldLaw }
 {}
 
 /// In a valve that is told two flows, and compares their sum inside an `if`, nothing is free but the inputs and that comparison, which has no name. So it has the greatest permitted values.
