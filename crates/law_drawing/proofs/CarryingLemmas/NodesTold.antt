@@ -1,5 +1,5 @@
 -- What a node tells: numbers that solve what is drawn of it give the wires of assumption and guarantee their values.
-use Rattle.std.proofs.Common.{◌≡◌, Option, None, Some, refl, sym, ap, subst, ◌∙◌}
+use Rattle.std.proofs.Common.{◌≡◌, Option, refl, sym, ap, subst, ◌∙◌}
 use Rattle.hp_tree.specs.Programs.{Contract, Node}
 use Rattle.hp_circuit.specs.Meaning.{truth}
 use Rattle.hp_meaning.specs.Contract.Duties.{assumes, enforces}

@@ -157,6 +157,7 @@ module _ (name : List ℕ) (c : Circuit) (m : Machine) (made : IsMachineOf name 
 
   module _ (types : List TypeDecl) (early : Place → Bool) (ss : List slots.Slot) (are : AreSlotsOf types early made.steered ss c.slots.items) (memory given : Instant) where
     gate-told : (b : Bool) → WireHas types ss c memory given w b → at_gate m (valuation_for types early memory given ss) gate ≡ b
+    unfolding as-hypothesis
     gate-told b h =
         let codes = codes_for types memory given ss in
         let v = valuation_of made.steered c.slots.items codes in
