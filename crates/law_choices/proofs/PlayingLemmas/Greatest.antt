@@ -26,7 +26,7 @@ use Rattle.hp_meaning.specs.Causal.Sources.{below}
 use Rattle.hp_meaning.specs.Contract.ChosenRuns.{NamesApart}
 use Rattle.hp_meaning.specs.Contract.Codes.{CodeLaw, WidthLaw}
 use Rattle.hp_meaning.specs.Contract.Duties.{assumes, enforces}
-use Rattle.hp_meaning.specs.Contract.Forgetting.{ContractsCallNothing, erase, erased}
+use Rattle.hp_meaning.specs.Contract.Forgetting.{ContractsCallNothing, erase}
 use Rattle.hp_meaning.specs.Contract.FreePlaces.{InputsFit, IsAbstractOf}
 use Rattle.hp_meaning.specs.Contract.Game.{AreChoices, Choice, ChoiceTypesLaw, IsAmong, IsChoiceOf, IsChosen, choices_of, preferred}
 use Rattle.hp_meaning.specs.Contract.Guarantee.{ErasedNextLaw, Through, Typed}

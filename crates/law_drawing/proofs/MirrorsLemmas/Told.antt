@@ -1,9 +1,7 @@
 -- Gates of what a node assumes and enforces tell the contract of the node, whatever machine mirrors it.
-use Rattle.std.proofs.Common.{◌≡◌, ℕ, Bool, List, sym, ap, subst, ◌∙◌}
-use Rattle.hp_base.specs.declared.value.Value.{Value}
+use Rattle.std.proofs.Common.{◌≡◌, ℕ, Bool, List, ap, ◌∙◌}
 use Rattle.hp_boolx.specs.Game.{joined}
 use Rattle.hp_boolx.specs.Machine.{Machine, at_gate}
-use Rattle.hp_boolx.specs.Search.{Bits}
 use Rattle.hp_tree.specs.declared.program.Item.{Item}
 use Rattle.hp_tree.specs.Instant.{Instant, Place}
 use Rattle.hp_tree.specs.Meaning.{types_of}
@@ -15,10 +13,9 @@ use Rattle.hp_circuit.specs.Giving.{IsGateOf}
 use Rattle.hp_circuit.specs.Machines.{IsMachineOf}
 use Rattle.hp_drawing.specs.Told.{told_of}
 use Rattle.hp_meaning.specs.Contract.Duties.{assumes, enforces}
-use Rattle.hp_meaning.specs.Contract.Game.{Choice}
 use Rattle.hp_meaning.specs.Contract.Memory.{bits_in}
 use Rattle.hp_meaning.specs.Contract.Slots.{registers, slots_of_node}
-use Rattle.law_games.specs.Mirror.Mirrored.{AreWiresOf, codes_at, controls_among, early_among, given_with, late_among, valuation}
+use Rattle.law_games.specs.Mirror.Mirrored.{codes_at, controls_among, given_with, valuation}
 use Rattle.law_drawing.specs.Carried.Early.{early_in}
 use Rattle.law_drawing.specs.Form.Told.{EnforcedFormLaw}
 use Rattle.law_drawing.specs.Mirroring.Carried.{AreEarly}
