@@ -7,7 +7,8 @@
 --   law_drawing, `Form.Told`: the wire of what is enforced carries a truth value, so it has a gate.
 --   law_drawing, `Mirroring.Told` and `Mirrors.Told`: so gates of the two wires tell the contract, in the sense of the record below, whatever machine mirrors the node.
 --   law_games, `Forced.Telling`: where gates tell the contract of the wires, they tell it along each history of the game. It is here that wires become instants, as `GoesAlong` says it of hypothesis and duty.
---   law_choices, `Playing.Gates`: so equations that steer hold them, and what is told of a reaction is told of nodes that call others, too. `IsMirrored.told` is then the record below, for every node.
+--   law_choices, `Playing.Gates`: so equations that steer hold these values, and what is told of a reaction is told of nodes that call others, too: each node that is mirrored (`IsMirrored.told`) copies gates that tell its contract.
+--   law_controlled, `Greatest`: so it is of what `--contract` shows of each node whose equations hold what is free in it.
 use Rattle.std.specs.Prelude.{ℕ, ◌≡◌, ◌<◌, List, length}
 use Rattle.hp_base.specs.declared.value.Value.{Value}
 use Rattle.hp_boolx.specs.Machine.{Machine, at_gate}
