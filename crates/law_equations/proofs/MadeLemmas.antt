@@ -1,3 +1,4 @@
+pub mod ArgumentLaws
 pub mod BindLaws
 pub mod BlockLayers
 pub mod BlockSteps
@@ -18,3 +19,4 @@ pub mod SignatureLaws
 pub mod StandsLaws
 pub mod StepLaws
 pub mod TargetLaws
+pub mod InstanceLaws

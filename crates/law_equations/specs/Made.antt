@@ -1,3 +1,4 @@
+pub mod Arguments
 pub mod Blocks
 pub mod Laws
 pub mod Making
@@ -6,3 +7,4 @@ pub mod Keeping
 pub mod Labels
 pub mod Standing
 pub mod Types
+pub mod Instances

@@ -66,7 +66,7 @@ reacts_since said xs h w rs (i ∷ G) l =
     reacts_step said h xs (holds (steps w) i) (restarts (ats rs) i) i (since (steps w) (ats rs) G) (reacts_since said xs h w rs G l.1) l.0
 
 module _ (types : List TypeDecl) (N : Nodes) (does : Behaviours) (fill : Place → Value) (ok : List ℕ → Instant → Type 0) (mine : Instant → Type 0) where
-  under_eq : (sc : Scope) (clock : Clock) (ck : When) (i : Now FlatName) → holds (steps (under types sc clock ck)) i ≡ (tree_holds types clock (λ x. i (sc x)) && holds (steps ck) i)
+  pub under_eq : (sc : Scope) (clock : Clock) (ck : When) (i : Now FlatName) → holds (steps (under types sc clock ck)) i ≡ (tree_holds types clock (λ x. i (sc x)) && holds (steps ck) i)
   under_eq sc [] ck i = refl
   under_eq sc (step ∷ clock) ck i =
       ap (λ b. is_cons types (i (sc step.1)) step.0 && b) (under_eq sc clock ck i)
@@ -77,7 +77,7 @@ module _ (types : List TypeDecl) (N : Nodes) (does : Behaviours) (fill : Place �
   values_same (more_exprs e es) clock names last g now here i h =
       λ z. sym (h (Head ∷ [])) z ∷ values_same es clock names last (at Tail g) (part Tail now) (below Tail here) i (λ p. h (Tail ∷ p)) z
 
-  goes_call : (s : Span) (f : List ℕ) (bf : Behaves N does (ok f) f) (inlined : Bool) (es : Exprs) (clock : Clock) (sc lsc : Scope) (here : Prefix) (ck : When) (rs : List Place) (G : List (Now FlatName)) (i : Now FlatName) → Live (expr_part types N does fill (call s f inlined es) clock sc lsc) here ck rs G i → Goes (steps ck) (steps (under types sc clock ck)) (below Instance here) i
+  pub goes_call : (s : Span) (f : List ℕ) (bf : Behaves N does (ok f) f) (inlined : Bool) (es : Exprs) (clock : Clock) (sc lsc : Scope) (here : Prefix) (ck : When) (rs : List Place) (G : List (Now FlatName)) (i : Now FlatName) → Live (expr_part types N does fill (call s f inlined es) clock sc lsc) here ck rs G i → Goes (steps ck) (steps (under types sc clock ck)) (below Instance here) i
   goes_call s f bf inlined es clock sc lsc here ck rs G i m = (
     (λ t. (under_true types N does fill sc clock ck i t).1),
     λ t. m.0 t (Instance ∷ Fresh ∷ [])
@@ -85,7 +85,7 @@ module _ (types : List TypeDecl) (N : Nodes) (does : Behaviours) (fill : Place �
         ∙ ap (λ b. if b then B false else Absent) (sym (under_eq sc clock ck i)),
   )
 
-  since_call : (s : Span) (f : List ℕ) (bf : Behaves N does (ok f) f) (inlined : Bool) (es : Exprs) (clock : Clock) (sc lsc : Scope) (here : Prefix) (ck : When) (rs : List Place) (G : List (Now FlatName)) (i : Now FlatName) → Along (Live (expr_part types N does fill (call s f inlined es) clock sc lsc) here ck rs) G → tree_since false (at Instance (given here ck rs G i)) ≡ given (below Instance here) (under types sc clock ck) rs G i
+  pub since_call : (s : Span) (f : List ℕ) (bf : Behaves N does (ok f) f) (inlined : Bool) (es : Exprs) (clock : Clock) (sc lsc : Scope) (here : Prefix) (ck : When) (rs : List Place) (G : List (Now FlatName)) (i : Now FlatName) → Along (Live (expr_part types N does fill (call s f inlined es) clock sc lsc) here ck rs) G → tree_since false (at Instance (given here ck rs G i)) ≡ given (below Instance here) (under types sc clock ck) rs G i
   since_call s f bf inlined es clock sc lsc here ck rs G i l =
       ap (λ q. record { past = q; free = λ p. i (Free (here (Instance ∷ p))) })
       (ap own (parts_view Instance here (recent (steps ck) (ats rs) G i))
@@ -93,7 +93,7 @@ module _ (types : List TypeDecl) (N : Nodes) (does : Behaviours) (fill : Place �
       (along (Live (expr_part types N does fill (call s f inlined es) clock sc lsc) here ck rs) (λ G i. Goes (steps ck) (steps (under types sc clock ck)) (below Instance here) i)
       (λ G i a m. goes_call s f bf inlined es clock sc lsc here ck rs G i m) G l))
 
-  runs_call : (s : Span) (f : List ℕ) (bf : Behaves N does (ok f) f) (inlined : Bool) (es : Exprs) (clock : Clock) (sc lsc : Scope) (here : Prefix) (ck : When) (rs : List Place) (G : List (Now FlatName)) (i : Now FlatName) → Along (Live (expr_part types N does fill (call s f inlined es) clock sc lsc) here ck rs) G → Live (expr_part types N does fill (call s f inlined es) clock sc lsc) here ck rs G i → Runs (N.instant f) (args_at types N.outputs fill es (below Args here)) (below Instance here) (under types sc clock ck) rs G i
+  pub runs_call : (s : Span) (f : List ℕ) (bf : Behaves N does (ok f) f) (inlined : Bool) (es : Exprs) (clock : Clock) (sc lsc : Scope) (here : Prefix) (ck : When) (rs : List Place) (G : List (Now FlatName)) (i : Now FlatName) → Along (Live (expr_part types N does fill (call s f inlined es) clock sc lsc) here ck rs) G → Live (expr_part types N does fill (call s f inlined es) clock sc lsc) here ck rs G i → Runs (N.instant f) (args_at types N.outputs fill es (below Args here)) (below Instance here) (under types sc clock ck) rs G i
   runs_call s f bf inlined es clock sc lsc here ck rs G i a m t p =
       let u = under_true types N does fill sc clock ck i t in
       let is = exprs types filled N es clock (λ x. i (sc x)) (λ x. i (lsc x)) (at Args (given here ck rs G i)) (part Args (seen here i)) in

@@ -95,6 +95,12 @@ module _ (types : List TypeDecl) (outputs : List ℕ → List (List ℕ)) (fill 
   abbrev pub node_calls : Node → List (Option Called)
   node_calls n = block_calls n.body (node_scope n) (node_lasts types n) in_body always [] []
 
+-- each of some calls has a property
+abbrev pub AllCalled : (Called → Type 0) → List (Option Called) → Type 0
+AllCalled P [] = ⊤
+AllCalled P (None ∷ cs) = AllCalled P cs
+AllCalled P (Some c ∷ cs) = P c × AllCalled P cs
+
 -- ---- the equations of calls
 
 -- An equation with targets has the clock, the restart list and the arguments of a call.

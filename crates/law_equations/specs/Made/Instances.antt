@@ -1,0 +1,44 @@
+-- What the instance of each call of a node without automata does in the flat instants of a reaction.
+-- Source: own; an instance of a node behaves as the node does over its own stream of inputs, as in Colaço, Pagano and Pouzet (EMSOFT 2005).
+use Rattle.std.specs.Prelude.{◌≡◌, ℕ, List, [], ◌∷◌, IsTrue, IsFalse}
+use Rattle.hp_base.specs.declared.value.Value.{Value}
+use Rattle.hp_base.specs.declared.value.Value.TheVariants.{Absent}
+use Rattle.hp_tree.specs.Programs.{TypeDecl, Node}
+use Rattle.hp_tree.specs.Operators.{filled}
+use Rattle.hp_tree.specs.Instant.{Instance, Place, Instant, Past, Given}
+use Rattle.hp_tree.specs.Meaning.{Nodes, node}
+use Rattle.law_equations.specs.Flattened.Flat.{Now, Behaviours, holds, recent, values}
+use Rattle.law_equations.specs.Flattened.Flatten.{FlatName, At, Free, steps, ats, Prefix, below}
+use Rattle.law_equations.specs.Flattened.Timely.{Along}
+use Rattle.law_equations.specs.Flattened.Lifted.{Reacts, IsFill, in_body, lifts}
+use Rattle.law_equations.specs.Flattened.Behaves.{IsFine, EachCallIn}
+use Rattle.law_equations.specs.Made.Arguments.{Called, AllCalled, node_calls}
+
+-- how a part of the tree sees a flat instant, and some
+abbrev pub seen : Prefix → Now FlatName → Instant
+seen here i p = i (At (here p))
+
+abbrev pub view : Prefix → List (Now FlatName) → Past
+view here [] = []
+view here (i ∷ G) = seen here i ∷ view here G
+
+-- the place of the instance of a call
+abbrev pub inside_call : Called → Prefix
+inside_call c = below Instance c.here
+
+-- the instants at which the clock of a call was there since it last began anew
+abbrev pub own_instants : Called → List (Now FlatName) → Now FlatName → List (Now FlatName)
+own_instants c G i = recent (steps c.clock) (ats c.restart) G i
+
+-- Where the clock of a call is there, its instance holds what its node does for the values of the arguments, after these instants; and else nothing is there.
+pub record Runs (N : Nodes) (c : Called) (G : List (Now FlatName)) (i : Now FlatName) : Type 0 where
+  pub there : IsTrue (holds (steps c.clock) i) → (p : Place)
+      → i (At (inside_call c p)) ≡ N.instant c.callee (values c.args i) (record { past = view (inside_call c) (own_instants c G i); free = λ q. i (Free (inside_call c q)) }) (seen (inside_call c) i) p
+  pub not_there : IsFalse (holds (steps c.clock) i) → (p : Place) → i (At (inside_call c p)) ≡ Absent
+
+-- So it is at each flat instant of a reaction, where each callee behaves.
+abbrev pub InstancesLaw : Type 0
+InstancesLaw =
+    (types : List TypeDecl) (N : Nodes) (does : Behaviours) (fills : List ℕ → Place → Value) (fill : Place → Value) (n : Node) (inputs : List (List Value)) (frees : List Instant) (past : Past)
+    → EachCallIn (IsFine N does (λ f. IsFill (fills f)) (IsFill fill)) n.body in_body → Reacts (node types filled N n) inputs frees past
+    → AllCalled (λ c. Along (Runs N c) (lifts n inputs frees past)) (node_calls types N.outputs fill n)
