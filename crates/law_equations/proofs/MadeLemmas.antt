@@ -1,3 +1,4 @@
+pub mod AnsweringLaws
 pub mod ArgumentLaws
 pub mod BindLaws
 pub mod BlockLayers

@@ -157,7 +157,7 @@ module _ (means : ℕ → FlatName) where
   unless_same f true h G e = refl
   unless_same f false h G e = e
 
-  since_same : {A : Type 0} (f : Instant → A) (e : FlatEqn) (k : ℕ) (r : Row FlatName) (G : List (Now FlatName)) (i : Now FlatName) → IsRow means e k r → AllStepsTold r.clock G
+  pub since_same : {A : Type 0} (f : Instant → A) (e : FlatEqn) (k : ℕ) (r : Row FlatName) (G : List (Now FlatName)) (i : Now FlatName) → IsRow means e k r → AllStepsTold r.clock G
       → flow_since e.clock e.restart f (map (numbered means) G) (numbered means i) ≡ map (λ j. f (numbered means j)) (recent r.clock r.restart G i)
   since_same f e k r G i a t =
       (λ z. unless (row_restarts e k r i a z) (history e.clock e.restart f (map (numbered means) G)))

@@ -82,7 +82,7 @@ module _ (types : List TypeDecl) (outputs : List ℕ → List (List ℕ)) (fill 
     (stand : (x : ℕ) → few ≤ x → StandFor means (definitions all x) (means x) (F (means x))) (new : AllByRecursion (λ (e : FlatEqn). AllByRecursion (λ x. few ≤ x) e.targets) all) where
   -- from labels and calls behind a part to those with it
   abbrev Goes : List Label → List (Option Called) → Type 0
-  Goes labels cs = (es : List FlatEqn) → AllByRecursion (λ e. Among e all) es → AreMadeAt means es labels → AreCalls outputs means es labels cs
+  Goes labels cs = (es : List FlatEqn) → AllByRecursion (λ e. Among e all) es → AreMadeAt means es labels → AreCalls outputs F means es labels cs
 
   first_output : (os : List (List ℕ)) (o : List ℕ) (w : When) (rs : List Place) (f : List ℕ) (es : Exprs) (here : Prefix)
       → output_row types outputs fill 0 (o ∷ os) w rs f (args_at types outputs fill es (below Args here)) o ≡ Some (row w rs (Call f 0 (args_at types outputs fill es (below Args here))) ∷ [])
@@ -94,7 +94,7 @@ module _ (types : List TypeDecl) (outputs : List ℕ → List (List ℕ)) (fill 
   one_call : (f : List ℕ) (es : Exprs) (w : When) (rs : List Place) (here : Prefix) (os : List (List ℕ)) → outputs f ≡ os
       → ((y : List ℕ) → F (At (here (Instance ∷ Named y ∷ []))) ≡ output_row types outputs fill 0 (outputs f) w rs f (args_at types outputs fill es (below Args here)) y)
       → (e : FlatEqn) → Among e all → (xs : List ℕ) → e.targets ≡ xs → map means xs ≡ ats (output_places os here)
-      → IsCallOf means xs e (record { callee = f; here = here; clock = w; restart = rs; args = args_at types outputs fill es (below Args here) })
+      → IsCallOf F means xs e (record { callee = f; here = here; clock = w; restart = rs; args = args_at types outputs fill es (below Args here) })
   one_call f es w rs here os same cov e a [] is m = tt
   one_call f es w rs here [] same cov e a (x ∷ xs) is m = absurd cc
   one_call f es w rs here (o ∷ os) same cov e a (x ∷ xs) is m =
@@ -104,7 +104,7 @@ module _ (types : List TypeDecl) (outputs : List ℕ → List (List ℕ)) (fill 
       ap F meant ∙ cov o ∙ ap (λ names. output_row types outputs fill 0 names w rs f (args_at types outputs fill es (below Args here)) o) same ∙ first_output os o w rs f es here in
       let is_new : few ≤ x = (subst (AllByRecursion (λ y. few ≤ y)) is (holds_of (λ (q : FlatEqn). AllByRecursion (λ y. few ≤ y) q.targets) all e new a)).0 in
       let standing : AreRows means (definitions all x) (r ∷ []) = subst (StandFor means (definitions all x) (means x)) rows (stand x is_new) in
-      holds_of (FirstIs means r x) all e (firsts_are means r x all (all_rows means r (definitions all x) standing)) a xs is
+      (rows, holds_of (FirstIs means r x) all e (firsts_are means r x all (all_rows means r (definitions all x) standing)) a xs is)
 
   goes_call : (f : List ℕ) (es : Exprs) (w : When) (rs : List Place) (here : Prefix) (rest : List Label) (cs : List (Option Called))
       → ((y : List ℕ) → F (At (here (Instance ∷ Named y ∷ []))) ≡ output_row types outputs fill 0 (outputs f) w rs f (args_at types outputs fill es (below Args here)) y)
@@ -216,6 +216,6 @@ pub arguments-stand : ArgumentsLaw
 arguments-stand types outputs fill n means names count f are made =
     block_goes types outputs fill (flatten types outputs fill n) means f.eqns f.inputs are.variables are.no_inputs n.body (node_scope n) (node_lasts types n) in_body always [] [] [] (λ p. refl) none (events f.eqns) (events_among f.eqns) made
   where
-    none : (es : List FlatEqn) → AllByRecursion (λ e. Among e f.eqns) es → AreMadeAt means es [] → AreCalls outputs means es [] []
+    none : (es : List FlatEqn) → AllByRecursion (λ e. Among e f.eqns) es → AreMadeAt means es [] → AreCalls outputs (flatten types outputs fill n) means es [] []
     none [] a m = tt
     none (e ∷ es) a m = absurd m

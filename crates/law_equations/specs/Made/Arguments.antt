@@ -11,7 +11,7 @@ use Rattle.hp_tree.specs.Instant.{Body as BodyOf, Equations, Head, Tail, Right a
 use Rattle.hp_tree.specs.Meaning.{clock_of}
 use Rattle.hp_flat.specs.Equations.{FlatEqn}
 use Rattle.hp_flat.specs.Nodes.{FlatNode}
-use Rattle.law_equations.specs.Flattened.Flat.{Arg, Call}
+use Rattle.law_equations.specs.Flattened.Flat.{Arg, Call, Row, Flat}
 use Rattle.law_equations.specs.Flattened.Flatten.{FlatName, At, When, always, on, row, Prefix, below, Scope, inside_at, within_at, restarts_at, lasts_at, under, args_at, node_scope, flatten, constant_in, is_false}
 use Rattle.law_equations.specs.Flattened.Lifted.{in_body, node_lasts}
 use Rattle.law_equations.specs.Flattened.Numbered.{IsRow, AreEquationsFor}
@@ -103,10 +103,14 @@ AllCalled P (Some c ∷ cs) = P c × AllCalled P cs
 
 -- ---- the equations of calls
 
+-- the row of the first output of a call
+abbrev pub first_row : Called → Row FlatName
+first_row c = row c.clock c.restart (Call c.callee 0 c.args)
+
 -- An equation with targets has the clock, the restart list and the arguments of a call.
-abbrev pub IsCallOf : (ℕ → FlatName) → List ℕ → FlatEqn → Called → Type 0
-IsCallOf means [] e c = ⊤
-IsCallOf means (x ∷ xs) e c = IsRow means e 0 (row c.clock c.restart (Call c.callee 0 c.args))
+abbrev pub IsCallOf : Flat FlatName → (ℕ → FlatName) → List ℕ → FlatEqn → Called → Type 0
+IsCallOf flat means [] e c = ⊤
+IsCallOf flat means (x ∷ xs) e c = (flat (means x) ≡ Some (first_row c ∷ [])) × IsRow means e 0 (first_row c)
 
 -- the label of a call, or of a comparison
 abbrev pub IsLabelOf : (List ℕ → List (List ℕ)) → Label → Option Called → Type 0
@@ -114,19 +118,19 @@ IsLabelOf outputs (comparison o p) None = ⊤
 IsLabelOf outputs (calling f p ps) (Some c) = (f ≡ c.callee) × (p ≡ c.here []) × (ps ≡ output_places (outputs c.callee) c.here)
 IsLabelOf outputs label c = ⊥
 
-abbrev pub StandsForCall : (ℕ → FlatName) → FlatEqn → Option Called → Type 0
-StandsForCall means e None = ⊤
-StandsForCall means e (Some c) = IsCallOf means e.targets e c
+abbrev pub StandsForCall : Flat FlatName → (ℕ → FlatName) → FlatEqn → Option Called → Type 0
+StandsForCall flat means e None = ⊤
+StandsForCall flat means e (Some c) = IsCallOf flat means e.targets e c
 
 -- equations that compare or call, with their labels, one by one
-abbrev pub AreCalls : (List ℕ → List (List ℕ)) → (ℕ → FlatName) → List FlatEqn → List Label → List (Option Called) → Type 0
-AreCalls outputs means [] [] [] = ⊤
-AreCalls outputs means (e ∷ es) (l ∷ labels) (c ∷ cs) = IsLabelOf outputs l c × StandsForCall means e c × AreCalls outputs means es labels cs
-AreCalls outputs means es labels cs = ⊥
+abbrev pub AreCalls : (List ℕ → List (List ℕ)) → Flat FlatName → (ℕ → FlatName) → List FlatEqn → List Label → List (Option Called) → Type 0
+AreCalls outputs flat means [] [] [] = ⊤
+AreCalls outputs flat means (e ∷ es) (l ∷ labels) (c ∷ cs) = IsLabelOf outputs l c × StandsForCall flat means e c × AreCalls outputs flat means es labels cs
+AreCalls outputs flat means es labels cs = ⊥
 
 -- Where equations stand for those of a node's flat names, those of its calls have the clocks, the restart lists and the arguments of these.
 abbrev pub ArgumentsLaw : Type 0
 ArgumentsLaw =
     (types : List TypeDecl) (outputs : List ℕ → List (List ℕ)) (fill : Place → Value) (n : Node) (means : ℕ → FlatName) (names : List (List ℕ)) (count : List ℕ → ℕ) (f : FlatNode)
     → AreEquationsFor means (flatten types outputs fill n) names count f → AreMadeAt means (events f.eqns) (block_labels outputs n.body in_body [])
-    → AreCalls outputs means (events f.eqns) (block_labels outputs n.body in_body []) (node_calls types outputs fill n)
+    → AreCalls outputs (flatten types outputs fill n) means (events f.eqns) (block_labels outputs n.body in_body []) (node_calls types outputs fill n)
