@@ -1,5 +1,5 @@
 -- The instance of each call, told by the equation of the call.
-use Rattle.std.proofs.Common.{◌≡◌, ℕ, List, [], ◌∷◌, map, Option, None, Some, refl, sym, ap, subst, ◌∙◌}
+use Rattle.std.proofs.Common.{◌≡◌, ℕ, Bool, List, [], ◌∷◌, map, Option, None, Some, refl, sym, ap, subst, ◌∙◌}
 use Rattle.std.specs.Prelude.{IsTrue, IsFalse}
 use Rattle.hp_base.specs.declared.value.Value.{Value}
 use Rattle.hp_base.specs.declared.value.Value.TheVariants.{Absent}
@@ -56,17 +56,17 @@ module _ (N : Nodes) (means : ℕ → FlatName) (flat : Flat FlatName) where
     all_answered [] k run = tt
     all_answered (i ∷ G) k run = (one_answered G i k.1 k.0 run.0, all_answered G k.1 run.1)
 
-  module _ (L : List (Now FlatName)) (known : Along Known L) where
-    one_call : (e : FlatEqn) (f : List ℕ) (p : Place) (ps : List Place) (c : Called) (xs : List ℕ) → IsLabelOf N.outputs (calling f p ps) (Some c) → IsCallOf flat means xs e c → Along (Runs N c) L → IfTargets xs (IsCall N means L e f p ps)
+  module _ (L : List (Now FlatName)) (told_along : Along Known L) (known : List ℕ → Bool) where
+    one_call : (e : FlatEqn) (f : List ℕ) (p : Place) (ps : List Place) (c : Called) (xs : List ℕ) → IsLabelOf N.outputs (calling f p ps) (Some c) → IsCallOf flat means xs e c → IsTrue (known c.callee) × Along (Runs N c) L → IfTargets xs (IsCall N means L known e f p ps)
     one_call e f p ps c [] label is run = tt
     one_call e f p ps c (x ∷ xs) label is run =
         let right = call_right e.right c (is.1).right in
-        let whole : IsCall N means L e c.callee (c.here []) (output_places (N.outputs c.callee) c.here) =
-        record { here = c.here; place = refl; places = refl; args = right.0; right = right.1; answered = all_answered e c x is.0 is.1 right.0 right.2 L known run } in
-        subst (λ g. IsCall N means L e g p ps) (sym label.0)
-        (subst (λ q. IsCall N means L e c.callee q ps) (sym label.1) (subst (λ qs. IsCall N means L e c.callee (c.here []) qs) (sym label.2) whole))
+        let whole : IsCall N means L known e c.callee (c.here []) (output_places (N.outputs c.callee) c.here) =
+        record { here = c.here; known_callee = run.0; place = refl; places = refl; args = right.0; right = right.1; answered = all_answered e c x is.0 is.1 right.0 right.2 L told_along run.1 } in
+        subst (λ g. IsCall N means L known e g p ps) (sym label.0)
+        (subst (λ q. IsCall N means L known e c.callee q ps) (sym label.1) (subst (λ qs. IsCall N means L known e c.callee (c.here []) qs) (sym label.2) whole))
 
-    all_calls : (es : List FlatEqn) (labels : List Label) (cs : List (Option Called)) → AreCalls N.outputs flat means es labels cs → AllCalled (λ c. Along (Runs N c) L) cs → AreCallsAt N means L es labels
+    all_calls : (es : List FlatEqn) (labels : List Label) (cs : List (Option Called)) → AreCalls N.outputs flat means es labels cs → AllCalled (λ c. IsTrue (known c.callee) × Along (Runs N c) L) cs → AreCallsAt N means L known es labels
     all_calls [] [] [] h run = tt
     all_calls [] [] (c ∷ cs) h run = absurd h
     all_calls [] (l ∷ labels) cs h run = absurd h
@@ -78,7 +78,7 @@ module _ (N : Nodes) (means : ℕ → FlatName) (flat : Flat FlatName) where
     all_calls (e ∷ es) (calling f p ps ∷ labels) (Some c ∷ cs) h run = (one_call e f p ps c e.targets h.0 h.1 run.0, all_calls es labels cs h.2 run.1)
 
 pub calls-answered : AnsweringLaw
-calls-answered types N does fills fill n means names count f are made inputs frees past k r known =
+calls-answered types N does fills fill n means names count f are made inputs frees past known k r told_along =
     let flat = flatten types N.outputs fill n in
-    all_calls N means flat (lifts n inputs frees past) known (events f.eqns) (block_labels N.outputs n.body in_body []) (node_calls types N.outputs fill n)
-    (arguments-stand types N.outputs fill n means names count f are made) (instances-run types N does fills fill n inputs frees past k r)
+    all_calls N means flat (lifts n inputs frees past) told_along known (events f.eqns) (block_labels N.outputs n.body in_body []) (node_calls types N.outputs fill n)
+    (arguments-stand types N.outputs fill n means names count f are made) (instances-run types N does fills fill n inputs frees past known k r)

@@ -41,12 +41,12 @@ left_false true true h t = h
 left_false true false h t = cc
 left_false false e h t = refl
 
-module _ (types : List TypeDecl) (N : Nodes) (does : Behaviours) (fill : Place → Value) (ok : List ℕ → Instant → Type 0) (mine : Instant → Type 0) (L : List (Now FlatName)) where
+module _ (types : List TypeDecl) (N : Nodes) (does : Behaviours) (fill : Place → Value) (ok : List ℕ → Instant → Type 0) (mine : Instant → Type 0) (L : List (Now FlatName)) (known : List ℕ → Bool) where
   abbrev D : Called → Type 0
-  D c = Along (Runs N c) L
+  D c = IsTrue (known c.callee) × Along (Runs N c) L
 
   abbrev Fine : List ℕ → Prefix → Type 0
-  Fine = IsFine N does ok mine
+  Fine f here = IsFine N does ok mine f here × IsTrue (known f)
 
   one_run : (s : Span) (f : List ℕ) (bf : Behaves N does (ok f) f) (inlined : Bool) (es : Exprs) (clock : Clock) (sc lsc : Scope) (here : Prefix) (ck : When) (rs : List Place) (G : List (Now FlatName)) (i : Now FlatName)
       → Along (Live (expr_part types N does fill (call s f inlined es) clock sc lsc) here ck rs) G → Live (expr_part types N does fill (call s f inlined es) clock sc lsc) here ck rs G i → Runs N (called_at types N.outputs fill f es clock sc here ck rs) G i
@@ -100,7 +100,7 @@ module _ (types : List TypeDecl) (N : Nodes) (does : Behaviours) (fill : Place �
     expr_runs (call s f inlined es) clock sc lsc here ck rs cs l k h =
         let c = called_at types N.outputs fill f es clock sc here ck rs in
         exprs_run es clock sc lsc (below Args here) ck rs (Some c ∷ cs) (deeper Args (expr_part types N does fill (call s f inlined es) clock sc lsc) (exprs_part types N does fill es clock sc lsc) here ck rs (λ i g now p. refl) L l) k.1
-        (along (Live (expr_part types N does fill (call s f inlined es) clock sc lsc) here ck rs) (Runs N c) (λ G i a m. one_run s f k.0.0 inlined es clock sc lsc here ck rs G i a m) L l, h)
+        ((k.0.1, along (Live (expr_part types N does fill (call s f inlined es) clock sc lsc) here ck rs) (Runs N c) (λ G i a m. one_run s f k.0.0.0 inlined es clock sc lsc here ck rs G i a m) L l), h)
 
     exprs_run : (es : Exprs) (clock : Clock) (sc lsc : Scope) (here : Prefix) (ck : When) (rs : List Place) (cs : List (Option Called)) → Along (Live (exprs_part types N does fill es clock sc lsc) here ck rs) L → EachCallOfAll Fine es here → AllCalled D cs
         → AllCalled D (exprs_calls types N.outputs fill es clock sc here ck rs cs)
@@ -165,7 +165,7 @@ module _ (types : List TypeDecl) (N : Nodes) (does : Behaviours) (fill : Place �
         (arms_run arms test sc lsc (below Tail here) ck rs cs (deeper Tail (arms_part types N does fill (more_arms c b s arms) test sc lsc) (arms_part types N does fill arms test sc lsc) here ck rs (λ i g now p. refl) L l) r k.1 h)
 
 pub instances-run : InstancesLaw
-instances-run types N does fills fill n inputs frees past k r =
+instances-run types N does fills fill n inputs frees past known k r =
     let L = lifts n inputs frees past in
-    block_runs types N does fill (λ f. IsFill (fills f)) (IsFill fill) L n.body (λ i. false) (node_scope n) (node_lasts types n) in_body always [] []
+    block_runs types N does fill (λ f. IsFill (fills f)) (IsFill fill) L known n.body (λ i. false) (node_scope n) (node_lasts types n) in_body always [] []
     (body_lives types N does fill n inputs frees past r) (all_remember types N does fill n inputs frees past r) k tt

@@ -1,6 +1,6 @@
 -- What the instance of each call does, told by the equation of the call: its clock, what it begins anew with, and its arguments.
 -- Source: own; an instance of a node behaves as the node does over its own stream of inputs, as in Colaço, Pagano and Pouzet (EMSOFT 2005).
-use Rattle.std.specs.Prelude.{◌≡◌, ⊤, ℕ, List, [], ◌∷◌, map, IsTrue, IsFalse}
+use Rattle.std.specs.Prelude.{◌≡◌, ⊤, ℕ, Bool, List, [], ◌∷◌, map, IsTrue, IsFalse}
 use Rattle.hp_base.specs.declared.value.Value.{Value}
 use Rattle.hp_base.specs.declared.value.Value.TheVariants.{Absent}
 use Rattle.hp_tree.specs.Programs.{TypeDecl, Node}
@@ -29,8 +29,9 @@ pub record IsAnswered (N : Nodes) (means : ℕ → FlatName) (e : FlatEqn) (f : 
   pub not_there : IsFalse (flow.holds e.clock (numbered means i)) → (p : Place) → i (At (here (Instance ∷ p))) ≡ Absent
 
 -- The equation of a call of a node at a place, whose outputs have these places, has these instances in flat instants.
-pub record IsCall (N : Nodes) (means : ℕ → FlatName) (L : List (Now FlatName)) (e : FlatEqn) (f : List ℕ) (p : Place) (ps : List Place) : Type 0 where
+pub record IsCall (N : Nodes) (means : ℕ → FlatName) (L : List (Now FlatName)) (known : List ℕ → Bool) (e : FlatEqn) (f : List ℕ) (p : Place) (ps : List Place) : Type 0 where
   pub here : Prefix
+  pub known_callee : IsTrue (known f)
   pub place : here [] ≡ p
   pub places : ps ≡ output_places (N.outputs f) here
   pub args : List Atom
@@ -42,21 +43,22 @@ abbrev pub IfTargets : List ℕ → Type 0 → Type 0
 IfTargets [] P = ⊤
 IfTargets (x ∷ xs) P = P
 
-abbrev pub IsCallAt : (N : Nodes) (means : ℕ → FlatName) (L : List (Now FlatName)) → FlatEqn → Label → Type 0
-IsCallAt N means L e (comparison o p) = ⊤
-IsCallAt N means L e (calling f p ps) = IfTargets e.targets (IsCall N means L e f p ps)
+abbrev pub IsCallAt : (N : Nodes) (means : ℕ → FlatName) (L : List (Now FlatName)) (known : List ℕ → Bool) → FlatEqn → Label → Type 0
+IsCallAt N means L known e (comparison o p) = ⊤
+IsCallAt N means L known e (calling f p ps) = IfTargets e.targets (IsCall N means L known e f p ps)
 
 -- equations one by one
-abbrev pub AreCallsAt : (N : Nodes) (means : ℕ → FlatName) (L : List (Now FlatName)) → List FlatEqn → List Label → Type 0
-AreCallsAt N means L [] [] = ⊤
-AreCallsAt N means L (e ∷ es) (l ∷ labels) = IsCallAt N means L e l × AreCallsAt N means L es labels
-AreCallsAt N means L es labels = ⊥
+abbrev pub AreCallsAt : (N : Nodes) (means : ℕ → FlatName) (L : List (Now FlatName)) (known : List ℕ → Bool) → List FlatEqn → List Label → Type 0
+AreCallsAt N means L known [] [] = ⊤
+AreCallsAt N means L known (e ∷ es) (l ∷ labels) = IsCallAt N means L known e l × AreCallsAt N means L known es labels
+AreCallsAt N means L known es labels = ⊥
 
--- So it is of the equations of calls in a reaction of a node without automata, for whose flat names its equations stand, where each callee behaves.
+-- So it is of the equations of calls in a reaction of a node without automata, for whose flat names its equations stand, where each callee behaves and is known.
 abbrev pub AnsweringLaw : Type 0
 AnsweringLaw =
     (types : List TypeDecl) (N : Nodes) (does : Behaviours) (fills : List ℕ → Place → Value) (fill : Place → Value) (n : Node) (means : ℕ → FlatName) (names : List (List ℕ)) (count : List ℕ → ℕ) (f : FlatNode)
     → AreEquationsFor means (flatten types N.outputs fill n) names count f → AreMadeAt means (events f.eqns) (block_labels N.outputs n.body in_body [])
-    → (inputs : List (List Value)) (frees : List Instant) (past : Past) → EachCallIn (IsFine N does (λ g. IsFill (fills g)) (IsFill fill)) n.body in_body → Reacts (node types filled N n) inputs frees past
+    → (inputs : List (List Value)) (frees : List Instant) (past : Past) (known : List ℕ → Bool)
+    → EachCallIn (λ g here. IsFine N does (λ h. IsFill (fills h)) (IsFill fill) g here × IsTrue (known g)) n.body in_body → Reacts (node types filled N n) inputs frees past
     → Along (λ G i. IsTolds means (flatten types N.outputs fill n) i) (lifts n inputs frees past)
-    → AreCallsAt N means (lifts n inputs frees past) (events f.eqns) (block_labels N.outputs n.body in_body [])
+    → AreCallsAt N means (lifts n inputs frees past) known (events f.eqns) (block_labels N.outputs n.body in_body [])
