@@ -9,6 +9,7 @@ pub mod ClockLaws
 pub mod DefinitionLaws
 pub mod ExpressionLaws
 pub mod LabelLaws
+pub mod LabelsAlike
 pub mod LabelsWorked
 pub mod LastLaws
 pub mod LayerLaws
