@@ -16,6 +16,7 @@ pub mod LayerLaws
 pub mod MadeLaw
 pub mod UnplacedLaws
 pub mod NodeLaws
+pub mod PathLaws
 pub mod PromiseLaws
 pub mod SignatureLaws
 pub mod StandsLaws

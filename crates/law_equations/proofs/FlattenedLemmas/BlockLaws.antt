@@ -97,7 +97,7 @@ module _ (types : List TypeDecl) (N : Nodes) (does : Behaviours) (fill : Place �
   arm_fresh true false k t e = cc
   arm_fresh false d k t e = refl
 
-  goes_arm : (c : Cons) (b : Block) (s : Span) (arms : Arms) (test : FlatName) (sc lsc : Scope) (here : Prefix) (ck : When) (rs : List Place) (G : List (Now FlatName)) (i : Now FlatName) → Live (arms_part (more_arms c b s arms) test sc lsc) here ck rs G i → Goes (steps ck) (steps (on (cons_of types c) test ck)) (below Head here) i
+  pub goes_arm : (c : Cons) (b : Block) (s : Span) (arms : Arms) (test : FlatName) (sc lsc : Scope) (here : Prefix) (ck : When) (rs : List Place) (G : List (Now FlatName)) (i : Now FlatName) → Live (arms_part (more_arms c b s arms) test sc lsc) here ck rs G i → Goes (steps ck) (steps (on (cons_of types c) test ck)) (below Head here) i
   goes_arm c b s arms test sc lsc here ck rs G i m = (
     (λ t. (and_true (is_cons types (i test) c) (holds (steps ck) i) t).1),
     λ t. m.0 t (Head ∷ Fresh ∷ [])
@@ -133,7 +133,7 @@ module _ (types : List TypeDecl) (N : Nodes) (does : Behaviours) (fill : Place �
       left_false false e t f = refl
 
   -- a body that a condition begins anew
-  begins_body : (ds : List Decl) (s : Span) (b : Block) (e : Expr) (sc lsc : Scope) (here : Prefix) (ck : When) (rs : List Place) (G : List (Now FlatName)) (i : Now FlatName) → Live (eqn_part ds (reset s b e) sc lsc) here ck rs G i → Begins (steps ck) (At (here (Test ∷ []))) (below Body here) i
+  pub begins_body : (ds : List Decl) (s : Span) (b : Block) (e : Expr) (sc lsc : Scope) (here : Prefix) (ck : When) (rs : List Place) (G : List (Now FlatName)) (i : Now FlatName) → Live (eqn_part ds (reset s b e) sc lsc) here ck rs G i → Begins (steps ck) (At (here (Test ∷ []))) (below Body here) i
   begins_body ds s b e sc lsc here ck rs G i m = (
     (λ t. m.0 t (Body ∷ Fresh ∷ [])
         ∙ fresh_of b _ _ (λ x. i (lsc x)) _ (part Body (seen here i))
@@ -170,7 +170,7 @@ module _ (types : List TypeDecl) (N : Nodes) (does : Behaviours) (fill : Place �
   test_false ds s b e sc lsc here ck rs G i d m t =
       m.0 t (Test ∷ []) ∙ false_said (constant_in e) e (λ x. i (sc x)) (λ x. i (lsc x)) (at Test (given here ck rs G i)) (part Test (seen here i)) refl d
 
-  goes_body : (ds : List Decl) (s : Span) (b : Block) (e : Expr) (sc lsc : Scope) (here : Prefix) (ck : When) (rs : List Place) (G : List (Now FlatName)) (i : Now FlatName) → IsTrue (is_false e)
+  pub goes_body : (ds : List Decl) (s : Span) (b : Block) (e : Expr) (sc lsc : Scope) (here : Prefix) (ck : When) (rs : List Place) (G : List (Now FlatName)) (i : Now FlatName) → IsTrue (is_false e)
       → Live (eqn_part ds (reset s b e) sc lsc) here ck rs G i → Goes (steps ck) (steps ck) (below Body here) i
   goes_body ds s b e sc lsc here ck rs G i d m = (
     (λ t. t),

@@ -43,7 +43,7 @@ remembers G names free now = (
   λ v p ck rs t. held_said v p ck rs G names free now ∙ if_true (holds (steps ck) (lifted G names free now)) _ Absent t,
 )
 
-all_since : (G : List (Now FlatName)) → since [] [] G ≡ G
+pub all_since : (G : List (Now FlatName)) → since [] [] G ≡ G
 all_since [] = refl
 all_since (i ∷ G) = ap (λ p. i ∷ p) (all_since G)
 
@@ -105,7 +105,7 @@ module _ (types : List TypeDecl) (N : Nodes) (does : Behaviours) (fill : Place �
       choose false u v u' v' e f = f
 
   -- the body at each instant
-  body_goes : (inputs : List (List Value)) (frees : List Instant) (past : Past) → Reacts Said inputs frees past → Along (λ G i. Goes [] [] in_body i) (lifts n inputs frees past)
+  pub body_goes : (inputs : List (List Value)) (frees : List Instant) (past : Past) → Reacts Said inputs frees past → Along (λ G i. Goes [] [] in_body i) (lifts n inputs frees past)
   body_goes [] [] [] r = tt
   body_goes (vs ∷ inputs) (free ∷ frees) (now ∷ past) r =
       (((λ t. t), λ t. r.1 (Body ∷ Fresh ∷ []) ∙ fresh_of types N does fill n.body false _ _ _ (part Body now)), body_goes inputs frees past r.0)

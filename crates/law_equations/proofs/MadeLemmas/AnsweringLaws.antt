@@ -1,10 +1,12 @@
 -- The instance of each call, told by the equation of the call.
-use Rattle.std.proofs.Common.{◌≡◌, ℕ, Bool, List, [], ◌∷◌, map, Option, None, Some, refl, sym, ap, subst, ◌∙◌}
+use Rattle.std.proofs.Common.{◌≡◌, ℕ, Bool, List, [], ◌∷◌, ◌++◌, map, Option, None, Some, refl, sym, ap, subst, ◌∙◌}
+use Rattle.std.proofs.lemmas.List.{append-nil}
 use Rattle.std.specs.Prelude.{IsTrue, IsFalse}
 use Rattle.hp_base.specs.declared.value.Value.{Value}
 use Rattle.hp_base.specs.declared.value.Value.TheVariants.{Absent}
 use Rattle.hp_tree.specs.Instant.{Instance, Place, Instant, Past}
 use Rattle.hp_tree.specs.Meaning.{Nodes}
+use Rattle.hp_meaning.specs.Contract.ChosenRuns.{own_past}
 use Rattle.hp_flat.specs.declared.equation.Atom.{Atom}
 use Rattle.hp_flat.specs.Equations.{Right as Given, operator, register, called, FlatEqn}
 use Rattle.law_equations.specs.Meaning.Instants as flow
@@ -15,7 +17,7 @@ use Rattle.law_equations.specs.Flattened.Lifted.{in_body, lifts}
 use Rattle.law_equations.specs.Flattened.Numbered.{AreArgs, IsRight, IsRow, AreTold, StepsTold, IsTolds, numbered}
 use Rattle.law_equations.specs.Made.Arguments.{Called, AllCalled, first_row, IsCallOf, IsLabelOf, StandsForCall, AreCalls, node_calls}
 use Rattle.law_equations.specs.Made.Answering.{IsAnswered, IsCall, IfTargets, IsCallAt, AreCallsAt, AnsweringLaw}
-use Rattle.law_equations.specs.Made.Instances.{Runs, seen, view, inside_call, own_instants}
+use Rattle.law_equations.specs.Made.Instances.{Runs, IsPlaced, seen, view, inside_call, own_instants}
 use Rattle.law_equations.specs.Made.Labels.{Label, comparison, calling, events, output_places, block_labels}
 use Rattle.law_equations.proofs.FlattenedLemmas.NumberLaws.{row_there, since_same, args_same}
 use Rattle.law_equations.proofs.MadeLemmas.ArgumentLaws.{arguments-stand}
@@ -40,8 +42,12 @@ module _ (N : Nodes) (means : ℕ → FlatName) (flat : Flat FlatName) where
     all_told [] h = tt
     all_told (i ∷ G) h = (told i h.0, all_told G h.1)
 
-    one_answered : (G : List (Now FlatName)) (i : Now FlatName) → Along Known G → Known G i → Runs N c G i → IsAnswered N means e c.callee args c.here G i
-    one_answered G i a k run =
+    -- the own past of the instance, wherever it is there
+    abbrev Reads : List (Now FlatName) → Now FlatName → Type 0
+    Reads G i = IsTrue (holds (steps c.clock) i) → own_past (c.here (Instance ∷ [])) (view (λ p. p) G) (seen (λ p. p) i) ≡ view (inside_call c) (own_instants c G i)
+
+    one_answered : (G : List (Now FlatName)) (i : Now FlatName) → Along Known G → Known G i → Runs N c G i → Reads G i → IsAnswered N means e c.callee args c.here G i
+    one_answered G i a k run reads =
         let clock : flow.holds e.clock (numbered means i) ≡ holds (steps c.clock) i = row_there means e 0 (first_row c) i r (told i k) in
         let same : values c.args i ≡ flow.atoms (numbered means i) args = sym (args_same means args c.args i are k.nowhere) in
         record {
@@ -49,24 +55,29 @@ module _ (N : Nodes) (means : ℕ → FlatName) (flat : Flat FlatName) where
           since = λ row. since_same means row e 0 (first_row c) G i r (all_told G a);
           there = λ t p. run.there (sym clock ∙ t) p
               ∙ ap (λ vs. N.instant c.callee vs (record { past = view (inside_call c) (own_instants c G i); free = λ q. i (Free (inside_call c q)) }) (seen (inside_call c) i) p) same;
+          own_is = λ t. reads (sym clock ∙ t);
           not_there = λ h p. run.not_there (sym clock ∙ h) p;
         }
 
-    all_answered : (L : List (Now FlatName)) → Along Known L → Along (Runs N c) L → Along (IsAnswered N means e c.callee args c.here) L
-    all_answered [] k run = tt
-    all_answered (i ∷ G) k run = (one_answered G i k.1 k.0 run.0, all_answered G k.1 run.1)
+    all_answered : (L : List (Now FlatName)) → Along Known L → Along (Runs N c) L → Along Reads L → Along (IsAnswered N means e c.callee args c.here) L
+    all_answered [] k run reads = tt
+    all_answered (i ∷ G) k run reads = (one_answered G i k.1 k.0 run.0 reads.0, all_answered G k.1 run.1 reads.1)
 
   module _ (L : List (Now FlatName)) (told_along : Along Known L) (known : List ℕ → Bool) where
-    one_call : (e : FlatEqn) (f : List ℕ) (p : Place) (ps : List Place) (c : Called) (xs : List ℕ) → IsLabelOf N.outputs (calling f p ps) (Some c) → IsCallOf flat means xs e c → IsTrue (known c.callee) × Along (Runs N c) L → IfTargets xs (IsCall N means L known e f p ps)
+    one_call : (e : FlatEqn) (f : List ℕ) (p : Place) (ps : List Place) (c : Called) (xs : List ℕ) → IsLabelOf N.outputs (calling f p ps) (Some c) → IsCallOf flat means xs e c → IsTrue (known c.callee) × IsPlaced c L × Along (Runs N c) L → IfTargets xs (IsCall N means L known e f p ps)
     one_call e f p ps c [] label is run = tt
     one_call e f p ps c (x ∷ xs) label is run =
         let right = call_right e.right c (is.1).right in
+        let placed = run.1 in
+        let at_top : c.here [] ≡ placed.place = placed.front [] ∙ append-nil placed.place in
+        let front : (q : Place) → c.here q ≡ c.here [] ++ q = λ q. placed.front q ∙ ap (λ p. p ++ q) (sym at_top) in
+        let reads = subst (λ p. Along (λ G i. IsTrue (holds (steps c.clock) i) → own_past p (view (λ p. p) G) (seen (λ p. p) i) ≡ view (inside_call c) (own_instants c G i)) L) (sym (placed.front (Instance ∷ []))) placed.own in
         let whole : IsCall N means L known e c.callee (c.here []) (output_places (N.outputs c.callee) c.here) =
-        record { here = c.here; known_callee = run.0; place = refl; places = refl; args = right.0; right = right.1; answered = all_answered e c x is.0 is.1 right.0 right.2 L told_along run.1 } in
+        record { here = c.here; known_callee = run.0; front = front; places = refl; args = right.0; right = right.1; answered = all_answered e c x is.0 is.1 right.0 right.2 L told_along run.2 reads } in
         subst (λ g. IsCall N means L known e g p ps) (sym label.0)
         (subst (λ q. IsCall N means L known e c.callee q ps) (sym label.1) (subst (λ qs. IsCall N means L known e c.callee (c.here []) qs) (sym label.2) whole))
 
-    all_calls : (es : List FlatEqn) (labels : List Label) (cs : List (Option Called)) → AreCalls N.outputs flat means es labels cs → AllCalled (λ c. IsTrue (known c.callee) × Along (Runs N c) L) cs → AreCallsAt N means L known es labels
+    all_calls : (es : List FlatEqn) (labels : List Label) (cs : List (Option Called)) → AreCalls N.outputs flat means es labels cs → AllCalled (λ c. IsTrue (known c.callee) × IsPlaced c L × Along (Runs N c) L) cs → AreCallsAt N means L known es labels
     all_calls [] [] [] h run = tt
     all_calls [] [] (c ∷ cs) h run = absurd h
     all_calls [] (l ∷ labels) cs h run = absurd h

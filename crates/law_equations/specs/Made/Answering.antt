@@ -1,12 +1,13 @@
 -- What the instance of each call does, told by the equation of the call: its clock, what it begins anew with, and its arguments.
 -- Source: own; an instance of a node behaves as the node does over its own stream of inputs, as in Colaço, Pagano and Pouzet (EMSOFT 2005).
-use Rattle.std.specs.Prelude.{◌≡◌, ⊤, ℕ, Bool, List, [], ◌∷◌, map, IsTrue, IsFalse}
+use Rattle.std.specs.Prelude.{◌≡◌, ⊤, ℕ, Bool, List, [], ◌∷◌, ◌++◌, map, IsTrue, IsFalse}
 use Rattle.hp_base.specs.declared.value.Value.{Value}
 use Rattle.hp_base.specs.declared.value.Value.TheVariants.{Absent}
 use Rattle.hp_tree.specs.Programs.{TypeDecl, Node}
 use Rattle.hp_tree.specs.Operators.{filled}
 use Rattle.hp_tree.specs.Instant.{Instance, Place, Instant, Past}
 use Rattle.hp_tree.specs.Meaning.{Nodes, node}
+use Rattle.hp_meaning.specs.Contract.ChosenRuns.{own_past}
 use Rattle.hp_flat.specs.declared.equation.Atom.{Atom}
 use Rattle.hp_flat.specs.Equations.{called, FlatEqn}
 use Rattle.hp_flat.specs.Nodes.{FlatNode}
@@ -20,19 +21,20 @@ use Rattle.law_equations.specs.Flattened.Numbered.{AreEquationsFor, IsTolds, num
 use Rattle.law_equations.specs.Made.Instances.{seen, view}
 use Rattle.law_equations.specs.Made.Labels.{Label, comparison, calling, events, output_places, AreMadeAt, block_labels}
 
--- The instance of a call at a place, at a flat instant after others: where the clock of the call's equation is there, it holds what the node does for the values of the arguments, after those instants at which the clock was there since the equation last began anew; and else nothing is there.
+-- The instance of a call at a place, at a flat instant after others: where the clock of the call's equation is there, it holds what the node does for the values of the arguments, after those instants at which the clock was there since the equation last began anew, which are the own past of the place; and else nothing is there.
 pub record IsAnswered (N : Nodes) (means : ℕ → FlatName) (e : FlatEqn) (f : List ℕ) (args : List Atom) (here : Prefix) (G : List (Now FlatName)) (i : Now FlatName) : Type 0 where
   pub own : List (Now FlatName)
   pub since : (row : flow.Instant → List Value) → flow.since e.clock e.restart row (map (numbered means) G) (numbered means i) ≡ map (λ j. row (numbered means j)) own
   pub there : IsTrue (flow.holds e.clock (numbered means i)) → (p : Place)
       → i (At (here (Instance ∷ p))) ≡ N.instant f (flow.atoms (numbered means i) args) (record { past = view (below Instance here) own; free = λ q. i (Free (here (Instance ∷ q))) }) (seen (below Instance here) i) p
+  pub own_is : IsTrue (flow.holds e.clock (numbered means i)) → own_past (here (Instance ∷ [])) (view (λ p. p) G) (seen (λ p. p) i) ≡ view (below Instance here) own
   pub not_there : IsFalse (flow.holds e.clock (numbered means i)) → (p : Place) → i (At (here (Instance ∷ p))) ≡ Absent
 
 -- The equation of a call of a node at a place, whose outputs have these places, has these instances in flat instants.
 pub record IsCall (N : Nodes) (means : ℕ → FlatName) (L : List (Now FlatName)) (known : List ℕ → Bool) (e : FlatEqn) (f : List ℕ) (p : Place) (ps : List Place) : Type 0 where
   pub here : Prefix
   pub known_callee : IsTrue (known f)
-  pub place : here [] ≡ p
+  pub front : (q : Place) → here q ≡ p ++ q
   pub places : ps ≡ output_places (N.outputs f) here
   pub args : List Atom
   pub right : e.right ≡ called f args

@@ -1,12 +1,13 @@
 -- What the instance of each call of a node without automata does in the flat instants of a reaction.
 -- Source: own; an instance of a node behaves as the node does over its own stream of inputs, as in Colaço, Pagano and Pouzet (EMSOFT 2005).
-use Rattle.std.specs.Prelude.{◌≡◌, ℕ, Bool, List, [], ◌∷◌, IsTrue, IsFalse}
+use Rattle.std.specs.Prelude.{◌≡◌, ℕ, Bool, List, [], ◌∷◌, ◌++◌, IsTrue, IsFalse}
 use Rattle.hp_base.specs.declared.value.Value.{Value}
 use Rattle.hp_base.specs.declared.value.Value.TheVariants.{Absent}
 use Rattle.hp_tree.specs.Programs.{TypeDecl, Node}
 use Rattle.hp_tree.specs.Operators.{filled}
 use Rattle.hp_tree.specs.Instant.{Instance, Place, Instant, Past, Given}
 use Rattle.hp_tree.specs.Meaning.{Nodes, node}
+use Rattle.hp_meaning.specs.Contract.ChosenRuns.{own_past}
 use Rattle.law_equations.specs.Flattened.Flat.{Now, Behaviours, holds, recent, values}
 use Rattle.law_equations.specs.Flattened.Flatten.{FlatName, At, Free, steps, ats, Prefix, below}
 use Rattle.law_equations.specs.Flattened.Timely.{Along}
@@ -36,9 +37,15 @@ pub record Runs (N : Nodes) (c : Called) (G : List (Now FlatName)) (i : Now Flat
       → i (At (inside_call c p)) ≡ N.instant c.callee (values c.args i) (record { past = view (inside_call c) (own_instants c G i); free = λ q. i (Free (inside_call c q)) }) (seen (inside_call c) i) p
   pub not_there : IsFalse (holds (steps c.clock) i) → (p : Place) → i (At (inside_call c p)) ≡ Absent
 
+-- The place of a call stands in front of those in it, and the own past of its instance are those instants.
+pub record IsPlaced (c : Called) (L : List (Now FlatName)) : Type 0 where
+  pub place : Place
+  pub front : (p : Place) → c.here p ≡ place ++ p
+  pub own : Along (λ G i. IsTrue (holds (steps c.clock) i) → own_past (place ++ (Instance ∷ [])) (view (λ p. p) G) (seen (λ p. p) i) ≡ view (inside_call c) (own_instants c G i)) L
+
 -- So it is at each flat instant of a reaction, where each callee behaves and is known.
 abbrev pub InstancesLaw : Type 0
 InstancesLaw =
     (types : List TypeDecl) (N : Nodes) (does : Behaviours) (fills : List ℕ → Place → Value) (fill : Place → Value) (n : Node) (inputs : List (List Value)) (frees : List Instant) (past : Past) (known : List ℕ → Bool)
     → EachCallIn (λ f here. IsFine N does (λ g. IsFill (fills g)) (IsFill fill) f here × IsTrue (known f)) n.body in_body → Reacts (node types filled N n) inputs frees past
-    → AllCalled (λ c. IsTrue (known c.callee) × Along (Runs N c) (lifts n inputs frees past)) (node_calls types N.outputs fill n)
+    → AllCalled (λ c. IsTrue (known c.callee) × IsPlaced c (lifts n inputs frees past) × Along (Runs N c) (lifts n inputs frees past)) (node_calls types N.outputs fill n)
