@@ -55,7 +55,7 @@ module _ (types : List TypeDecl) (N : Nodes) (does : Behaviours) (fill : Place �
   abbrev Said : List Value → Given → Instant → Instant
   Said inputs g now = node types filled N n inputs g now
 
-  view_lifts : (inputs : List (List Value)) (frees : List Instant) (past : Past) → Reacts Said inputs frees past → view (λ p. p) (lifts n inputs frees past) ≡ past
+  pub view_lifts : (inputs : List (List Value)) (frees : List Instant) (past : Past) → Reacts Said inputs frees past → view (λ p. p) (lifts n inputs frees past) ≡ past
   view_lifts [] [] [] r = refl
   view_lifts (vs ∷ inputs) (free ∷ frees) (now ∷ past) r = ap (λ p. now ∷ p) (view_lifts inputs frees past r.0)
   view_lifts [] [] (now ∷ past) r = absurd r

@@ -5,7 +5,7 @@ use Rattle.hp_base.specs.declared.value.Value.{Value}
 use Rattle.hp_base.specs.declared.value.Value.TheVariants.{Absent}
 use Rattle.hp_tree.specs.Programs.{TypeDecl, Node}
 use Rattle.hp_tree.specs.Operators.{filled}
-use Rattle.hp_tree.specs.Instant.{Instance, Place, Instant, Past}
+use Rattle.hp_tree.specs.Instant.{Instance, Place, Instant, Past, Given}
 use Rattle.hp_tree.specs.Meaning.{Nodes, node}
 use Rattle.hp_meaning.specs.Contract.ChosenRuns.{own_past}
 use Rattle.hp_flat.specs.declared.equation.Atom.{Atom}
@@ -21,10 +21,15 @@ use Rattle.law_equations.specs.Flattened.Numbered.{AreEquationsFor, IsTolds, num
 use Rattle.law_equations.specs.Made.Instances.{seen, view}
 use Rattle.law_equations.specs.Made.Labels.{Label, comparison, calling, events, output_places, AreMadeAt, block_labels}
 
+-- The instance of a call holds what the node does for the values of the arguments, whatever it is read with.
+abbrev pub DoesCall : Nodes → (ℕ → FlatName) → List ℕ → List Atom → Prefix → Now FlatName → Type 0
+DoesCall N means f args here i = (g : Given) × ((p : Place) → i (At (here (Instance ∷ p))) ≡ N.instant f (flow.atoms (numbered means i) args) g (seen (below Instance here) i) p)
+
 -- The instance of a call at a place, at a flat instant after others: where the clock of the call's equation is there, it holds what the node does for the values of the arguments, after those instants at which the clock was there since the equation last began anew, which are the own past of the place; and else nothing is there.
 pub record IsAnswered (N : Nodes) (means : ℕ → FlatName) (e : FlatEqn) (f : List ℕ) (args : List Atom) (here : Prefix) (G : List (Now FlatName)) (i : Now FlatName) : Type 0 where
   pub own : List (Now FlatName)
   pub since : (row : flow.Instant → List Value) → flow.since e.clock e.restart row (map (numbered means) G) (numbered means i) ≡ map (λ j. row (numbered means j)) own
+  pub own_does : Along (λ C j. DoesCall N means f args here j) own
   pub there : IsTrue (flow.holds e.clock (numbered means i)) → (p : Place)
       → i (At (here (Instance ∷ p))) ≡ N.instant f (flow.atoms (numbered means i) args) (record { past = view (below Instance here) own; free = λ q. i (Free (here (Instance ∷ q))) }) (seen (below Instance here) i) p
   pub own_is : IsTrue (flow.holds e.clock (numbered means i)) → own_past (here (Instance ∷ [])) (view (λ p. p) G) (seen (λ p. p) i) ≡ view (below Instance here) own
