@@ -1,5 +1,6 @@
 pub mod Given
 pub mod Behave
+pub mod Calls
 pub mod Values
 pub mod Among
 pub mod Along

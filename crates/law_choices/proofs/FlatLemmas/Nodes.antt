@@ -43,7 +43,11 @@ use Rattle.law_values.specs.Valued.Values.{scope_behind, Classing, class_here, c
 use Rattle.law_values.proofs.ValuedLemmas.Both.{NodeOk}
 use Rattle.law_values.proofs.ValuedLemmas.ExprTops.{Callees}
 use Rattle.law_values.proofs.ValuedLemmas.Joined.{node_ok}
-use Rattle.law_equations.specs.Answered.Answering.{given_each, has_node, AreApart, IsCalled}
+use Rattle.law_equations.specs.Made.Labels.{AreMadeAt, block_labels, events}
+use Rattle.law_equations.proofs.FlattenedLemmas.NodeLaws.{view_lifts}
+use Rattle.law_equations.proofs.MadeLemmas.AnsweringLaws.{calls-answered}
+use Rattle.law_equations.proofs.MadeLemmas.LabelsAlike.{block-alike}
+use Rattle.law_equations.specs.Answered.Answering.{filled_nodes, given_each, has_node, AreApart, IsCalled}
 use Rattle.law_equations.proofs.AnsweredLemmas.NodeAnswerLaws.{block_so, none_later, none_here}
 use Rattle.law_wellmade.specs.Timely.Kinds.{kinds_of_decls, takes_among}
 use Rattle.law_wellmade.specs.Timely.Kept.{IsRemembered, BlockBegins}
@@ -63,9 +67,12 @@ use Rattle.law_choices.specs.Runs.Chosen.{inputs_at, chosen_given, chosen_nodes,
 use Rattle.law_choices.specs.Runs.Laws.{ChoosesValues}
 use Rattle.law_choices.specs.Flat.Answering.{chosen_filled, AnsweringUnder, ControlsDiffer}
 use Rattle.law_choices.specs.Flat.Laws.{EquationsAnswerLaw}
+use Rattle.law_choices.specs.Flat.Calls.{HaveInstances}
 use Rattle.law_choices.specs.Flat.Names.{values_of, values_at, ReadsNames, NamesLaw}
 use Rattle.law_choices.specs.Flat.Places.{PlacesLaw, ReadsPlaces, values_in}
-use Rattle.law_choices.proofs.FlatLemmas.Behave.{outputs_answered, outputs_here, instant_here, behave}
+use Rattle.law_choices.proofs.RunsLemmas.Chosen.{outputs_alike}
+use Rattle.law_choices.proofs.FlatLemmas.Calls.{have-instances, inputs-held, never-fresh}
+use Rattle.law_choices.proofs.FlatLemmas.Behave.{outputs_answered, outputs_behind, outputs_here, instant_here, behave}
 use Rattle.law_choices.proofs.FlatLemmas.Values.{steered_fits, callees}
 use Rattle.law_choices.proofs.FlatLemmas.Among.{Accepted, accepted_at, tested_at, ranked_at, each_at, given_at, among_behind, has_among}
 use Rattle.law_choices.proofs.FlatLemmas.Along.{meets_along, timely_along, with_all, along_so, told_of}
@@ -252,6 +259,12 @@ module _ (choices : Choices) (program : List Item) (class : Classing) (fills : L
         λ free mine p u. let g = c.given_there p u in mine (here p) g.0 ∙ g.1,
       )
 
+  -- what is called has the outputs that the whole program gives it
+  known_outputs : (f : List ℕ) → IsTrue (has_node earlier f) → (filled_nodes program).outputs f ≡ N.outputs f
+  known_outputs f declared =
+      sym (outputs_alike choices types filled (reverse program) f) ∙ ap (λ (xs : List Item). (chosen_nodes choices types filled xs).outputs f) split
+      ∙ outputs_behind choices types filled (later ++ NodeItem n ∷ []) earlier f (none_later (later ++ NodeItem n ∷ []) earlier f (subst AreApart split apart) declared)
+
   counts : (f : List ℕ) (args : List Value) (before : List (List Value)) → length (answers f args before) ≡ length ((chosen_filled choices program).outputs f)
   counts f args before =
       let a = answer_is f args before in
@@ -310,6 +323,24 @@ module _ (choices : Choices) (program : List Item) (class : Classing) (fills : L
         (timely_along whole in_body L timely) (meets_along does flat_is GivesInputs (all_inputs n inputs frees) L flat_reaction) in
         along_so Rows (λ G i. IsTolds means flat_is i) (λ G i h. record { rows = λ x. told_of takes i (flat_is (means x)) (means x) (h.1 x); nowhere = h.0 }) L rows
 
+    -- The instances of calls have the arguments of their equations as inputs.
+    calls_have : AreMadeAt means (events flat.eqns) (block_labels (filled_nodes program).outputs n.body in_body []) → HaveInstances (filled_nodes program).outputs (map (numbered means) (lifted_each inputs past)) past (events flat.eqns) (block_labels (filled_nodes program).outputs n.body in_body [])
+    calls_have made =
+        let outputs = (filled_nodes program).outputs in
+        let frees = steered_each choice n fill inputs past in
+        let L = lifted_each inputs past in
+        let labels = block_labels N.outputs n.body in_body [] in
+        let same : block_labels outputs n.body in_body [] ≡ labels =
+        block-alike outputs N.outputs n.body in_body [] [] (block_so (IsCalled earlier fills fill) (λ f here. outputs f ≡ N.outputs f) (λ f here c. known_outputs f c.declared) n.body in_body is.calls) refl in
+        let known_calls =
+        block_so (IsCalled earlier fills fill) (λ f here. IsFine N (does_of answers) (λ g. IsFill (fills g)) (IsFill fill) f here × IsTrue (has_node earlier f)) (λ f here c. (fine f here c, c.declared)) n.body in_body is.calls in
+        let answered =
+        calls-answered types N (does_of answers) fills fill n means (names_of n.inputs ++ names_of (controls_of n.contract)) (λ f. length ((chosen_filled choices program).outputs f)) flat is.equations (subst (AreMadeAt means (events flat.eqns)) same made)
+        inputs frees past (has_node earlier) known_calls reaction told in
+        let have = have-instances N (has_node earlier) (inputs-held choices types filled earlier) (never-fresh choices types filled earlier) outputs (λ f k. sym (known_outputs f k)) means L (events flat.eqns) labels answered in
+        subst (λ ls. HaveInstances outputs (map (numbered means) L) past (events flat.eqns) ls) (sym same)
+        (subst (λ q. HaveInstances outputs (map (numbered means) L) q (events flat.eqns) labels) (view_lifts types N (does_of answers) fill n inputs frees past reaction) have)
+
     numbered_reaction : Reaction answers flat (with_chosen choice inputs) (map (numbered means) (lifted_each inputs past))
     numbered_reaction =
         let many = λ (args : List Value) (before : List (List Value)). are_long types (controls_of n.contract) (choice args before) (chooses.0 args before) in
@@ -343,14 +374,15 @@ module _ (choices : Choices) (program : List Item) (class : Classing) (fills : L
             record { variable = its.0; is_its = its.1; values = named_values means n its.0 x its.2 Said inputs (steered_each choice n fill inputs past) past reaction_here };
       }
 
-  reads_places : flat.name ≡ n.name → (inputs : List (List Value)) (past : Past) → Each (AreOf types n.inputs) inputs → ReactionOf (chosen_meaning choices filled program n.name) inputs (given_each fill inputs) past
-      → ReadsPlaces choices answers means flat inputs past
-  reads_places name_is inputs past of_types reaction =
+  reads_places : AreMadeAt means (events flat.eqns) (block_labels (filled_nodes program).outputs n.body in_body []) → flat.name ≡ n.name → (inputs : List (List Value)) (past : Past) → Each (AreOf types n.inputs) inputs → ReactionOf (chosen_meaning choices filled program n.name) inputs (given_each fill inputs) past
+      → ReadsPlaces choices answers means flat (filled_nodes program).outputs (block_labels (filled_nodes program).outputs n.body in_body []) inputs past
+  reads_places made name_is inputs past of_types reaction =
       let reaction_here = reacts inputs past reaction in
       record {
         instants = map (numbered means) (lifted_each inputs past);
         reaction = read_reaction name_is inputs past of_types reaction_here;
         values = λ v p e. placed_values means n v p e Said inputs (steered_each choice n fill inputs past) past reaction_here;
+        calls = calls_have inputs past of_types reaction_here made;
       }
 
   answered_on : flat.name ≡ n.name → (args : List Value) (before : List (List Value)) (past : Past) → Each (AreOf types n.inputs) (args ∷ before)
@@ -395,5 +427,5 @@ places_read choices program class fills k ok ranked apart fit distinct are_teste
       labelled = m.4;
       alone = m.5;
       read = λ inputs past of_types reaction.
-          reads_places choices program class fills answers ok ranked apart fit distinct are_tested values answer_is later earlier n m.0 flat m.1 m.2 (begins k fill n is.ready) differ name_is inputs past of_types reaction;
+          reads_places choices program class fills answers ok ranked apart fit distinct are_tested values answer_is later earlier n m.0 flat m.1 m.2 (begins k fill n is.ready) differ m.4 name_is inputs past of_types reaction;
     }

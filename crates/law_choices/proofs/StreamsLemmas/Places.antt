@@ -97,6 +97,7 @@ module _ (laws : MeaningLaws) (found : FilledFoundLaw) (program after : List Ite
         low = it.filled.past;
         found = found (outputs_low after) choices after g.name n inputs _ e it;
         values = read.values;
+        calls = read.calls;
       }
 
 -- the places of a program whose clocked equations mean what it does

@@ -32,6 +32,7 @@ use Rattle.law_choices.specs.Choosing.Choices.{Choices}
 use Rattle.law_choices.specs.Choosing.Meaning.{HasOneMeaningUnder}
 use Rattle.law_choices.specs.Choosing.Programs.{AreChoices}
 use Rattle.law_choices.specs.Runs.Laws.{ChoosesValues}
+use Rattle.law_choices.specs.Flat.Calls.{HaveInstances}
 use Rattle.law_choices.specs.Flat.Names.{values_at}
 use Rattle.law_choices.specs.Flat.Places.{AreAlone, values_in}
 use Rattle.law_choices.specs.Seeing.Found.{FoundAlike}
@@ -43,7 +44,7 @@ abbrev pub outputs_low : List Item → List ℕ → List (List ℕ)
 outputs_low program = (filled_nodes (lowered_program program)).outputs
 
 -- There is exactly one reaction of a node with the chosen values over inputs, and exactly one of its clocked equations over what is answered. The variables of the equations that compare or call stand for places of the program without automata, and these equations alone define them; what stands for a place has the values of an instant there.
--- What a walk over the node finds has these values, wherever it is there and not Nil.
+-- What a walk over the node finds has these values, wherever it is there and not Nil. The instance of each call, in the program without automata, has the arguments of the call's equation as its inputs.
 pub record KeepsPlaces (choices : Choices) (program : List Item) (answers : Answers) (n : Node) (flat : FlatNode) (inputs : List (List Value)) : Type 0 where
   pub answered : AnswersReaction choices program answers flat.name inputs
   pub instants : List Instant
@@ -54,6 +55,7 @@ pub record KeepsPlaces (choices : Choices) (program : List Item) (answers : Answ
   pub low : Past
   pub found : Along (FoundAlike (outputs_low program) n) answered.one.before.past low
   pub values : (v : ℕ) (q : Place) → means v ≡ At q → values_at v instants ≡ values_in q low
+  pub calls : HaveInstances (outputs_low program) instants low (events flat.eqns) (block_labels (outputs_low program) (lowered_node (enumerations [] program) n).body in_body [])
 
 -- So it is of each node, over inputs of its kinds.
 abbrev pub KeepsPlacesOf : Choices → List Item → Answers → FlatNode → Type 0
