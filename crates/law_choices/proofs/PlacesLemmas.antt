@@ -12,3 +12,4 @@ pub mod Values
 pub mod Related
 pub mod Standing
 pub mod Grouped
+pub mod Instances
