@@ -13,3 +13,4 @@ pub mod Related
 pub mod Standing
 pub mod Grouped
 pub mod Instances
+pub mod Paired
