@@ -22,7 +22,7 @@ both-and : (a b c : Bool) → (a && (b && c)) ≡ ((a && b) && c)
 both-and true b c = refl
 both-and false b c = refl
 
-both-or : (a b c : Bool) → (a || (b || c)) ≡ ((a || b) || c)
+pub both-or : (a b c : Bool) → (a || (b || c)) ≡ ((a || b) || c)
 both-or true b c = refl
 both-or false b c = refl
 

@@ -15,7 +15,7 @@ use Rattle.hp_flat.specs.declared.node.Variable.{Variable}
 use Rattle.hp_flat.specs.Equations.{Clock, FlatEqn}
 use Rattle.hp_flat.specs.Nodes.{FlatNode}
 use Rattle.law_equations.specs.Meaning.Instants.{Instant, atoms, history}
-use Rattle.law_equations.specs.Meaning.Kinding.{Callees, HaveKinds, kinds_at, variable_kind}
+use Rattle.law_equations.specs.Meaning.Kinding.{Callees, HaveKinds, variable_kind}
 use Rattle.law_equations.specs.Meaning.Reactions.{Answers, Reaction, inputs_of}
 use Rattle.law_equations.specs.Meaning.Scheduling.{AreBelow, EqnWithin, IsWithin}
 use Rattle.hp_controller.specs.declared.decoding.Control.{Control}

@@ -1,6 +1,5 @@
 -- Where an observer stands in a node, each reaction of the node has in it a reaction of the observer, over the instants of its site.
-use Rattle.std.proofs.Common.{◌≡◌, ◌⊎◌, inl, inr, ℕ, zero, suc, ◌+◌, ◌<◌, ◌≤◌, Bool, true, false, ◌&&◌, ◌||◌, nat_eq, nat_lt, List, [], ◌∷◌, ◌++◌, length, map, refl, sym, ap, ap₂, subst, ◌∙◌, arith}
-use Rattle.std.specs.Prelude.{IsTrue}
+use Rattle.std.proofs.Common.{◌≡◌, ◌⊎◌, inl, inr, ℕ, zero, suc, ◌+◌, ◌<◌, ◌≤◌, Bool, true, false, ◌&&◌, ◌||◌, nat_eq, nat_lt, List, [], ◌∷◌, ◌++◌, length, map, refl, ap, ap₂, subst, ◌∙◌, arith}
 use Rattle.std.specs.List.{AllByRecursion, range_with_len}
 use Rattle.std.proofs.lemmas.Bool.Decides.{nat_tests}
 use Rattle.hp_base.specs.declared.value.Value.{Value}
@@ -10,14 +9,14 @@ use Rattle.hp_flat.specs.Equations.{Clock, FlatEqn}
 use Rattle.hp_flat.specs.Nodes.{FlatNode}
 use Rattle.law_automata.proofs.LoweredLemmas.Expressions.{ap₃}
 use Rattle.law_equations.proofs.FollowedLemmas.Passing.{each_first, each_second}
-use Rattle.law_equations.specs.Meaning.Instants.{Instant, atom, atoms, history, holds, noted, restarted, since, unless}
-use Rattle.law_equations.specs.Meaning.Reactions.{Answers, Continues, Holds, Reaction, has, inputs_of, is_set}
-use Rattle.law_equations.specs.Meaning.Scheduling.{AreBelow, EqnWithin}
+use Rattle.law_equations.specs.Meaning.Instants.{Instant, atom, atoms, history, holds, noted, restarted, unless}
+use Rattle.law_equations.specs.Meaning.Reactions.{Answers, Continues, Holds, Reaction, has, is_set}
+use Rattle.law_equations.specs.Meaning.Scheduling.{EqnWithin}
 use Rattle.hp_watch.specs.Embedding.{Site, moved_all, moved_clock, moved_eqn}
-use Rattle.law_choices.specs.Embedded.Sites.{Holds as IsHeld, IsElsewhere, SiteLaw, moved_in, site_instants, site_rows}
+use Rattle.law_choices.specs.Embedded.Sites.{Holds as IsHeld, IsElsewhere, SiteLaw, moved_in}
 use Rattle.law_choices.proofs.AddingLemmas.Embeds.{embedded-eqns, input_eqns}
 use Rattle.law_choices.proofs.AddingLemmas.Steps.{none_among}
-use Rattle.law_choices.proofs.EmbeddedLemmas.Moved.{IsStill, all-own, clock-own, holds-both, nothing-own, site_past, site_since, value-own}
+use Rattle.law_choices.proofs.EmbeddedLemmas.Moved.{IsStill, all-own, both-or, clock-own, holds-both, nothing-own, site_past, site_since, value-own}
 
 -- ---- variables that are set
 
@@ -46,11 +45,7 @@ none-there now x (e ∷ es) h = ap₂ (λ b c. (b && has e.targets x) || c) h.0 
 
 set-both : (xs ys : List FlatEqn) (now : Instant) (x : ℕ) → is_set (xs ++ ys) now x ≡ (is_set xs now x || is_set ys now x)
 set-both [] ys now x = refl
-set-both (e ∷ xs) ys now x = ap (λ b. (holds e.clock now && has e.targets x) || b) (set-both xs ys now x) ∙ or-both (holds e.clock now && has e.targets x) (is_set xs now x) (is_set ys now x)
-  where
-    or-both : (a b c : Bool) → (a || (b || c)) ≡ ((a || b) || c)
-    or-both true b c = refl
-    or-both false b c = refl
+set-both (e ∷ xs) ys now x = ap (λ b. (holds e.clock now && has e.targets x) || b) (set-both xs ys now x) ∙ both-or (holds e.clock now && has e.targets x) (is_set xs now x) (is_set ys now x)
 
 or-none : (b : Bool) → (b || false) ≡ b
 or-none true = refl

@@ -7,7 +7,7 @@ pub loop-i-preserved : goal.loop-i-preserved
 loop-i-preserved c = (
   omega arith,
   row_more (codes " & ") apart_text c.args.text.now.items c.loop-i.text.items c.add-in-loop-i.new.text.items c.add_apart-in-loop-i.new.text.items c.loop-i.i c.loop-i.invariant.0 c.loop-i.invariant.1
-  c.in_ok-add.ensures c.in_ok-add_apart-2.ensures,
+      c.in_ok-add.ensures c.in_ok-add_apart-2.ensures,
 )
 
 pub returns : goal.returns
