@@ -1,8 +1,7 @@
-pub mod HeadingLaws
 mod AmongLaws
 mod ChoosingLaws
 pub mod CompiledLaws
-mod JoiningLaws
+pub mod JoiningLaws
 pub mod ReachLaws
 pub mod ChainLaws
 pub mod PartLaws

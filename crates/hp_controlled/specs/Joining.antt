@@ -1,14 +1,8 @@
 -- The machines of a program without controllable variables, with those of its contracts.
 use Rattle.std.specs.Prelude.{◌≡◌, ℕ, List, [], ◌∷◌, ◌++◌, codes, IsTrue, is_some, None, Some}
-use Rattle.hp_complete.specs.Declaring.{known_of}
-use Rattle.hp_complete.specs.Made.{AreMadeOf}
-use Rattle.hp_complete.specs.Signatures.{AreFlat, places_of}
-use Rattle.hp_automata.specs.Lowering.{lowered_program}
-use Rattle.hp_flat.specs.Nodes.{FlatNode}
 use Rattle.hp_machines.specs.Machined.{AreMachinesOf, heading_of_machine, heading_of_node, vars_of}
-use Rattle.hp_machines.specs.Making.{AreMade}
 use Rattle.hp_obc.specs.Form.{HasObcForm, machine_named}
-use Rattle.hp_obc.specs.Machines.{Machine, Obc, ObcType}
+use Rattle.hp_obc.specs.Machines.{Machine, Obc}
 use Rattle.hp_obc.specs.Steps.{machine_behaviour}
 use Rattle.hp_tree.specs.Programs.{Node, TypeDecl}
 use Rattle.hp_tree.specs.declared.program.Item.{Item}
@@ -47,13 +41,6 @@ pub record AreWithContracts (program : List Item) (own o : Obc) : Type 0 where
   pub types : o.types ≡ own.types
   pub form : HasObcForm o.types o.machines
   pub machines : AreOfNodes program own.machines o.machines
-
--- some of them: those of the clocked equations of the program, before it is known that they are called as its nodes
-pub record AreMadeMachines (program : List Item) (types : List ObcType) (machines : List Machine) : Type 0 where
-  pub nodes : List FlatNode
-  pub flat : AreFlat (places_of (lowered_program program)) (lowered_program program) nodes
-  pub equations : AreMadeOf (known_of (lowered_program program)) (lowered_program program) nodes
-  pub made : AreMade types nodes machines
 
 -- Each of the own machines does among the others what it does by itself, where each calls own ones before it.
 abbrev pub SameLaw : Type 0

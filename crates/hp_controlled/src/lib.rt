@@ -3,13 +3,10 @@
 
 mod among;
 mod error;
-mod heading;
-mod joining;
 mod machines;
 mod node;
 mod part;
 
 pub use among::{machines_do_the_same_among_others, own_machines_do_the_same};
 pub use error::ControlledErr;
-pub use joining::machines_with_contracts;
 pub use machines::controlled_machines;

@@ -16,22 +16,9 @@ use Rattle.hp_obc.specs.Machines.{Machine, Obc, ObcType}
 use Rattle.hp_obc.specs.Steps.{Names, given}
 use Rattle.hp_controlled.specs.Among.{StandAmong, call_earlier, calls_these}
 use Rattle.hp_controlled.specs.Among.StandAmong.{nothing, one, another}
-use Rattle.hp_controlled.specs.Joining.{AreOfNode, AreOfNodes, AreWithContracts}
-use Rattle.hp_controlled.specs.Joining.AreOfNode.{own_alone, with_contract}
-use Rattle.hp_controlled.specs.Joining.AreOfNodes.{of_none, of_a_type, of_a_node}
-use Rattle.hp_tree.specs.Programs.{Node}
+use Rattle.hp_controlled.proofs.JoiningLaws.{stand_among}
+use Rattle.hp_controlled.specs.Joining.{AreWithContracts}
 use Rattle.hp_tree.specs.declared.program.Item.{Item}
-
--- ---- own machines stand among the others
-
-among_one : (n : Node) (m : Machine) (these own all : List Machine) → AreOfNode n m these → StandAmong own all → StandAmong (m ∷ own) (these ++ all)
-among_one n m these own all (own_alone none) stand = one m stand
-among_one n m these own all (with_contract controller telling some chooses tells) stand = another controller (one m (another telling stand))
-
-stand_among : (items : List Item) (own all : List Machine) → AreOfNodes items own all → StandAmong own all
-stand_among items own all of_none = nothing
-stand_among items own all (of_a_type {items = rest} t are) = stand_among rest own all are
-stand_among items own all (of_a_node {items = rest} {own = others} {all = behind} n m these heading these_are are) = among_one n m these others behind these_are (stand_among rest others behind are)
 
 -- ---- a number for each name
 
