@@ -8,6 +8,7 @@ pub mod Plants
 pub mod Listed
 pub mod Looked
 pub mod Rowed
+pub mod CalledRowed
 pub mod PlantRuns
 pub mod Callees
 pub mod HeldRows

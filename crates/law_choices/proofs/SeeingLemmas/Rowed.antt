@@ -101,7 +101,7 @@ module _ (laws : NodeLaws) (types : List ObcType) (all : Callees) (observers : O
     pub told : V f.variable q.0
 
   -- what is known of a target
-  abbrev IsTarget : FlatEqn → ℕ → Type 0
+  abbrev pub IsTarget : FlatEqn → ℕ → Type 0
   IsTarget e x = ((x < length plant.variables) × (plant.inputs ≤ x)) × ((clocks x ≡ e.clock) × IsOn x e.clock plant.eqns)
 
   abbrev pub IsAlone : FlatEqn → Type 0
@@ -114,18 +114,18 @@ module _ (laws : NodeLaws) (types : List ObcType) (all : Callees) (observers : O
     pub free : its_free m ≡ own ++ more
     pub rows : Along Row places own
 
-  typed : (x : ℕ) (t : FlatTy) → HasType (sketch_node k low) x t → type_at s.node x ≡ t
+  pub typed : (x : ℕ) (t : FlatTy) → HasType (sketch_node k low) x t → type_at s.node x ≡ t
   typed x t h = typed-there laws types all observers n c g k low made x t h
 
   module _ (m : ℕ) (e : FlatEqn) (at : slice_get plant.eqns m ≡ Some e) where
-    placed_eqn : slice_get s.node.eqns m ≡ Some e
+    pub placed_eqn : slice_get s.node.eqns m ≡ Some e
     placed_eqn = there laws types all observers n c g k low made m e at
 
     its_clock : clock_of s.node (Some m) ≡ e.clock
     its_clock = ap clock_by placed_eqn
 
     -- the targets of an event that is no copy
-    targets-are : (IsCopy e.right → ⊥) → IsAlone e → AllByRecursion (IsTarget e) e.targets
+    pub targets-are : (IsCopy e.right → ⊥) → IsAlone e → AllByRecursion (IsTarget e) e.targets
     targets-are new alone =
         let w = ((g.of_node).based).well in
         let l = (numbers laws types all observers n c g k low made m e at).targets in
@@ -135,7 +135,7 @@ module _ (laws : NodeLaws) (types : List ObcType) (all : Callees) (observers : O
         (each_both (λ x. x < length plant.variables) (λ x. plant.inputs ≤ x) (λ x. (x < length plant.variables) × (plant.inputs ≤ x)) (λ x a b. (a, b)) e.targets l i)
         (each_both (λ x. clocks x ≡ e.clock) (λ x. IsOn x e.clock plant.eqns) (λ x. (clocks x ≡ e.clock) × IsOn x e.clock plant.eqns) (λ x a b. (a, b)) e.targets t alone)
 
-    row : (x : ℕ) (p : Place) (t : Ty) → IsTarget e x → kind_of_type types (type_at s.node x) ≡ kind_of decls t → V x p → Row (p, t) (record { variable = x; eqn = Some m })
+    pub row : (x : ℕ) (p : Place) (t : Ty) → IsTarget e x → kind_of_type types (type_at s.node x) ≡ kind_of decls t → V x p → Row (p, t) (record { variable = x; eqn = Some m })
     row x p t is kind told =
         record {
           below = is.0.0;
@@ -177,7 +177,7 @@ module _ (laws : NodeLaws) (types : List ObcType) (all : Callees) (observers : O
     output-rows x p (ty.Enum y) is same target told =
         subst (λ u. Along Row ((p, ty.Enum y) ∷ []) (if is_integer u then [] else record { variable = x; eqn = Some m } ∷ [])) (sym is) (row x p (ty.Enum y) target (ap (kind_of_type types) is ∙ same) told, tt)
 
-    outputs-rows : (from : ℕ) (os : List Decl) (v : Prefix) → Outputs k (sketch_node k low) from os → AllByRecursion (λ (d : Decl). SameKind types decls k d.ty) os → AllByRecursion (IsTarget e) (numbers_from from os)
+    pub outputs-rows : (from : ℕ) (os : List Decl) (v : Prefix) → Outputs k (sketch_node k low) from os → AllByRecursion (λ (d : Decl). SameKind types decls k d.ty) os → AllByRecursion (IsTarget e) (numbers_from from os)
         → Along V (numbers_from from os) (map (λ (o : List ℕ). v (Named o ∷ [])) (map (λ (d : Decl). d.name) os)) → Along Row (free_outputs os v) (flat_map (free_target s.node m) (numbers_from from os))
     outputs-rows from [] v o same targets told = tt
     outputs-rows from (d ∷ os) v o same targets told =
@@ -218,11 +218,11 @@ module _ (laws : NodeLaws) (types : List ObcType) (all : Callees) (observers : O
     one-brought l (compared o p, called h qs) places b is event alike group new alone told = absurd alike
     one-brought l (called f ps, compared u q) places b is event alike group new alone told = absurd alike
 
-  same_eqn : (es : List FlatEqn) (m : ℕ) (e u : FlatEqn) → slice_get es m ≡ Some e → slice_get es m ≡ Some u → u ≡ e
+  pub same_eqn : (es : List FlatEqn) (m : ℕ) (e u : FlatEqn) → slice_get es m ≡ Some e → slice_get es m ≡ Some u → u ≡ e
   same_eqn es m e u h i = let both = sym i ∙ h in cc
 
   -- no comparison or call is a copy
-  no_copy : (e : FlatEqn) (x : Spot) → IsEventOf e x → IsCopy e.right → ⊥
+  pub no_copy : (e : FlatEqn) (x : Spot) → IsEventOf e x → IsCopy e.right → ⊥
   no_copy e (compared o p) event copy = no-copy o (event.0 ∷ event.1 ∷ []) (subst IsCopy event.3 copy)
   no_copy e (called f ps) event copy = subst IsCopy event.1 copy
 
