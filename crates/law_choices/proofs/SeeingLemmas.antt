@@ -13,6 +13,7 @@ pub mod PlantRuns
 pub mod Callees
 pub mod HeldRows
 pub mod HeldInBody
+pub mod HeldAll
 pub mod FoundTold
 pub mod Bigger
 pub mod OwnContract
