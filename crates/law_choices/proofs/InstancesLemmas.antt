@@ -1,4 +1,5 @@
 pub mod Called
+pub mod History
 pub mod Reacting
 pub mod Joined
 pub mod ShortValues

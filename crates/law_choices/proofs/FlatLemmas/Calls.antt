@@ -21,7 +21,7 @@ use Rattle.law_equations.specs.Flattened.Timely.{Along}
 use Rattle.law_equations.specs.Flattened.Numbered.{numbered}
 use Rattle.law_equations.specs.Answered.Answering.{has_node}
 use Rattle.law_equations.specs.Made.Answering.{DoesCall, IsAnswered, IsCall, IfTargets, AreCallsAt}
-use Rattle.law_equations.specs.Made.Instances.{seen, view}
+use Rattle.law_equations.specs.Made.Instances.{begins, seen, view}
 use Rattle.law_equations.specs.Made.Labels.{Label, comparison, calling, output_places}
 use Rattle.law_choices.specs.Choosing.Choices.{Choices}
 use Rattle.law_choices.specs.Flat.Calls.{Both, instance_in, HasInputs, IsInstance, HasInstances, IsCallAt, HaveInstances}
@@ -94,6 +94,7 @@ module _ (N : Nodes) (known : List ℕ → Bool) (inputs_are : (f : List ℕ) �
           own_have = all_hold a.own a.own_does;
           own_is = λ t. ap (λ q. own_past q (view whole G) (seen whole i)) (sym (front (Instance ∷ []))) ∙ a.own_is t ∙ views_same a.own;
           there = λ t. holds_inputs i _ (a.there t);
+          anew = a.anew ∙ ap (λ q. begins q (seen whole i)) (front (Instance ∷ []));
           not_there = λ h q. at_front i q ∙ a.not_there h q;
         }
 

@@ -10,6 +10,7 @@ use Rattle.hp_flat.specs.declared.equation.Atom.{Atom}
 use Rattle.hp_flat.specs.Equations.{called, FlatEqn}
 use Rattle.law_equations.specs.Meaning.Instants as flow
 use Rattle.law_equations.specs.Made.Answering.{IfTargets}
+use Rattle.law_equations.specs.Made.Instances.{begins}
 use Rattle.law_equations.specs.Made.Labels.{Label, comparison, calling}
 
 -- an instant of the equations with that of the node
@@ -25,13 +26,14 @@ pub record HasInputs (args : List Atom) (p : Place) (j : flow.Instant) (now : In
   pub inputs : (q : Place) → instance_in p now (Inputs ∷ q) ≡ in_row (map alone (flow.atoms j args)) q
   pub fresh : instance_in p now (Fresh ∷ []) ≡ B false
 
--- The instance of a call at an instant after others: it is there where the clock of the equation is, with the instants at which it was there since the equation last began anew as its own past.
+-- The instance of a call at an instant after others: it is there where the clock of the equation is, with the instants at which it was there since the equation last began anew as its own past. The equation begins anew where a part on the way to the instance does.
 pub record IsInstance (e : FlatEqn) (args : List Atom) (p : Place) (js : List flow.Instant) (past : Past) (j : flow.Instant) (now : Instant) : Type 0 where
   pub own : List Both
   pub since : (row : flow.Instant → List Value) → flow.since e.clock e.restart row js j ≡ map (λ (x : Both). row x.0) own
   pub own_have : AllByRecursion (λ (x : Both). HasInputs args p x.0 x.1) own
   pub own_is : IsTrue (flow.holds e.clock j) → own_past (p ++ (Instance ∷ [])) past now ≡ map (λ (x : Both). instance_in p x.1) own
   pub there : IsTrue (flow.holds e.clock j) → HasInputs args p j now
+  pub anew : flow.restarted e.restart j ≡ begins (p ++ (Instance ∷ [])) now
   pub not_there : IsFalse (flow.holds e.clock j) → (q : Place) → instance_in p now q ≡ Absent
 
 -- at each of some instants

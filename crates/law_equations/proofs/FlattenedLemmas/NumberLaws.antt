@@ -131,7 +131,7 @@ module _ (means : ℕ → FlatName) where
   pub row_there : (e : FlatEqn) (k : ℕ) (r : Row FlatName) (i : Now FlatName) → IsRow means e k r → StepsTold r.clock i → clock_holds e.clock (numbered means i) ≡ holds r.clock i
   row_there e k r i a t = sym (clock_back (numbered means i) e.clock) ∙ steps_same (reverse e.clock) r.clock i a.clock t
 
-  row_restarts : (e : FlatEqn) (k : ℕ) (r : Row FlatName) (i : Now FlatName) → IsRow means e k r → restarted e.restart (numbered means i) ≡ restarts r.restart i
+  pub row_restarts : (e : FlatEqn) (k : ℕ) (r : Row FlatName) (i : Now FlatName) → IsRow means e k r → restarted e.restart (numbered means i) ≡ restarts r.restart i
   row_restarts e k r i a = sym (restart_back (numbered means i) e.restart) ∙ restarts_same (reverse e.restart) i ∙ ap (λ xs. restarts xs i) a.restart
 
   -- ---- histories

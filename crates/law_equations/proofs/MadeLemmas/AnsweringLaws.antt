@@ -17,9 +17,9 @@ use Rattle.law_equations.specs.Flattened.Lifted.{in_body, lifts}
 use Rattle.law_equations.specs.Flattened.Numbered.{AreArgs, IsRight, IsRow, AreTold, StepsTold, IsTolds, numbered}
 use Rattle.law_equations.specs.Made.Arguments.{Called, AllCalled, first_row, IsCallOf, IsLabelOf, StandsForCall, AreCalls, node_calls}
 use Rattle.law_equations.specs.Made.Answering.{DoesCall, IsAnswered, IsCall, IfTargets, IsCallAt, AreCallsAt, AnsweringLaw}
-use Rattle.law_equations.specs.Made.Instances.{Runs, IsPlaced, seen, view, inside_call, own_instants}
+use Rattle.law_equations.specs.Made.Instances.{Runs, IsPlaced, begins, seen, view, inside_call, own_instants}
 use Rattle.law_equations.specs.Made.Labels.{Label, comparison, calling, events, output_places, block_labels}
-use Rattle.law_equations.proofs.FlattenedLemmas.NumberLaws.{row_there, since_same, args_same}
+use Rattle.law_equations.proofs.FlattenedLemmas.NumberLaws.{row_there, row_restarts, since_same, args_same}
 use Rattle.law_equations.proofs.MadeLemmas.ArgumentLaws.{arguments-stand}
 use Rattle.law_equations.proofs.MadeLemmas.InstanceLaws.{instances-run}
 
@@ -69,8 +69,11 @@ module _ (N : Nodes) (means : ℕ → FlatName) (flat : Flat FlatName) where
     abbrev Reads : List (Now FlatName) → Now FlatName → Type 0
     Reads G i = IsTrue (holds (steps c.clock) i) → own_past (c.here (Instance ∷ [])) (view (λ p. p) G) (seen (λ p. p) i) ≡ view (inside_call c) (own_instants c G i)
 
-    one_answered : (G : List (Now FlatName)) (i : Now FlatName) → Along Known G → Along (Runs N c) G → Known G i → Runs N c G i → Reads G i → IsAnswered N means e c.callee args c.here G i
-    one_answered G i a b k run reads =
+    abbrev Begun : List (Now FlatName) → Now FlatName → Type 0
+    Begun G i = restarts (ats c.restart) i ≡ begins (c.here (Instance ∷ [])) (seen (λ p. p) i)
+
+    one_answered : (G : List (Now FlatName)) (i : Now FlatName) → Along Known G → Along (Runs N c) G → Known G i → Runs N c G i → Reads G i → Begun G i → IsAnswered N means e c.callee args c.here G i
+    one_answered G i a b k run reads begun =
         let clock : flow.holds e.clock (numbered means i) ≡ holds (steps c.clock) i = row_there means e 0 (first_row c) i r (told i k) in
         let same : values c.args i ≡ flow.atoms (numbered means i) args = sym (args_same means args c.args i are k.nowhere) in
         record {
@@ -80,12 +83,13 @@ module _ (N : Nodes) (means : ℕ → FlatName) (flat : Flat FlatName) where
           there = λ t p. run.there (sym clock ∙ t) p
               ∙ ap (λ vs. N.instant c.callee vs (record { past = view (inside_call c) (own_instants c G i); free = λ q. i (Free (inside_call c q)) }) (seen (inside_call c) i) p) same;
           own_is = λ t. reads (sym clock ∙ t);
+          anew = row_restarts means e 0 (first_row c) i r ∙ begun;
           not_there = λ h p. run.not_there (sym clock ∙ h) p;
         }
 
-    all_answered : (L : List (Now FlatName)) → Along Known L → Along (Runs N c) L → Along Reads L → Along (IsAnswered N means e c.callee args c.here) L
-    all_answered [] k run reads = tt
-    all_answered (i ∷ G) k run reads = (one_answered G i k.1 run.1 k.0 run.0 reads.0, all_answered G k.1 run.1 reads.1)
+    all_answered : (L : List (Now FlatName)) → Along Known L → Along (Runs N c) L → Along Reads L → Along Begun L → Along (IsAnswered N means e c.callee args c.here) L
+    all_answered [] k run reads begun = tt
+    all_answered (i ∷ G) k run reads begun = (one_answered G i k.1 run.1 k.0 run.0 reads.0 begun.0, all_answered G k.1 run.1 reads.1 begun.1)
 
   module _ (L : List (Now FlatName)) (told_along : Along Known L) (known : List ℕ → Bool) where
     one_call : (e : FlatEqn) (f : List ℕ) (p : Place) (ps : List Place) (c : Called) (xs : List ℕ) → IsLabelOf N.outputs (calling f p ps) (Some c) → IsCallOf flat means xs e c → IsTrue (known c.callee) × IsPlaced c L × Along (Runs N c) L → IfTargets xs (IsCall N means L known e f p ps)
@@ -96,8 +100,9 @@ module _ (N : Nodes) (means : ℕ → FlatName) (flat : Flat FlatName) where
         let at_top : c.here [] ≡ placed.place = placed.front [] ∙ append-nil placed.place in
         let front : (q : Place) → c.here q ≡ c.here [] ++ q = λ q. placed.front q ∙ ap (λ p. p ++ q) (sym at_top) in
         let reads = subst (λ p. Along (λ G i. IsTrue (holds (steps c.clock) i) → own_past p (view (λ p. p) G) (seen (λ p. p) i) ≡ view (inside_call c) (own_instants c G i)) L) (sym (placed.front (Instance ∷ []))) placed.own in
+        let begun = subst (λ p. Along (λ (G : List (Now FlatName)) i. restarts (ats c.restart) i ≡ begins p (seen (λ p. p) i)) L) (sym (placed.front (Instance ∷ []))) placed.anew in
         let whole : IsCall N means L known e c.callee (c.here []) (output_places (N.outputs c.callee) c.here) =
-        record { here = c.here; known_callee = run.0; front = front; places = refl; args = right.0; right = right.1; answered = all_answered e c x is.0 is.1 right.0 right.2 L told_along run.2 reads } in
+        record { here = c.here; known_callee = run.0; front = front; places = refl; args = right.0; right = right.1; answered = all_answered e c x is.0 is.1 right.0 right.2 L told_along run.2 reads begun } in
         subst (λ g. IsCall N means L known e g p ps) (sym label.0)
         (subst (λ q. IsCall N means L known e c.callee q ps) (sym label.1) (subst (λ qs. IsCall N means L known e c.callee (c.here []) qs) (sym label.2) whole))
 

@@ -1,6 +1,6 @@
 -- Parts of a tree along the way to them: what is given to each is the own past of its place.
 use Rattle.std.proofs.Common.{◌≡◌, ℕ, List, [], ◌∷◌, ◌++◌, map, refl, sym, ap, ap₂, subst, ◌∙◌}
-use Rattle.std.specs.Prelude.{Bool, true, false, if◌then◌else◌, IsTrue, IsFalse, ◌&&◌}
+use Rattle.std.specs.Prelude.{Bool, true, false, if◌then◌else◌, IsTrue, IsFalse, ◌||◌}
 use Rattle.std.proofs.lemmas.List.{append-nil, append_assoc}
 use Rattle.hp_base.specs.declared.span.Span.{Span}
 use Rattle.hp_base.specs.declared.value.Value.{Value}
@@ -14,13 +14,13 @@ use Rattle.hp_tree.specs.Instant.{Fresh, Equations, Head, Test, Arms as ArmsOf, 
 use Rattle.hp_tree.specs.Meaning.{Nodes}
 use Rattle.hp_meaning.specs.Contract.ChosenRuns.{cut_by, own_past}
 use Rattle.hp_meaning.proofs.ContractLemmas.Instances.{cut_by_fresh, own_past_append}
-use Rattle.law_equations.specs.Flattened.Flat.{Now, Behaviours, holds, recent}
+use Rattle.law_equations.specs.Flattened.Flat.{Now, Behaviours, holds, restarts, recent}
 use Rattle.law_equations.specs.Flattened.Flatten.{FlatName, At, When, always, on, steps, ats, Prefix, below, Scope, inside_at, within_at, restarts_at, lasts_at, under, is_false}
 use Rattle.law_equations.specs.Flattened.Timely.{Along}
 use Rattle.law_equations.specs.Flattened.Lifted.{in_body}
 use Rattle.law_equations.specs.Flattened.Behaves.{Behaves}
 use Rattle.law_equations.specs.Made.Arguments.{called_at}
-use Rattle.law_equations.specs.Made.Instances.{IsPlaced}
+use Rattle.law_equations.specs.Made.Instances.{IsPlaced, begins}
 use Rattle.law_equations.proofs.FlattenedLemmas.PastLaws.{seen, view, parts_view, along, Goes, own_recent, Begins, begun_recent}
 use Rattle.law_equations.proofs.FlattenedLemmas.ExpressionLaws.{if_true, if_false, decide, Part, Live, deeper, Remembers, expr_part, exprs_part, parts_part}
 use Rattle.law_equations.proofs.FlattenedLemmas.BlockLaws.{scope_part, eqns_part, eqn_part, arms_part, lives_equations, live_arms, live_arm, live_body, goes_arm, begins_body, goes_body}
@@ -43,12 +43,37 @@ whole p = p
 abbrev pub Reads : Place → Prefix → When → List Place → List (Now FlatName) → Now FlatName → Type 0
 Reads place here ck rs G i = IsTrue (holds (steps ck) i) → own_past place (view whole G) (seen whole i) ≡ view here (recent (steps ck) (ats rs) G i)
 
+-- ---- whether something on the way begins anew
+
+or_none : (a b : Bool) → b ≡ false → (a || b) ≡ a
+or_none true b h = refl
+or_none false b h = h
+
+or_turned : (a b : Bool) → (a || b) ≡ (b || a)
+or_turned true true = refl
+or_turned true false = refl
+or_turned false true = refl
+or_turned false false = refl
+
+or_moved : (a b c : Bool) → ((a || b) || c) ≡ (a || (b || c))
+or_moved true b c = refl
+or_moved false b c = refl
+
+begins_more : (p : Place) (s : Step) (now : Instant) → begins (p ++ s ∷ []) now ≡ (begins p now || is_true (now (p ++ (s ∷ Fresh ∷ []))))
+begins_more [] s now = or_turned (is_true (now (s ∷ Fresh ∷ []))) false
+begins_more (t ∷ p) s now = ap (λ b. is_true (now (t ∷ Fresh ∷ [])) || b) (begins_more p s (part t now)) ∙ sym (or_moved (is_true (now (t ∷ Fresh ∷ []))) (begins p (part t now)) (is_true (now (t ∷ (p ++ (s ∷ Fresh ∷ []))))))
+
+-- it does at a place exactly where a restart list is true
+abbrev pub Begun : Place → List Place → List (Now FlatName) → Now FlatName → Type 0
+Begun place rs G i = restarts (ats rs) i ≡ begins place (seen whole i)
+
 module _ (L : List (Now FlatName)) where
   -- the way to a part
   pub record Way (here : Prefix) (ck : When) (rs : List Place) : Type 0 where
     pub place : Place
     pub front : (p : Place) → here p ≡ place ++ p
     pub reads : Along (Reads place here ck rs) L
+    pub begun : Along (Begun place rs) L
 
   pub record LivesAt (says : Part) (here : Prefix) (ck : When) (rs : List Place) : Type 0 where
     pub lives : Along (Live says here ck rs) L
@@ -65,6 +90,22 @@ module _ (L : List (Now FlatName)) where
       ∙ ap₂ (λ v q. cut_by v (parts s q)) (ap (λ p. i (At p)) (sym (front (s ∷ Fresh ∷ [])))) (r t)
       ∙ ap (λ q. cut_by (i (At (here (s ∷ Fresh ∷ [])))) q) (parts_view s here (recent (steps ck) (ats rs) G i))
 
+  -- one step more, with what its word is
+  begun_step : (s : Step) (here : Prefix) (place : Place) → ((p : Place) → here p ≡ place ++ p) → (rs : List Place) (G : List (Now FlatName)) (i : Now FlatName) → Begun place rs G i → (b : Bool) → is_true (i (At (here (s ∷ Fresh ∷ [])))) ≡ b → (restarts (ats rs) i || b) ≡ begins (place ++ s ∷ []) (seen whole i)
+  begun_step s here place front rs G i h b word =
+      ap₂ (λ x y. x || y) h (sym word ∙ ap (λ p. is_true (i (At p))) (front (s ∷ Fresh ∷ []))) ∙ sym (begins_more place s (seen whole i))
+
+  -- where it is none
+  still_begun : (s : Step) (says : Part) (here : Prefix) (ck : When) (rs : List Place) (way : Way here ck rs) → (X : List (Now FlatName) → Now FlatName → Type 0) → ((G : List (Now FlatName)) (i : Now FlatName) → X G i → is_true (i (At (here (s ∷ Fresh ∷ [])))) ≡ false) → Along X L → Along (Begun (way.place ++ s ∷ []) rs) L
+  still_begun s says here ck rs way X none l =
+      along (λ G i. Begun way.place rs G i × X G i) (Begun (way.place ++ s ∷ []) rs)
+      (λ G i a m. sym (or_none (restarts (ats rs) i) false refl) ∙ begun_step s here way.place way.front rs G i m.0 false (none G i m.1))
+      L (zipped (Begun way.place rs) X L way.begun l)
+
+  -- a part that is not there holds nothing
+  absent_there : (s : Step) (says : Part) (here : Prefix) (ck : When) (rs : List Place) (G : List (Now FlatName)) (i : Now FlatName) → Live says here ck rs G i → IsFalse (holds (steps ck) i) → is_true (i (At (here (s ∷ Fresh ∷ [])))) ≡ false
+  absent_there s says here ck rs G i m f = ap is_true (m.1 f (s ∷ Fresh ∷ []))
+
   -- into a part without a word
   quiet_way : (s : Step) (says : Part) (here : Prefix) (ck : When) (rs : List Place) → Quiet says → Along (Live says (below s here) ck rs) L → Way here ck rs → Way (below s here) ck rs
   quiet_way s says here ck rs quiet lives way =
@@ -76,6 +117,8 @@ module _ (L : List (Now FlatName)) where
             let word : i (At (here (s ∷ Fresh ∷ []))) ≡ Absent = m.1.0 t (Fresh ∷ []) ∙ quiet i _ _ in
             read_step s here way.place way.front ck rs G i m.0 t ∙ ap (λ v. cut_by v (view (below s here) (recent (steps ck) (ats rs) G i))) word)
             L (zipped (Reads way.place here ck rs) (Live says (below s here) ck rs) L way.reads lives);
+        begun = still_begun s says here ck rs way (Live says (below s here) ck rs)
+            (λ G i m. decide (holds (steps ck) i) (λ t. ap is_true (m.0 t (Fresh ∷ []) ∙ quiet i _ _)) (λ f. ap is_true (m.1 f (Fresh ∷ [])))) lives;
       }
 
   pub onward : (s : Step) (says sub : Part) (here : Prefix) (ck : When) (rs : List Place) → Quiet sub → ((i : Now FlatName) (g : Given) (now : Instant) (p : Place) → says i g now (s ∷ p) ≡ sub i (at s g) (part s now) p) → LivesAt says here ck rs → LivesAt sub (below s here) ck rs
@@ -95,12 +138,23 @@ module _ (L : List (Now FlatName)) where
       ∙ own_recent (below s here) (steps ck) (steps w) (ats rs) G i (along Both (λ G i. Goes (steps ck) (steps w) (below s here) i) (λ G i b n. n.1) G a))
       L (zipped (Reads way.place here ck rs) (λ G i. Goes (steps ck) (steps w) (below s here) i) L way.reads goes)
 
-  goes_way : (s : Step) (here : Prefix) (ck w : When) (rs : List Place) → Along (λ G i. Goes (steps ck) (steps w) (below s here) i) L → Way here ck rs → Way (below s here) w rs
-  goes_way s here ck w rs goes way = record { place = way.place ++ s ∷ []; front = front_more s here way.place way.front; reads = goes_read s here ck w rs goes way }
+  goes_begun : (s : Step) (says : Part) (here : Prefix) (ck w : When) (rs : List Place) → Along (Live says here ck rs) L → Along (λ G i. Goes (steps ck) (steps w) (below s here) i) L → (way : Way here ck rs) → Along (Begun (way.place ++ s ∷ []) rs) L
+  goes_begun s says here ck w rs lives goes way =
+      still_begun s says here ck rs way (λ G i. Live says here ck rs G i × Goes (steps ck) (steps w) (below s here) i)
+      (λ G i m. decide (holds (steps ck) i) (λ t. ap is_true (m.1.1 t) ∙ no_start (holds (steps w) i)) (λ f. absent_there s says here ck rs G i m.0 f))
+      (zipped (Live says here ck rs) (λ G i. Goes (steps ck) (steps w) (below s here) i) L lives goes)
+    where
+      no_start : (b : Bool) → is_true (if b then B false else Absent) ≡ false
+      no_start true = refl
+      no_start false = refl
+
+  goes_way : (s : Step) (says : Part) (here : Prefix) (ck w : When) (rs : List Place) → Along (Live says here ck rs) L → Along (λ G i. Goes (steps ck) (steps w) (below s here) i) L → Way here ck rs → Way (below s here) w rs
+  goes_way s says here ck w rs lives goes way =
+      record { place = way.place ++ s ∷ []; front = front_more s here way.place way.front; reads = goes_read s here ck w rs goes way; begun = goes_begun s says here ck w rs lives goes way }
 
   -- into a body that a condition begins anew
-  begins_way : (s : Step) (here : Prefix) (test : Place) (ck : When) (rs : List Place) → Along (λ G i. Begins (steps ck) (At test) (below s here) i) L → Way here ck rs → Way (below s here) ck (test ∷ rs)
-  begins_way s here test ck rs begins way =
+  begins_way : (s : Step) (says : Part) (here : Prefix) (test : Place) (ck : When) (rs : List Place) → Along (Live says here ck rs) L → Along (λ G i. Begins (steps ck) (At test) (below s here) i) L → Way here ck rs → Way (below s here) ck (test ∷ rs)
+  begins_way s says here test ck rs lives start way =
       record {
         place = way.place ++ s ∷ [];
         front = front_more s here way.place way.front;
@@ -110,11 +164,21 @@ module _ (L : List (Now FlatName)) where
             read_step s here way.place way.front ck rs G i m.0 t ∙ ap (λ v. cut_by v R) (m.1.0 t) ∙ cut_by_fresh (is_true (i (At test))) R
             ∙ begun_recent (below s here) (steps ck) (At test) (ats rs) G i
             (along (λ G i. Reads way.place here ck rs G i × Begins (steps ck) (At test) (below s here) i) (λ G i. Begins (steps ck) (At test) (below s here) i) (λ G i b n. n.1) G a))
-            L (zipped (Reads way.place here ck rs) (λ G i. Begins (steps ck) (At test) (below s here) i) L way.reads begins);
+            L (zipped (Reads way.place here ck rs) (λ G i. Begins (steps ck) (At test) (below s here) i) L way.reads start);
+        begun = along (λ G i. Begun way.place rs G i × (Live says here ck rs G i × Begins (steps ck) (At test) (below s here) i)) (Begun (way.place ++ s ∷ []) (test ∷ rs))
+            (λ G i a m.
+            or_turned (is_true (i (At test))) (restarts (ats rs) i)
+            ∙ begun_step s here way.place way.front rs G i m.0 (is_true (i (At test)))
+            (decide (holds (steps ck) i) (λ t. ap is_true (m.1.1.0 t) ∙ same_start (is_true (i (At test)))) (λ f. absent_there s says here ck rs G i m.1.0 f ∙ sym (m.1.1.1 f))))
+            L (zipped (Begun way.place rs) (λ G i. Live says here ck rs G i × Begins (steps ck) (At test) (below s here) i) L way.begun (zipped (Live says here ck rs) (λ G i. Begins (steps ck) (At test) (below s here) i) L lives start));
       }
+    where
+      same_start : (b : Bool) → is_true (B b) ≡ b
+      same_start true = refl
+      same_start false = refl
 
   -- the body of a node
-  pub body-way : Along (λ G i. Goes [] [] in_body i) L → Way in_body always []
+  pub body-way : Along (λ (G : List (Now FlatName)) i. Goes [] [] in_body i) L → Way in_body always []
   body-way goes =
       record {
         place = Body ∷ [];
@@ -123,6 +187,7 @@ module _ (L : List (Now FlatName)) where
             (λ G i a m t.
             ap (λ v. cut_by v (parts Body (view whole G))) (m.1 refl) ∙ ap own (parts_view Body whole G) ∙ ap (λ q. own (view in_body q)) (sym (all_since G)) ∙ own_recent in_body [] [] [] G i a)
             L goes;
+        begun = along (λ G i. Goes [] [] in_body i) (Begun (Body ∷ []) []) (λ G i a m. sym (ap (λ v. is_true v || false) (m.1 refl))) L goes;
       }
 
   module _ (types : List TypeDecl) (N : Nodes) (does : Behaviours) (fill : Place → Value) where
@@ -187,7 +252,7 @@ module _ (L : List (Now FlatName)) where
         let says = arms_part types N does fill (more_arms c b s arms) test sc lsc in
         record {
           lives = along (Live says here ck rs) (Live (scope_part types N does fill b (λ i. false) sc lsc) (below Head here) w rs) (λ G i a m. live_arm types N does fill c b s arms test sc lsc here ck rs G i a m) L l.lives;
-          way = goes_way Head here ck w rs (along (Live says here ck rs) (λ G i. Goes (steps ck) (steps w) (below Head here) i) (λ G i a m. goes_arm types N does fill c b s arms test sc lsc here ck rs G i m) L l.lives) l.way;
+          way = goes_way Head says here ck w rs l.lives (along (Live says here ck rs) (λ G i. Goes (steps ck) (steps w) (below Head here) i) (λ G i a m. goes_arm types N does fill c b s arms test sc lsc here ck rs G i m) L l.lives) l.way;
         }
 
     -- a body that may begin anew
@@ -201,9 +266,9 @@ module _ (L : List (Now FlatName)) where
           way =
               decide (is_false e)
               (λ d. subst (Way (below Body here) ck) (sym (if_true (is_false e) rs (here (Test ∷ []) ∷ rs) d))
-              (goes_way Body here ck ck rs (along (Live says here ck rs) (λ G i. Goes (steps ck) (steps ck) (below Body here) i) (λ G i a m. goes_body types N does fill ds s b e sc lsc here ck rs G i d m) L l.lives) l.way))
+              (goes_way Body says here ck ck rs l.lives (along (Live says here ck rs) (λ G i. Goes (steps ck) (steps ck) (below Body here) i) (λ G i a m. goes_body types N does fill ds s b e sc lsc here ck rs G i d m) L l.lives) l.way))
               (λ d. subst (Way (below Body here) ck) (sym (if_false (is_false e) rs (here (Test ∷ []) ∷ rs) d))
-              (begins_way Body here (here (Test ∷ [])) ck rs (along (Live says here ck rs) (λ G i. Begins (steps ck) (At (here (Test ∷ []))) (below Body here) i) (λ G i a m. begins_body types N does fill ds s b e sc lsc here ck rs G i m) L l.lives) l.way));
+              (begins_way Body says here (here (Test ∷ [])) ck rs l.lives (along (Live says here ck rs) (λ G i. Begins (steps ck) (At (here (Test ∷ []))) (below Body here) i) (λ G i a m. begins_body types N does fill ds s b e sc lsc here ck rs G i m) L l.lives) l.way));
         }
 
     -- the instance of a call
@@ -213,4 +278,4 @@ module _ (L : List (Now FlatName)) where
         let says = expr_part types N does fill (call s f inlined es) clock sc lsc in
         let w = under types sc clock ck in
         let goes = along (Live says here ck rs) (λ G i. Goes (steps ck) (steps w) (below Instance here) i) (λ G i a m. goes_call types N does fill ok mine s f bf inlined es clock sc lsc here ck rs G i m) L l.lives in
-        record { place = l.way.place; front = l.way.front; own = goes_read Instance here ck w rs goes l.way }
+        record { place = l.way.place; front = l.way.front; own = goes_read Instance here ck w rs goes l.way; anew = goes_begun Instance says here ck w rs l.lives goes l.way }

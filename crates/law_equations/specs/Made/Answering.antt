@@ -18,14 +18,14 @@ use Rattle.law_equations.specs.Flattened.Timely.{Along}
 use Rattle.law_equations.specs.Flattened.Lifted.{Reacts, IsFill, in_body, lifts}
 use Rattle.law_equations.specs.Flattened.Behaves.{IsFine, EachCallIn}
 use Rattle.law_equations.specs.Flattened.Numbered.{AreEquationsFor, IsTolds, numbered}
-use Rattle.law_equations.specs.Made.Instances.{seen, view}
+use Rattle.law_equations.specs.Made.Instances.{begins, seen, view}
 use Rattle.law_equations.specs.Made.Labels.{Label, comparison, calling, events, output_places, AreMadeAt, block_labels}
 
 -- The instance of a call holds what the node does for the values of the arguments, whatever it is read with.
 abbrev pub DoesCall : Nodes → (ℕ → FlatName) → List ℕ → List Atom → Prefix → Now FlatName → Type 0
 DoesCall N means f args here i = (g : Given) × ((p : Place) → i (At (here (Instance ∷ p))) ≡ N.instant f (flow.atoms (numbered means i) args) g (seen (below Instance here) i) p)
 
--- The instance of a call at a place, at a flat instant after others: where the clock of the call's equation is there, it holds what the node does for the values of the arguments, after those instants at which the clock was there since the equation last began anew, which are the own past of the place; and else nothing is there.
+-- The instance of a call at a place, at a flat instant after others: where the clock of the call's equation is there, it holds what the node does for the values of the arguments, after those instants at which the clock was there since the equation last began anew, which are the own past of the place; and else nothing is there. It begins anew where a part on the way to it does.
 pub record IsAnswered (N : Nodes) (means : ℕ → FlatName) (e : FlatEqn) (f : List ℕ) (args : List Atom) (here : Prefix) (G : List (Now FlatName)) (i : Now FlatName) : Type 0 where
   pub own : List (Now FlatName)
   pub since : (row : flow.Instant → List Value) → flow.since e.clock e.restart row (map (numbered means) G) (numbered means i) ≡ map (λ j. row (numbered means j)) own
@@ -33,6 +33,7 @@ pub record IsAnswered (N : Nodes) (means : ℕ → FlatName) (e : FlatEqn) (f : 
   pub there : IsTrue (flow.holds e.clock (numbered means i)) → (p : Place)
       → i (At (here (Instance ∷ p))) ≡ N.instant f (flow.atoms (numbered means i) args) (record { past = view (below Instance here) own; free = λ q. i (Free (here (Instance ∷ q))) }) (seen (below Instance here) i) p
   pub own_is : IsTrue (flow.holds e.clock (numbered means i)) → own_past (here (Instance ∷ [])) (view (λ p. p) G) (seen (λ p. p) i) ≡ view (below Instance here) own
+  pub anew : flow.restarted e.restart (numbered means i) ≡ begins (here (Instance ∷ [])) (seen (λ p. p) i)
   pub not_there : IsFalse (flow.holds e.clock (numbered means i)) → (p : Place) → i (At (here (Instance ∷ p))) ≡ Absent
 
 -- The equation of a call of a node at a place, whose outputs have these places, has these instances in flat instants.
