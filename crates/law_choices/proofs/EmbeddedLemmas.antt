@@ -13,6 +13,7 @@ pub mod Moved
 pub mod Sites
 pub mod OwnSite
 pub mod CalledSites
+pub mod CalledRows
 pub mod CallRows
 pub mod Told
 pub mod Instants

@@ -157,7 +157,7 @@ module _ (laws : NodeLaws) (types : List ObcType) (all : Callees) (observers : O
     below-plant : k < length c.plant.eqns
     below-plant = number_below c.plant.eqns k e at
 
-    next-is : before (suc k) ≡ with_observer (Some o) (site_of e) (before k)
+    pub next-is : before (suc k) ≡ with_observer (Some o) (site_of e) (before k)
     next-is = ap (λ u. with_called observers u (before k)) (same-at k k e at) ∙ ap (λ u. with_observer u (site_of e) (before k)) is
 
     -- where its observer stands

@@ -1,7 +1,7 @@
 -- Throughout a reaction of a node, what the equations of its observer hold for the comparisons of the contract.
 use Rattle.std.proofs.Common.{◌≡◌, ℕ, ◌≤◌, false, List, [], ◌∷◌, map, reverse, Some, refl, sym, ap, ap₂, subst, ◌∙◌}
 use Rattle.std.specs.List.{AllByRecursion}
-use Rattle.std.specs.Prelude.{⊤, filter}
+use Rattle.std.specs.Prelude.{⊤, None, Option, filter}
 use Rattle.std.proofs.lemmas.List.{append-nil}
 use Rattle.hp_base.specs.Kinds.{AreOfKinds}
 use Rattle.hp_base.specs.declared.ty.Ty.{Ty}
@@ -11,7 +11,8 @@ use Rattle.hp_flat.specs.declared.equation.Atom.{Atom}
 use Rattle.hp_flat.specs.Equations.{Clock, FlatEqn, Right, called, operator, register}
 use Rattle.hp_flat.specs.Nodes.{FlatNode}
 use Rattle.hp_tree.specs.declared.program.Item.{Item}
-use Rattle.hp_tree.specs.Blocks.{Decl}
+use Rattle.hp_tree.specs.Blocks.{Block, Decl, Eqns, block, more_eqns, no_eqn}
+use Rattle.hp_tree.specs.Expressions.{Expr}
 use Rattle.hp_tree.specs.ExpressionTypes.{Scope}
 use Rattle.hp_tree.specs.Instant.{Given, Instant, Past, Place}
 use Rattle.hp_tree.specs.Instant as tree
@@ -37,16 +38,16 @@ use Rattle.hp_watch.specs.Walk.{events_from, walk_block, walk_contract}
 use Rattle.hp_watch.specs.Watching.{observed}
 use Rattle.hp_watch.specs.declared.watching.Free.{Free}
 use Rattle.law_choices.specs.Choosing.Choices.{with_chosen}
-use Rattle.law_choices.specs.Embedded.Found.{ContractFoundLaw, ContractWalkLaw}
+use Rattle.law_choices.specs.Embedded.Found.{ContractFoundLaw, ContractWalkLaw, IsSeenBeside}
 use Rattle.law_choices.specs.Streams.Uncontrolled.{no_choice}
-use Rattle.law_choices.specs.Embedded.Observed.{IsObserved, observed_rows}
+use Rattle.law_choices.specs.Embedded.Observed.{IsObserved, SameEqns, SameTold, behind_eqns, eqns_in, observed_rows}
 use Rattle.law_choices.specs.Embedded.Reacting.{ObserverReacts}
 use Rattle.law_choices.specs.Flat.Names.{values_at}
 use Rattle.law_choices.specs.Flat.Places.{IsOn, values_in}
 use Rattle.law_choices.specs.Places.Found.{Both, found_in_node}
 use Rattle.law_choices.specs.Places.Groups.{groups_of_contract, in_a_row}
-use Rattle.law_choices.specs.Places.Laws.{KnowsOutputs}
-use Rattle.law_choices.specs.Places.Spots.{Spot}
+use Rattle.law_choices.specs.Places.Laws.{IsEventOf, IsNumberOf, KnowsOutputs}
+use Rattle.law_choices.specs.Places.Spots.{Spot, called as call_at, compared}
 use Rattle.law_choices.specs.Places.Standing.{StandsAtNumber}
 use Rattle.law_choices.specs.Runs.Chosen.{ChosenReaction, chosen_meaning}
 use Rattle.law_choices.specs.Seeing.Found.{FoundAlike}
@@ -54,9 +55,11 @@ use Rattle.law_choices.specs.Streams.Places.{KeepsPlacesOf, outputs_low}
 use Rattle.law_choices.proofs.BroughtLemmas.Apiece.{types_apiece}
 use Rattle.law_choices.proofs.BroughtLemmas.Brought.{Brings}
 use Rattle.law_choices.proofs.EmbeddedLemmas.Told.{IsContractRow, IsNoCall, all-rows}
-use Rattle.law_choices.proofs.PlacesLemmas.Numbers.{AtNumber}
+use Rattle.law_choices.proofs.AddingLemmas.Surveyed.{at_number}
+use Rattle.law_choices.proofs.PlacesLemmas.Numbers.{AtNumber, found-law}
 use Rattle.law_choices.proofs.PlacesLemmas.Standing.{events-alike, standing-law}
-use Rattle.law_choices.proofs.SeeingLemmas.Rowed.{NumberHas, walked-have}
+use Rattle.law_choices.proofs.SeeingLemmas.HeldInBody.{IsTold}
+use Rattle.law_choices.proofs.SeeingLemmas.Rowed.{NumberHas, TargetsAre, walked-have}
 use Rattle.law_choices.proofs.SeeingLemmas.FoundTold.{found-same, targets-told}
 
 -- ---- equations that call nothing
@@ -93,6 +96,33 @@ module _ (answers others : Answers) where
 pub nothing-chosen : (f : List ℕ) (rows : List (List Value)) → with_chosen (no_choice f) rows ≡ rows
 nothing-chosen f [] = refl
 nothing-chosen f (row ∷ rows) = ap₂ (λ x xs. x ∷ xs) (append-nil row) (nothing-chosen f rows)
+
+-- ---- an instant at which nothing is there
+
+-- an instant of equations that holds nothing
+abbrev pub no_values : flows.Instant
+no_values x = Absent
+
+same-nothing : (es : Eqns) → SameEqns es tree.nothing tree.nothing
+same-nothing no_eqn = tt
+same-nothing (more_eqns e es) = (λ p. refl, same-nothing es)
+
+behind-nothing : (es : Eqns) (p : Place) → behind_eqns es tree.nothing p ≡ Absent
+behind-nothing no_eqn p = refl
+behind-nothing (more_eqns e es) p = behind-nothing es p
+
+told-nothing : (o : Option Expr) (i : Instant) → ((p : Place) → i p ≡ Absent) → SameTold o tree.nothing i
+told-nothing None i h = tt
+told-nothing (Some e) i h = λ p. sym (h (tree.Head ∷ tree.Right ∷ p))
+
+-- A contract's part that holds nothing is beside an observer that holds nothing.
+observed-nothing : (c : Contract) → IsObserved c tree.nothing tree.nothing
+observed-nothing c =
+    record {
+      body = same-nothing (eqns_in c.body);
+      assume = told-nothing c.assume (behind_eqns (eqns_in c.body) tree.nothing) (behind-nothing (eqns_in c.body));
+      enforce = told-nothing c.enforce (λ p. behind_eqns (eqns_in c.body) tree.nothing (tree.Tail ∷ p)) (λ p. behind-nothing (eqns_in c.body) (tree.Tail ∷ p));
+    }
 
 -- ---- throughout a reaction
 
@@ -176,3 +206,30 @@ module _ (after : List Item) (n : Node) (c : Contract) (g : FlatNode) (answers o
       let alone = subst (λ (es : List FlatEqn). AllByRecursion (λ (e : FlatEqn). AllByRecursion (λ x. IsOn x e.clock g.eqns) e.targets) es) (events-alike g.eqns) K.alone in
       let single = subst (AllByRecursion (NumberHas (λ (e : FlatEqn). AllByRecursion (λ x. IsOn x e.clock g.eqns) e.targets) g.eqns)) same-order (walked-have (λ (e : FlatEqn). AllByRecursion (λ x. IsOn x e.clock g.eqns) e.targets) observer.body g.eqns alone) in
       all-told K.means stand single past reacts.instants K.low R js (long-reaction (chosen_meaning no_choice real (observers after) n.name) R (map (λ (vs : List Value). tree.nothing) R) reacts.instants reacts.reaction) reacts.same found values r
+
+  -- ---- before any instant
+
+  -- comparisons whose variables and places hold nothing
+  blank : (order : List ℕ) (fs : Both) (gs : List (List FreePlace)) → Along (IsNumberOf g.eqns) order (map (λ (s : Spot × Spot). s.1) fs) → Along (λ (s : Spot × Spot) (places : List FreePlace). IsSeenBeside w tree.nothing tree.nothing s.0 places) fs gs
+      → Along (TargetsAre (IsTold no_values tree.nothing) g.eqns) order fs
+  blank [] [] gs h k = tt
+  blank [] (s ∷ fs) gs h k = absurd h
+  blank (m ∷ order) [] gs h k = absurd h
+  blank (m ∷ order) (s ∷ fs) [] h k = absurd k
+  blank (m ∷ order) ((compared o p, compared u q) ∷ fs) (places ∷ gs) h k =
+      let e = h.0.0 in
+      let targets = (h.0.2).4 in
+      ((e, h.0.1, subst (λ xs. Along (IsTold no_values tree.nothing) xs (p ∷ [])) (sym targets) (λ a b. refl, tt)), blank order fs gs h.1 k.1)
+  blank (m ∷ order) ((compared o p, call_at f qs) ∷ fs) (places ∷ gs) h k =
+      absurd (at_number (λ (u : FlatEqn). IsNoCall u.right) g.eqns m h.0.0 h.0.1 (no-calls g.eqns nothing) f (h.0.2).0 (h.0.2).1)
+  blank (m ∷ order) ((call_at f ps, t) ∷ fs) (places ∷ gs) h k = absurd k.0
+
+  -- The free places of the contract stand in the observer, with their types, also where no instant is.
+  pub places-stand : Along (IsContractRow g w no_values tree.nothing) (in_a_row groups) (observed c g).free
+  places-stand =
+      let K = keeps observer [] there tt in
+      let alone = subst (λ (es : List FlatEqn). AllByRecursion (λ (e : FlatEqn). AllByRecursion (λ x. IsOn x e.clock g.eqns) e.targets) es) (events-alike g.eqns) K.alone in
+      let single = subst (AllByRecursion (NumberHas (λ (e : FlatEqn). AllByRecursion (λ x. IsOn x e.clock g.eqns) e.targets) g.eqns)) same-order (walked-have (λ (e : FlatEqn). AllByRecursion (λ x. IsOn x e.clock g.eqns) e.targets) observer.body g.eqns alone) in
+      let beside = (contract_found (outputs_low (observers after)) types outs callee n c names w tree.nothing tree.nothing silent (observed-nothing c)).0 in
+      let numbers = subst (λ xs. Along (IsNumberOf g.eqns) xs (map (λ (s : Spot × Spot). s.1) fs)) same-order (found-law (outputs_low (observers after)) k (enumerations [] (observers after)) observer g.eqns knows made.eqns).0 in
+      all-rows given k (sketch_node k low_observer) g made.variables (no-calls g.eqns nothing) no_inputs w no_values tree.nothing tree.nothing (λ x l u. refl) order L fs groups brings apiece single (blank order fs groups numbers beside) beside

@@ -44,7 +44,7 @@ use Rattle.law_choices.proofs.SeeingLemmas.Looked.{IsSome}
 
 -- ---- the kind of what is held
 
-free-value : (types : List ObcType) (n : FlatNode) (clock : ℕ → Clock) (now : flows.Instant) → IsTypedAt types n clock now → AllByRecursion (λ (v : Variable). HasValue types v.ty) n.variables → (f : Free) → IsFree types n clock f → IsOfKind (kind_of_type types (type_at n f.variable)) (value_at n now f)
+pub free-value : (types : List ObcType) (n : FlatNode) (clock : ℕ → Clock) (now : flows.Instant) → IsTypedAt types n clock now → AllByRecursion (λ (v : Variable). HasValue types v.ty) n.variables → (f : Free) → IsFree types n clock f → IsOfKind (kind_of_type types (type_at n f.variable)) (value_at n now f)
 free-value types n clock now typed values f h = by (flows.holds (clock_of n f.eqn) now) refl
   where
     by : (b : Bool) → flows.holds (clock_of n f.eqn) now ≡ b → IsOfKind (kind_of_type types (type_at n f.variable)) (if b then now f.variable else some_value (type_at n f.variable))
