@@ -22,4 +22,5 @@ pub mod OwnRows
 pub mod SiteRows
 pub mod Observers
 pub mod OwnThroughout
+pub mod CalledThroughout
 pub mod Outputs

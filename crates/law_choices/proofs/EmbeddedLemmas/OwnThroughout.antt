@@ -100,19 +100,19 @@ module _ (laws : ContractLaws) (nodes : NodeLaws) (program after : List Item) (r
   abbrev all : Callees
   all = said_of after ms
 
-  abbrev seen_program : List Item
+  abbrev pub seen_program : List Item
   seen_program = watch.observers after
 
-  keep : (one : HasOneMeaningUnder no_choice (callees_of seen_program) those.nodes) × AllKeepPlaces no_choice seen_program one.answers those.nodes
+  pub keep : (one : HasOneMeaningUnder no_choice (callees_of seen_program) those.nodes) × AllKeepPlaces no_choice seen_program one.answers those.nodes
   keep = laws.keep program after ranks order h.removable h.form h.short silent observable those.nodes those.equations
 
   apart_low : AreApart (reverse (lowered_program after))
   apart_low = let ready = h.ready in lowered_apart program after ready.named (clocked_of (replaced program) after ready.clocks)
 
-  apart_seen : AreApart (reverse seen_program)
+  pub apart_seen : AreApart (reverse seen_program)
   apart_seen = with_automata (enumerations [] seen_program) seen_program [] [] (λ f. refl) tt (observers_apart after apart_low)
 
-  abbrev k_seen : Known
+  abbrev pub k_seen : Known
   k_seen = known_of (lowered_program seen_program)
 
   abbrev Keeps : FlatNode → Type 0
@@ -121,10 +121,10 @@ module _ (laws : ContractLaws) (nodes : NodeLaws) (program after : List Item) (r
   abbrev IsIts : Node → FlatNode → Type 0
   IsIts m o = (d : Contract) → m.contract ≡ Some d → observers m.name ≡ Some (observed d o)
 
-  abbrev Its : Node → Contract → Type 0
+  abbrev pub Its : Node → Contract → Type 0
   Its m d = HasObserver k_seen (enumerations [] seen_program) Keeps IsIts m d
 
-  all-its : EachNode (λ (m : Node). (d : Contract) → m.contract ≡ Some d → Its m d) after
+  pub all-its : EachNode (λ (m : Node). (d : Contract) → m.contract ≡ Some d → Its m d) after
   all-its = each-has k_seen (enumerations [] seen_program) Keeps IsIts after those.nodes those.equations keep.1 those.are
 
   module _ (earlier : List Item) (n : Node) (stands : Stands after earlier n) (own : node_among (reverse after) n.name ≡ Some n) (k : Contract) (has : n.contract ≡ Some k) (c : Contracted) (g : Ground types all observers n c) where
