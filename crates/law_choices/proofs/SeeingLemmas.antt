@@ -14,6 +14,7 @@ pub mod Callees
 pub mod HeldRows
 pub mod HeldInBody
 pub mod HeldAll
+pub mod HeldCalls
 pub mod FoundTold
 pub mod Bigger
 pub mod OwnContract

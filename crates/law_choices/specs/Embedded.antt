@@ -4,3 +4,4 @@ pub mod Meaning
 pub mod Found
 pub mod Sites
 pub mod Observers
+pub mod Calls

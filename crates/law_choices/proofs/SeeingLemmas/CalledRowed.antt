@@ -7,7 +7,7 @@ use Rattle.hp_base.specs.declared.ty.Ty.TheVariants as ty
 use Rattle.hp_obc.specs.Machines.{ObcType}
 use Rattle.hp_tree.specs.Blocks.{Decl}
 use Rattle.hp_tree.specs.Programs.{Node, TypeDecl}
-use Rattle.hp_tree.specs.Instant.{Named, Place}
+use Rattle.hp_tree.specs.Instant.{Place}
 use Rattle.hp_flat.specs.declared.node.FlatTy.TheVariants as flat
 use Rattle.hp_flat.specs.Equations.{FlatEqn, Right}
 use Rattle.hp_flat.specs.Nodes.{FlatNode}
@@ -20,6 +20,7 @@ use Rattle.law_wellmade.proofs.RegularLemmas.Expressions.{Outputs}
 use Rattle.hp_watch.specs.Watching.{Observing, Surveyed, called_by, free_by, free_moved, free_placed_by, free_target, is_integer, shift_at}
 use Rattle.hp_watch.specs.declared.watching.Free.{Free}
 use Rattle.law_choices.specs.Closed.Clocking.{IsCopy}
+use Rattle.law_choices.specs.Embedded.Calls.{outputs_at}
 use Rattle.law_choices.specs.InTurn.Nodes.{Contracted}
 use Rattle.law_choices.specs.Places.Found.{Both}
 use Rattle.law_choices.specs.Places.Groups.{AreAlike, IsGroupOf, IsInFront, free_outputs, in_a_row}
@@ -33,10 +34,6 @@ use Rattle.law_choices.proofs.PlacesLemmas.Relating.{along-both}
 use Rattle.law_choices.proofs.PlayingLemmas.Asking.{survey}
 use Rattle.law_choices.proofs.SeeingLemmas.Listed.{SameKind, own_places}
 use Rattle.law_choices.proofs.SeeingLemmas.Rowed.{IsAlone, IsTarget, NumberHas, Row, TargetsAre, its_free, no_copy, of-integers, outputs-rows, placed_eqn, row, same_eqn, targets-are, typed}
-
--- the places of the outputs of a call
-abbrev pub outputs_at : List Decl → Prefix → List Place
-outputs_at ds v = map (λ (o : List ℕ). v (Named o ∷ [])) (map (λ (d : Decl). d.name) ds)
 
 module _ (laws : NodeLaws) (types : List ObcType) (all : Callees) (observers : Observing) (n : Node) (c : Contracted) (g : Ground types all observers n c) (k : Known) (low : Node) (made : c.plant.variables ≡ (sketch_node k low).variables) where
   -- the free places of the observer that stands where an equation calls
