@@ -55,8 +55,8 @@ use Rattle.law_choices.specs.Places.Groups.{groups_of_contract, in_a_row}
 use Rattle.law_choices.specs.Runs.Chosen.{ChosenReaction}
 use Rattle.law_choices.specs.Seeing.InBody.{no_slots}
 use Rattle.law_choices.specs.Streams.Uncontrolled.{no_choice}
-use Rattle.law_choices.proofs.BroughtLemmas.Apiece.{types_apiece}
-use Rattle.law_choices.proofs.BroughtLemmas.Brought.{Brings}
+use Rattle.law_choices.proofs.BroughtLemmas.Apiece.{row-types, types_apiece, types_of_places}
+use Rattle.law_choices.proofs.BroughtLemmas.Brought.{Brings, free_types, joined_types}
 use Rattle.law_choices.proofs.BroughtLemmas.Programs.{calls_bring, observer-apiece}
 use Rattle.law_choices.proofs.EmbeddedLemmas.CalledRows.{called-free, rows-absent, rows-there}
 use Rattle.law_choices.proofs.EmbeddedLemmas.CalledSites.{before, call-shift, called-runs}
@@ -134,6 +134,13 @@ module _ (laws : ContractLaws) (nodes : NodeLaws) (program after : List Item) (r
             let S = slots_of_contract decls nothing_given no_slots (Some d) names w in
             ap (λ (z : Contract). free_among (slots_of_contract decls nothing_given no_slots (Some z) names w)) (sym same)
             ∙ sym (among-append (lasts_slots decls m.outputs w) S ∙ ap (λ xs. xs ++ free_among S) (lasts-none decls m.outputs w))
+
+    -- They have the same types wherever they stand.
+    pub types-anywhere : (v w : Prefix) → free_types (callee_slots decls (Some m) v) ≡ free_types (callee_slots decls (Some m) w)
+    types-anywhere v w = types-at v ∙ sym (types-at w)
+      where
+        types-at : (u : Prefix) → free_types (callee_slots decls (Some m) u) ≡ joined_types apiece.0
+        types-at u = ap types_of_places (sym (in-row u)) ∙ sym (row-types (groups_of_contract decls nothing_given no_slots k names u)) ∙ ap joined_types (sym (apiece.2 u))
 
     calls-nothing : filter (λ x. is_call x.point.kind) (points_of_contract (Some k) (λ p. p)) ≡ []
     calls-nothing =

@@ -94,9 +94,6 @@ module _ (laws : ContractLaws) (nodes : NodeLaws) (program after : List Item) (r
     -- ---- one call
 
     module _ (number : ℕ) (e : FlatEqn) (at : slice_get c.plant.eqns number ≡ Some e) (f : List ℕ) (args : List Atom) (right : e.right ≡ call_of f args) (free : AllByRecursion IsFreePlace (behind_outputs nodes types all observers n c g k low made number e.right)) (v : Prefix) where
-      behind : List Free
-      behind = behind_outputs nodes types all observers n c g k low made number e.right
-
       nothing-held : (o : Option Node) → node_among (reverse after) f ≡ o → contract_of o ≡ None → free_among (callee_slots decls o v) ≡ [] → Along Held (free_among (callee_slots decls o v)) (behind_outputs nodes types all observers n c g k low made number e.right)
       nothing-held o q none empty =
           let no_observer : called_by observers e.right ≡ None = ap (called_by observers) right ∙ only f (ap contract_of q ∙ none) in

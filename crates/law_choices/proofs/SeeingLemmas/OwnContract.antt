@@ -111,6 +111,10 @@ module _ (program : List Item) (n : Node) where
   contract-only None h = refl
   contract-only (Some c) h = sym (contract-row types outs callee c around here) ∙ ap in_a_row (contract-same types outs callee c around here h) ∙ contract-row types outs no_slots c around here
 
+  -- Where the contract calls nothing, the free places are the inputs, the comparisons of the contract, and what a walk over the body finds, with the contracts that are called.
+  pub all-places : ContractCallsNothing n.contract → free_places program n ≡ inputs ++ (free_in_contract program n ++ in_a_row (groups_of_block types outs callee n.body (types_around n) (below Body here)))
+  all-places quiet = all-free ∙ ap₂ (λ (xs ys : List FreePlace). inputs ++ (xs ++ ys)) (contract-only n.contract quiet) (sym (block-row types outs callee n.body (types_around n) (below Body here)))
+
   pub uncalled : calls_of n ≡ [] → CalleesCompareNothing program n
   uncalled none =
       let C = controls (controls_of n.contract) (λ p. Controls ∷ p) in
