@@ -91,7 +91,7 @@ module _ (laws : ContractLaws) (nodes : NodeLaws) (program after : List Item) (r
         let Has : Node → Type 0 = λ (u : Node). (d : Contract) → u.contract ≡ Some d → Its laws nodes program after ranks observers ms order h silent observable those u d in
         each_found Has (reverse after) m.name m (each_reverse Has after (all-its laws nodes program after ranks observers ms order h silent observable those)) own k has
 
-    abbrev pub o : FlatNode
+    abbrev o : FlatNode
     o = (its).node
 
     abbrev nothing_given : List ℕ → List Decl
