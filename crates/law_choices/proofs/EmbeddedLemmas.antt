@@ -14,6 +14,7 @@ pub mod Sites
 pub mod OwnSite
 pub mod CalledSites
 pub mod CalledRows
+pub mod FirstRows
 pub mod CallRows
 pub mod Told
 pub mod Instants
