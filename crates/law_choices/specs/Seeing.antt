@@ -9,3 +9,5 @@ pub mod Around
 pub mod InBody
 pub mod OwnContract
 pub mod SeenOwn
+pub mod Beside
+pub mod SeenAll
