@@ -19,4 +19,5 @@ pub mod FoundTold
 pub mod Bigger
 pub mod OwnContract
 pub mod SeenOwn
+pub mod SeenAll
 pub mod Outputs
