@@ -73,6 +73,10 @@ use Rattle.law_choices.proofs.PlacesLemmas.Slots.{lasts_slots}
 use Rattle.law_choices.proofs.PlayingLemmas.Asking.{seen, survey}
 use Rattle.law_choices.proofs.SeeingLemmas.HeldRows.{HoldsRow}
 
+along-none : (P : FreePlace → Free → Type 0) (fs : List Free) → Along P [] fs → fs ≡ []
+along-none P [] h = refl
+along-none P (f ∷ fs) h = absurd h
+
 module _ (laws : ContractLaws) (nodes : NodeLaws) (program after : List Item) (ranks : List (List ℕ)) (observers : Observing) (ms : List Made) (order : IsInOrder program after ranks) (h : IsChoosing program after observers ms) (silent : ContractsCallNothing after) (observable : EachNode IsObservable after) (those : AreObserversOf after observers) where
   abbrev types : List ObcType
   types = obc_types (types_of after)
@@ -212,3 +216,15 @@ module _ (laws : ContractLaws) (nodes : NodeLaws) (program after : List Item) (r
           let places = called-free nodes types all observers program after ranks order earlier n stands c g number e at k o is within w in
           let held = rows-absent nodes types all observers program after ranks order earlier n stands c g number e at k o is within w i now now typed absent no_values tree.nothing (in_a_row (groups_of_contract decls nothing_given no_slots k names w)) stand (subst Frees places frees) in
           subst (λ fs. Along (Held i now) (free_among (callee_slots decls (Some m) w)) fs) (sym places) (subst (λ qs. Along (Held i now) qs (map (moved_free (shift_of o (site_of e) (before nodes types all observers n c g number).node)) (observed k o).free)) (in-row w) held)
+
+      -- Where nothing is compared in the contract, the observer has no free places.
+      pub call-empty : (answers : Answers) → free_among (callee_slots decls (Some m) w) ≡ [] → its_places ≡ []
+      call-empty answers empty =
+          let I = its in
+          let name : o.name ≡ m.name = (I.made).name in
+          let K = keep laws nodes program after ranks observers ms order h silent observable those in
+          let stand : Along (IsContractRow o w no_values tree.nothing) (in_a_row (groups_of_contract decls nothing_given no_slots k names w)) (observed k o).free =
+          places-stand after m k o answers (K.0).answers laws.found laws.walk I.known there name (h.alone m.name (observed k o) (I.is k has)) calls-nothing ((suits.based).well).no_inputs I.made (laws.knows program after ranks order h.removable h.form h.short silent observable)
+          (calls_bring program after h.ready h.removable h.form h.short silent observable before_callee m stands_callee k has) apiece.0 apiece.1 decls nothing_given no_slots names w (apiece.2 w) in
+          let none : (observed k o).free ≡ [] = along-none (IsContractRow o w no_values tree.nothing) (observed k o).free (subst (λ qs. Along (IsContractRow o w no_values tree.nothing) qs (observed k o).free) (in-row w ∙ empty) stand) in
+          called-free nodes types all observers program after ranks order earlier n stands c g number e at k o is within w ∙ ap (map (moved_free (shift_of o (site_of e) (before nodes types all observers n c g number).node))) none

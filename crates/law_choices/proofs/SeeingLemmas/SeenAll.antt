@@ -107,7 +107,7 @@ use Rattle.law_drawing.proofs.SteeredLemmas.Uncalled.{ContractCallsNothing}
 use Rattle.law_equations.proofs.FollowedLemmas.Passing.{each_first, each_second}
 use Rattle.law_games.proofs.ReadyGamesLemmas.Ordered.{all_stand as stands_there}
 use Rattle.law_choices.specs.Adding.Watched.{IsFree}
-use Rattle.law_choices.specs.Embedded.Calls.{AreBeside, HaveNoOthers, IsBesideCall, contract_of, outputs_at}
+use Rattle.law_choices.specs.Embedded.Calls.{AreBeside, HaveNoOthers, IsBesideCall, OutputlessCompareNothing}
 use Rattle.law_choices.specs.Embedded.Observers.{AreObserversOf}
 use Rattle.law_choices.specs.Observed.Contracts.{IsObservable}
 use Rattle.law_choices.specs.Seeing.Beside.{AreBesideThroughout, CallsBesideLaw, CallsBesideOf}
@@ -142,7 +142,7 @@ types-both xs ys = ap types_of_places (among-append xs ys) ∙ map-append (λ (q
 -- ---- all instants
 
 module _ (contracts : ContractLaws) (nodes : NodeLaws) (program after : List Item) (ranks : List (List ℕ)) (observers : Observing) (ms : List Made) (order : IsInOrder program after ranks) (choosing : IsChoosing program after observers ms) (silent : ContractsCallNothing after) (observable : EachNode IsObservable after)
-    (those : AreObserversOf after observers) (only : HaveNoOthers after observers) (earlier : List Item) (n : Node) (stands : Stands after earlier n) (c : Contracted) (g : Ground (obc_types (types_of after)) (said_of after ms) observers n c) (enums : Enumerations)
+    (those : AreObserversOf after observers) (only : HaveNoOthers after observers) (outputless : OutputlessCompareNothing after) (earlier : List Item) (n : Node) (stands : Stands after earlier n) (c : Contracted) (g : Ground (obc_types (types_of after)) (said_of after ms) observers n c) (enums : Enumerations)
     (made : AreMadeOf (known_of (lowered_program after)) (lowered_node enums n) c.plant.eqns) (laid : c.plant.variables ≡ (sketch_node (known_of (lowered_program after)) (lowered_node enums n)).variables)
     (kinds : kinds_at (obc_types (types_of after)) c.plant (range_with_len 0 (length n.inputs)) ≡ timely.kinds_of_decls (types_of after) n.inputs) (out_kinds : (f : List ℕ) → AllByRecursion (λ (d : Decl). SameKind (obc_types (types_of after)) (types_of after) (known_of (lowered_program after)) d.ty) (outputs_in after f))
     (outs_are : (f : List ℕ) → outputs_of ((known_of (lowered_program after)).nodes f) ≡ outputs_in after f) (differ : ConstructorsDiffer (types_of after))
@@ -222,8 +222,8 @@ module _ (contracts : ContractLaws) (nodes : NodeLaws) (program after : List Ite
 
   one-whole : (number : ℕ) (x : Spot × Spot) (instants : List flows.Instant) (i : flows.Instant) (now : Instant) → AreBeside choices after (λ f. outputs_in after f) c.plant.eqns (firsts instants) (first i) now number x → AreBeside choices after (λ f. outputs_in after f) c.plant.eqns instants i now number x
   one-whole number (compared o p, y) instants i now h = tt
-  one-whole number (called f ps, y) instants i now h = λ e m d v at is has front places.
-      let b : IsBesideCall choices after m e v (firsts instants) (first i) now = h e m d v at is has front places in
+  one-whole number (called f ps, y) instants i now h = λ e m d v head others some at is has front places.
+      let b : IsBesideCall choices after m e v (firsts instants) (first i) now = h e m d v head others some at is has front places in
       let within = eqn-within number e at in
       let same = λ (j : flows.Instant) (z : ℕ) (l : z < length c.plant.variables). first-same nodes types all observers n c g j z l in
       let clock = clock-first first (length c.plant.variables) same e within i in
@@ -269,7 +269,7 @@ module _ (contracts : ContractLaws) (nodes : NodeLaws) (program after : List Ite
   now-calls : (rows : List (List Value)) (instants : List flows.Instant) (i : flows.Instant) (now : Instant) → Reaction answers chosen rows (i ∷ instants) → IsPossible types chosen i → Along (AreBeside choices after (λ f. outputs_in after f) c.plant.eqns (firsts instants) (first i) now) (walked n c.plant) found
       → Along (AreHeldCalls nodes types all observers n c g k low laid (λ f. outputs_in after f) (called_slots after) (Held i now)) (walked n c.plant) found
   now-calls rows instants i now r possible beside =
-      calls-held contracts nodes program after ranks observers ms order choosing silent observable those only earlier n stands c g k low laid choices answers rows instants i r (survey_typed nodes types all observers n c g i possible) now (walked n c.plant) found (found-law names_out k enums n c.plant.eqns knows made).0
+      calls-held contracts nodes program after ranks observers ms order choosing silent observable those only outputless earlier n stands c g k low laid choices answers rows instants i r (survey_typed nodes types all observers n c g i possible) now (walked n c.plant) found (found-law names_out k enums n c.plant.eqns knows made).0
       (each-alike (λ (s : Spot × Spot) (places : List FreePlace). IsGroupOf decls (λ f. outputs_in after f) (called_slots after) IsInFront s.0 places) found groups grouped) body-free (all-whole (walked n c.plant) found instants i now beside)
 
   all-hold : (rows : List (List Value)) (instants : List flows.Instant) (past others : Past) → AllByRecursion (AreOf decls n.inputs) rows → Reaction answers chosen rows instants → AllByRecursion (IsPossible types chosen) instants → Runs choices decls earlier n rows past
@@ -317,7 +317,7 @@ same-pasts (i ∷ past) [] h = absurd h
 same-pasts (i ∷ past) (j ∷ other) h = ap₂ (λ (x : Instant) xs. x ∷ xs) (fun_ext (λ p. h.0 p)) (same-pasts past other h.1)
 
 pub seen_all_law : InBodyLaws → ContractLaws → CallsBesideLaw → SeenAllLaw
-seen_all_law laws contracts beside_law program after ranks observers ms order h silent observable those only allowed f n rows past e kinds reaction earlier stands c x among instants r =
+seen_all_law laws contracts beside_law program after ranks observers ms order h silent observable those only outputless allowed f n rows past e kinds reaction earlier stands c x among instants r =
     let turn = laws.greatest.turn in
     let nodes = (laws.greatest.choice).nodes in
     let types = obc_types (types_of after) in
@@ -409,5 +409,5 @@ seen_all_law laws contracts beside_law program after ranks observers ms order h 
     (each_found (λ (m : Node). filter (λ q. is_call q.point.kind) (points_of_contract m.contract (λ p. p)) ≡ []) (reverse after) n.name n (each_reverse (λ (m : Node). filter (λ q. is_call q.point.kind) (points_of_contract m.contract (λ p. p)) ≡ []) after (each-silent after silent)) own) in
     let same_instants : past ≡ before.past = same-pasts past before.past same_past in
     let beside : AreBesideThroughout choices after names_out c.plant n js past = subst (λ z. AreBesideThroughout choices after names_out c.plant n js z) (sym same_instants) (subst (λ z. AreBesideThroughout choices after names_out c.plant n z before.past) (sym same_js) (at.1.1 n rows by_plant kinds keeps)) in
-    all-hold contracts nodes program after ranks observers ms order h silent observable those only earlier n stands c g (enumerations [] after) (its.equations).eqns (its.equations).variables kinds_in (output-kinds program after h.ready h.form) outs_are (differ laws.greatest program after ranks observers ms order h allowed)
+    all-hold contracts nodes program after ranks observers ms order h silent observable those only outputless earlier n stands c g (enumerations [] after) (its.equations).eqns (its.equations).variables kinds_in (output-kinds program after h.ready h.form) outs_are (differ laws.greatest program after ranks observers ms order h allowed)
     (all-places after n quiet) given_types B.0 B.1 (B.2 (below Body (λ p. p))) choices answers keeps.means labelled single rows instants past keeps.low of r possible runs typed plant alike values own_held beside

@@ -10,6 +10,7 @@ use Rattle.hp_tree.specs.Blocks.{Decl}
 use Rattle.hp_tree.specs.Instant.{Named, Place, Instant, Past}
 use Rattle.hp_tree.specs.Meaning.{node_among, types_of}
 use Rattle.hp_tree.specs.Programs.{Contract, Node}
+use Rattle.hp_meaning.specs.Contract.Slots.{callee_slots, free_among}
 use Rattle.hp_flat.specs.Equations.{FlatEqn}
 use Rattle.law_equations.specs.Flattened.Flatten.{Prefix}
 use Rattle.law_equations.specs.Meaning.Instants as flow
@@ -43,11 +44,11 @@ pub record IsBesideCall (choices : Choices) (after : List Item) (m : Node) (e : 
 abbrev pub outputs_at : List Decl → Prefix → List Place
 outputs_at ds v = map (λ (o : List ℕ). v (Named o ∷ [])) (map (λ (d : Decl). d.name) ds)
 
--- So it is of what a walk finds, beside the equation of a number: of each call of a node with a contract.
+-- So it is of what a walk finds, beside the equation of a number: of each call of a node with a contract that has outputs. One without outputs has no place in the equations.
 abbrev pub AreBeside : Choices → List Item → (List ℕ → List Decl) → List FlatEqn → List flow.Instant → flow.Instant → Instant → ℕ → Spot × Spot → Type 0
 AreBeside choices after outs es js j now number (compared o p, x) = ⊤
 AreBeside choices after outs es js j now number (called f ps, x) =
-    (e : FlatEqn) (m : Node) (k : Contract) (v : Prefix) → slice_get es number ≡ Some e → node_among (reverse after) f ≡ Some m → m.contract ≡ Some k → IsInFront v → ps ≡ outputs_at (outs f) v → IsBesideCall choices after m e v js j now
+    (e : FlatEqn) (m : Node) (k : Contract) (v : Prefix) (first : Place) (others : List Place) → ps ≡ first ∷ others → slice_get es number ≡ Some e → node_among (reverse after) f ≡ Some m → m.contract ≡ Some k → IsInFront v → ps ≡ outputs_at (outs f) v → IsBesideCall choices after m e v js j now
 
 -- the contract of the node of a name
 abbrev pub contract_of : Option Node → Option Contract
@@ -57,3 +58,7 @@ contract_of (Some m) = m.contract
 -- Nodes without a contract have no observer.
 abbrev pub HaveNoOthers : List Item → Observing → Type 0
 HaveNoOthers after observers = (f : List ℕ) → contract_of (node_among (reverse after) f) ≡ None → observers f ≡ None
+
+-- In the contract of a node without outputs no integers are compared.
+abbrev pub OutputlessCompareNothing : List Item → Type 0
+OutputlessCompareNothing after = (f : List ℕ) (m : Node) → node_among (reverse after) f ≡ Some m → m.outputs ≡ [] → (v : Prefix) → free_among (callee_slots (types_of after) (Some m) v) ≡ []
