@@ -53,7 +53,7 @@ abbrev pub called_slots : List Item → List ℕ → (Place → Place) → List 
 called_slots after f w = callee_slots (types_of after) (node_among (reverse after) f) w
 
 -- without a contract nothing is
-no-contract : (types : List TypeDecl) (m : Node) (w : Prefix) → m.contract ≡ None → free_among (callee_slots types (Some m) w) ≡ []
+pub no-contract : (types : List TypeDecl) (m : Node) (w : Prefix) → m.contract ≡ None → free_among (callee_slots types (Some m) w) ≡ []
 no-contract types m w e = by m.contract e
   where
     by : (q : Option Contract) → q ≡ None → free_among (callee_slots types (Some (record m { contract = q })) w) ≡ []
