@@ -1,11 +1,11 @@
 -- The rows over which the observer of a call runs are the same in instants that agree on the variables of the call's equation.
-use Rattle.std.proofs.Common.{◌≡◌, ℕ, ◌<◌, List, [], ◌∷◌, ◌++◌, map, refl, ap, ap₂, ◌∙◌}
-use Rattle.std.specs.List.{AllByRecursion, flat_map}
+use Rattle.std.proofs.Common.{◌≡◌, ℕ, ◌<◌, List, [], ◌∷◌, ◌++◌, map, refl, ap, ap₂}
+use Rattle.std.specs.List.{flat_map}
 use Rattle.hp_base.specs.declared.value.Value.{Value}
 use Rattle.hp_flat.specs.declared.equation.Atom.{Atom}
 use Rattle.hp_flat.specs.declared.equation.Atom.TheVariants.{Value as Fixed, Variable as Read}
 use Rattle.hp_flat.specs.Equations.{Clock, FlatEqn, Right, called, operator, register}
-use Rattle.law_equations.specs.Meaning.Instants.{Instant, atom, atoms, history, holds, noted, restarted, since, unless}
+use Rattle.law_equations.specs.Meaning.Instants.{Instant, atom, atoms, history, holds, noted, restarted, unless}
 use Rattle.law_equations.specs.Meaning.Fitting.{atom_variables, operands}
 use Rattle.law_equations.specs.Meaning.Scheduling.{AreBelow, EqnWithin, clock_variables}
 use Rattle.law_equations.proofs.FewerLemmas.AlikeLaws.{holds-same, restarted-same}

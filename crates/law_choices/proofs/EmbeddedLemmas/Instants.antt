@@ -11,7 +11,7 @@ use Rattle.hp_flat.specs.declared.equation.Atom.{Atom}
 use Rattle.hp_flat.specs.Equations.{Clock, FlatEqn, Right, called, operator, register}
 use Rattle.hp_flat.specs.Nodes.{FlatNode}
 use Rattle.hp_tree.specs.declared.program.Item.{Item}
-use Rattle.hp_tree.specs.Blocks.{Block, Decl, Eqns, block, more_eqns, no_eqn}
+use Rattle.hp_tree.specs.Blocks.{Decl, Eqns, more_eqns, no_eqn}
 use Rattle.hp_tree.specs.Expressions.{Expr}
 use Rattle.hp_tree.specs.ExpressionTypes.{Scope}
 use Rattle.hp_tree.specs.Instant.{Given, Instant, Past, Place}
@@ -46,7 +46,7 @@ use Rattle.law_choices.specs.Flat.Names.{values_at}
 use Rattle.law_choices.specs.Flat.Places.{IsOn, values_in}
 use Rattle.law_choices.specs.Places.Found.{Both, found_in_node}
 use Rattle.law_choices.specs.Places.Groups.{groups_of_contract, in_a_row}
-use Rattle.law_choices.specs.Places.Laws.{IsEventOf, IsNumberOf, KnowsOutputs}
+use Rattle.law_choices.specs.Places.Laws.{IsNumberOf, KnowsOutputs}
 use Rattle.law_choices.specs.Places.Spots.{Spot, called as call_at, compared}
 use Rattle.law_choices.specs.Places.Standing.{StandsAtNumber}
 use Rattle.law_choices.specs.Runs.Chosen.{ChosenReaction, chosen_meaning}

@@ -1,5 +1,5 @@
 -- The equations that choose hold the free places of all contracts that are called, where the instances are beside the equations of the calls.
-use Rattle.std.proofs.Common.{◌≡◌, ◌⊎◌, inl, inr, ℕ, Bool, true, false, List, [], ◌∷◌, ◌++◌, map, reverse, None, Option, Some, slice_get, refl, sym, ap, subst, ◌∙◌}
+use Rattle.std.proofs.Common.{◌≡◌, ◌⊎◌, inl, inr, ℕ, Bool, true, false, List, [], ◌∷◌, map, reverse, None, Option, Some, slice_get, refl, sym, ap, subst, ◌∙◌}
 use Rattle.std.specs.List.{AllByRecursion, flat_map}
 use Rattle.hp_base.specs.declared.value.Value.{Value}
 use Rattle.hp_obc.specs.Machines.{ObcType}
@@ -44,7 +44,7 @@ use Rattle.law_choices.proofs.EmbeddedLemmas.CalledThroughout.{call-absent, call
 use Rattle.law_choices.proofs.EmbeddedLemmas.OwnThroughout.{ContractLaws}
 use Rattle.law_choices.proofs.InTurnLemmas.Contracted.{Ground, NodeLaws}
 use Rattle.law_choices.proofs.PlayingLemmas.Asking.{seen, survey}
-use Rattle.law_choices.proofs.SeeingLemmas.CalledRowed.{AreHeldCalls, IsHeldCall, behind_outputs}
+use Rattle.law_choices.proofs.SeeingLemmas.CalledRowed.{AreHeldCalls, behind_outputs}
 use Rattle.law_choices.proofs.SeeingLemmas.HeldRows.{HoldsRow}
 use Rattle.law_choices.proofs.SeeingLemmas.Listed.{free_by_number, own_places, there}
 

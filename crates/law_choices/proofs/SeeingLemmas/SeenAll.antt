@@ -1,6 +1,6 @@
 -- In a program of nodes that choose, the equations of each node hold values of its free places throughout each reaction, where the instances of calls are beside their equations.
 use Rattle.std.proofs.Common.{◌≡◌, ℕ, ◌+◌, ◌<◌, ◌≤◌, List, [], ◌∷◌, length, map, reverse, Some, refl, sym, ap, subst, ◌∙◌, arith, ◌++◌, ap₂, slice_get}
-use Rattle.std.specs.Prelude.{Bool, false, None, Option, filter, true}
+use Rattle.std.specs.Prelude.{false, None, Option, filter}
 use Rattle.std.proofs.Math.Path.{fun_ext}
 use Rattle.std.specs.List.{AllByRecursion, range_with_len, flat_map}
 use Rattle.hp_base.specs.Kinds.{AreOfKinds}
@@ -17,7 +17,7 @@ use Rattle.hp_tree.specs.Values.{AreOf}
 use Rattle.hp_meaning.specs.Causal.OneReaction.{SamePasts}
 use Rattle.hp_meaning.specs.Causal.Sources.{below}
 use Rattle.hp_meaning.specs.Contract.Guarantee.{Through, Typed}
-use Rattle.hp_meaning.specs.Contract.Slots.{slots_of_node, FreePlace, callee_slots, free_among, free_places, Slot}
+use Rattle.hp_meaning.specs.Contract.Slots.{FreePlace, callee_slots, free_among, free_places, Slot}
 use Rattle.hp_automata.specs.Lowering.{Enumerations, enumerations, lowered_node, lowered_program}
 use Rattle.hp_flat.specs.Nodes.{FlatNode}
 use Rattle.law_equations.specs.Made.Making.{Known, sketch_node, outputs_of}
@@ -28,17 +28,16 @@ use Rattle.hp_complete.specs.Declaring.{known_of}
 use Rattle.law_games.proofs.GuaranteedLemmas.Apart.{ready_apart}
 use Rattle.law_history.proofs.StreamsLemmas.NamesApart.{name_found, each_found}
 use Rattle.law_wellmade.specs.Timely.Tested.{ConstructorsDiffer}
-use Rattle.hp_controller.specs.Extending.{rows_with, cut}
+use Rattle.hp_controller.specs.Extending.{rows_with}
 use Rattle.hp_watch.specs.Watching.{Observing, moved_free, own_site, walked, free_inputs, free_placed, placed, site_of}
 use Rattle.law_choices.specs.Answered.Loops.{plants}
-use Rattle.law_choices.specs.Choosing.Choices.{Choices, OneReactionLaw, ReactionUnder, with_chosen}
-use Rattle.law_choices.specs.Choosing.Programs.{AreChoices, ReadyLaw, controls_in}
+use Rattle.law_choices.specs.Choosing.Choices.{Choices, ReactionUnder, with_chosen}
+use Rattle.law_choices.specs.Choosing.Programs.{AreChoices, controls_in}
 use Rattle.law_choices.specs.Flat.Names.{values_at}
 use Rattle.law_choices.specs.Places.Laws.{AreMadeOf, KnowsOutputs, events}
 use Rattle.law_choices.specs.InTurn.Laws.{said_of, IsChoosing}
 use Rattle.law_choices.specs.InTurn.Nodes.{Contracted, loops, Made}
 use Rattle.law_choices.specs.OnClocks.WellMade.{callees_of}
-use Rattle.law_choices.specs.Playing.Mirrored.{early_flags}
 use Rattle.law_choices.specs.Playing.Inputs.{places_in_row}
 use Rattle.law_choices.specs.Embedded.Sites.{site_rows}
 use Rattle.law_choices.specs.Runs.Chosen.{ChosenReaction, chosen_given, chosen_nodes}
@@ -53,13 +52,13 @@ use Rattle.law_choices.proofs.OnClocksLemmas.OneMeaning.{ready_nodes}
 use Rattle.law_choices.proofs.PlayingLemmas.Asking.{controls, survey, survey_typed, seen}
 use Rattle.law_choices.proofs.PlayingLemmas.ControlBits.{of-long}
 use Rattle.law_choices.proofs.PlayingLemmas.Holding.{Does, Runs, inputs-held, runs-of}
-use Rattle.law_choices.proofs.PlayingLemmas.Programs.{FoundMade, GreatestLaws, differ, find-of, its-choice, kinds-in, typed-here}
+use Rattle.law_choices.proofs.PlayingLemmas.Programs.{FoundMade, differ, find-of, its-choice, kinds-in, typed-here}
 use Rattle.law_choices.proofs.SeeingLemmas.Callees.{output-kinds}
 use Rattle.law_choices.proofs.SeeingLemmas.Listed.{SameKind}
 use Rattle.law_choices.proofs.SeeingLemmas.PlantRuns.{first-same, first_of, in_first, plant-runs}
 use Rattle.law_choices.proofs.StreamsLemmas.Alike.{only_law}
 use Rattle.law_choices.proofs.StreamsLemmas.Streams.{in_turn}
-use Rattle.std.proofs.lemmas.List.{append-nil, map-append}
+use Rattle.std.proofs.lemmas.List.{map-append}
 use Rattle.hp_base.specs.declared.ty.Ty.{Ty}
 use Rattle.law_automata.specs.Lowered.Standing.{Along}
 use Rattle.law_equations.specs.Flattened.Flatten.{At, FlatName}
@@ -72,9 +71,8 @@ use Rattle.law_choices.specs.Places.Groups.{AreAlike, IsGroupOf, IsInFront, grou
 use Rattle.law_choices.specs.Places.Spots.{Spot, called, compared}
 use Rattle.law_choices.specs.Seeing.Around.{outputs_in, types_around}
 use Rattle.law_choices.specs.Seeing.Found.{FoundAlike}
-use Rattle.law_choices.specs.Seeing.InBody.{free_in_body, no_slots}
 use Rattle.law_choices.specs.Flat.Places.{IsOn, values_in}
-use Rattle.law_choices.specs.Streams.Places.{KeepsPlacesOf, PlacesLaw, outputs_low}
+use Rattle.law_choices.specs.Streams.Places.{KeepsPlacesOf, outputs_low}
 use Rattle.law_choices.proofs.BroughtLemmas.Apiece.{outputs-anywhere, types_apiece, types_of_places}
 use Rattle.law_choices.proofs.BroughtLemmas.Bodies.{body-apiece}
 use Rattle.law_choices.proofs.BroughtLemmas.Brought.{Brings, free_types}
@@ -104,7 +102,7 @@ use Rattle.law_judged.specs.Named.Scoped.{EachNode}
 use Rattle.law_automata.proofs.LowerableLemmas.Texts.{each_reverse}
 use Rattle.law_drawing.proofs.SteeredLemmas.NothingCalled.{contract_none}
 use Rattle.law_drawing.proofs.SteeredLemmas.Uncalled.{ContractCallsNothing}
-use Rattle.law_equations.proofs.FollowedLemmas.Passing.{each_first, each_second}
+use Rattle.law_equations.proofs.FollowedLemmas.Passing.{each_second}
 use Rattle.law_games.proofs.ReadyGamesLemmas.Ordered.{all_stand as stands_there}
 use Rattle.law_choices.specs.Adding.Watched.{IsFree}
 use Rattle.law_choices.specs.Embedded.Calls.{AreBeside, HaveNoOthers, IsBesideCall, OutputlessCompareNothing}
@@ -119,14 +117,12 @@ use Rattle.law_choices.proofs.EmbeddedLemmas.FirstRows.{clock-first, site-rows-s
 use Rattle.law_choices.proofs.SeeingLemmas.CalledRowed.{AreHeldCalls}
 use Rattle.law_choices.proofs.SeeingLemmas.HeldAll.{all-holds, body-held}
 use Rattle.law_choices.proofs.SeeingLemmas.HeldCalls.{called_slots, calls-held, no-contract}
-use Rattle.law_choices.proofs.SeeingLemmas.HeldInBody.{IsTold}
 use Rattle.law_choices.proofs.SeeingLemmas.OwnContract.{all-places}
 use Rattle.law_choices.proofs.SeeingLemmas.Rowed.{walked-have}
 use Rattle.law_choices.proofs.SeeingLemmas.SeenOwn.{InBodyLaws}
 use Rattle.law_equations.specs.Meaning.Instants as flows
 use Rattle.law_wellmade.specs.Timely.Kinds as timely
 use Rattle.law_equations.specs.Meaning.Reactions as flat
-use Rattle.law_equations.specs.Meaning.Kinding as flat_kinds
 use Rattle.law_equations.specs.Made.Labels as made_of
 
 -- ---- lists
