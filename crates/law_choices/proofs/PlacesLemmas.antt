@@ -12,3 +12,5 @@ pub mod Values
 pub mod Related
 pub mod Standing
 pub mod Grouped
+pub mod Instances
+pub mod Paired

@@ -1,3 +1,4 @@
+pub mod Calls
 pub mod Spots
 pub mod Found
 pub mod Laws

@@ -1,5 +1,6 @@
 -- The rows over which the observer of a call runs are the inputs and outputs of the call's instance, since it last began anew.
 use Rattle.std.proofs.Common.{◌≡◌, ℕ, suc, Bool, true, false, if◌then◌else◌, List, [], ◌∷◌, ◌++◌, length, map, refl, sym, ap, ap₂, subst, ◌∙◌}
+use Rattle.std.proofs.lemmas.List.{append_assoc}
 use Rattle.std.specs.Prelude.{IsTrue, IsFalse, ◌&&◌}
 use Rattle.std.specs.Bool.{MatchBool}
 use Rattle.std.specs.List.{AllByRecursion}
@@ -23,6 +24,7 @@ use Rattle.law_choices.specs.Embedded.Sites.{site_rows}
 use Rattle.law_choices.specs.Flat.Calls.{instance_in, HasInputs, IsInstance}
 use Rattle.law_choices.specs.Runs.Chosen.{inputs_at}
 use Rattle.law_choices.proofs.FlatLemmas.Rows.{row_read, same_row}
+use Rattle.law_choices.proofs.PlacesLemmas.Instances.{IsSame, inside}
 use Rattle.law_choices.proofs.InstancesLemmas.History.{history, own-history, part_at, there}
 
 -- ---- two histories
@@ -133,6 +135,16 @@ pub record SameInstance (m : Node) (place low_place : Place) (now low : Instant)
   pub is_there : is_there (now (place ++ (Instance ∷ (Fresh ∷ [])))) ≡ is_there (instance_in low_place low (Fresh ∷ []))
   pub anew : begins (place ++ (Instance ∷ [])) now ≡ begins (low_place ++ (Instance ∷ [])) low
   pub inputs : (q : Place) → part_at (place ++ (Instance ∷ [])) now (Inputs ∷ q) ≡ instance_in low_place low (Inputs ∷ q)
+
+-- So they are where the two instances are alike, as `PlacesLemmas/Instances` has it of an instant and one without automata that stands for it.
+pub same-instance : (m : Node) (place low_place : Place) (now low : Instant) → Goes false (inside place) now → IsSame now low place low_place → SameInstance m place low_place now low
+same-instance m place low_place now low go same =
+    record {
+      goes = go;
+      is_there = same.there;
+      anew = same.anew;
+      inputs = λ q. ap now (append_assoc place (Instance ∷ []) (Inputs ∷ q)) ∙ same.inputs q;
+    }
 
 module _ (e : FlatEqn) (args : List Atom) (low_place : Place) (js : List flow.Instant) (past : Past) (j : flow.Instant) (low : Instant) (its : IsInstance e args low_place js past j low) where
   low_there : is_there (instance_in low_place low (Fresh ∷ [])) ≡ flow.holds e.clock j

@@ -17,12 +17,12 @@ use Rattle.hp_tree.specs.Instant.{Fresh, Inputs, Instance, Body, Equations, Head
 use Rattle.hp_tables.specs.Defining.Names.{names_of_states}
 use Rattle.hp_automata.specs.Names.{once}
 use Rattle.hp_meaning.proofs.ContractLemmas.Instances.{is_block, after_step, Entered, Goes}
-use Rattle.law_automata.specs.Lowered.Removable.{Known, Plain, TransitionsOk, BlockOk, EqnsOk, EqnOk, ArmsOk, StatesOk, and_defined}
+use Rattle.law_automata.specs.Lowered.Removable.{Known, NodeOk, Plain, none_known, TransitionsOk, BlockOk, EqnsOk, EqnOk, ArmsOk, StatesOk, and_defined}
 use Rattle.law_automata.specs.Lowered.Standing.{Relation, BothThere, InArm, behind as row, arm_in, switch_in, states_in, later_in, ExprStands, ExprsStand, PartsStand, BlockStands, EqnsStand, EqnStands, ArmsStand, StatesStand, BodyStands, NodeStands, either_is, stands_among}
 use Rattle.law_equations.specs.Flattened.Flatten.{Prefix, below}
 use Rattle.law_equations.specs.Made.Instances.{begins}
 use Rattle.hp_watch.specs.Walk.{compares}
-use Rattle.law_choices.specs.Places.Calls.{CallPair, Pairs, AllPairs, compared_pair, pairs, pairs_in_all, pairs_in_parts, pairs_in_conditions, pairs_in_block, pairs_in_eqns, pairs_in_eqn, pairs_in_arms, pairs_in_states, pairs_in_body}
+use Rattle.law_choices.specs.Places.Calls.{CallPair, Pairs, AllPairs, compared_pair, pairs, pairs_in_all, pairs_in_parts, pairs_in_conditions, pairs_in_block, pairs_in_eqns, pairs_in_eqn, pairs_in_arms, pairs_in_states, pairs_in_body, pairs_in_node}
 use Rattle.law_choices.specs.Places.Found.{at_body, at_condition, at_states, behind, behind_state}
 
 -- ---- two instances
@@ -276,10 +276,10 @@ module _ (callee : List ℕ → Relation) (same_inputs : (f : List ℕ) (i j : I
 
   -- the body of a state, which stands in the true arm of its `switch`
   state_same : (outer : Known) (d e : ℕ) (until : List Trans) (b : Block) (w here : Prefix) (i j : Instant) → BlockOk outer d b → InArm (BodyStands callee e until b) (part Body i) (part Head j) → Lift w here false true i j
-      → {cs : Pairs} → (Any (below Body w) (below Body (below Head (below Equations (below Head here)))) → AllPairs P cs)
+      → (cs : Pairs) → (Any (below Body w) (below Body (below Head (below Equations (below Head here)))) → AllPairs P cs)
       → (BodyStands callee e until b (part Body i) (body_of (part Head j)) → Lift (below Body w) (below Body (below Head (below Equations (below Head here)))) false false (part Body i) (body_of (part Head j)) → AllPairs P cs) → AllPairs P cs
-  state_same outer d n until b w here i j ok (inl none) l any same = any (λ f v h. l f (Body ∷ v) (Head ∷ Equations ∷ Head ∷ Body ∷ h) (both_gone false true Body Head i j v (Equations ∷ Head ∷ Body ∷ h) refl refl none.0 none.1))
-  state_same outer d n until b w here i j ok (inr some) l {cs} any same =
+  state_same outer d n until b w here i j ok (inl none) l cs any same = any (λ f v h. l f (Body ∷ v) (Head ∷ Equations ∷ Head ∷ Body ∷ h) (both_gone false true Body Head i j v (Equations ∷ Head ∷ Body ∷ h) refl refl none.0 none.1))
+  state_same outer d n until b w here i j ok (inr some) l cs any same =
       let arm = part Head j in
       let inner : Lift w (below Head (below Equations (below Head here))) false false i (part Head (part Equations arm)) =
       (λ f v h r. l f v (Head ∷ Equations ∷ Head ∷ h)
@@ -287,7 +287,7 @@ module _ (callee : List ℕ → Relation) (same_inputs : (f : List ℕ) (i j : I
       enter false false Body Body w (below Head (below Equations (below Head here))) i (part Head (part Equations arm)) (BodyStands callee n until b) cs refl refl some.1 inner any same
 
   mutual
-    pub block_same : (outer : Known) (d e : ℕ) (b : Block) (w here : Prefix) (i j : Instant) → BlockOk outer d b → BlockStands callee e b i j → Lift w here false false i j → AllPairs P (pairs_in_block b w here)
+    block_same : (outer : Known) (d e : ℕ) (b : Block) (w here : Prefix) (i j : Instant) → BlockOk outer d b → BlockStands callee e b i j → Lift w here false false i j → AllPairs P (pairs_in_block b w here)
     block_same outer d n (block ds es) w here i j ok k l = eqns_same outer d n es (below Equations w) (below Equations here) (part Equations i) (part Equations j) ok.1 k.1 (down false Equations w here i j refl l)
 
     body_same : (outer : Known) (d e : ℕ) (until : List Trans) (b : Block) (w here : Prefix) (i j : Instant) → BlockOk outer d b → BodyStands callee e until b i j → Lift w here false false i j → AllPairs P (pairs_in_body until b w here)
@@ -348,7 +348,7 @@ module _ (callee : List ℕ → Relation) (same_inputs : (f : List ℕ) (i j : I
         (plain_low false false Tail (part Head i) (part Tail low) v (Head ∷ ArmsOf ∷ h) refl
         (plain_low false false Head (part Head i) (part Tail (part Tail low)) v (ArmsOf ∷ h) refl (plain_low false false ArmsOf (part Head i) (switch_in unless j) v h refl r)))))) in
         both_all body (weak ++ (strong ++ later))
-        (state_same outer d n until b (below Head w) (below ArmsOf (below Head (below Tail (below Tail (behind unless here))))) (part Head i) (part ArmsOf (switch_in unless j)) ok.0.0 k.0 in_switch
+        (state_same outer d n until b (below Head w) (below ArmsOf (below Head (below Tail (below Tail (behind unless here))))) (part Head i) (part ArmsOf (switch_in unless j)) ok.0.0 k.0 in_switch body
         (λ a. any_body outer d until b (below Body (below Head w)) (at_body unless here) ok.0.0 a)
         (λ x y. body_same outer d n until b (below Body (below Head w)) (at_body unless here) (part Body (part Head i)) (body_of (arm_in (switch_in unless j))) ok.0.0 x y))
         (both_all weak (strong ++ later) (no_condition all until (below Until (below Head w)) (below Equations (at_body unless here)) ok.0.1.0)
@@ -357,3 +357,24 @@ module _ (callee : List ℕ → Relation) (same_inputs : (f : List ℕ) (i j : I
         (λ g v h r. front g (Tail ∷ v) (Tail ∷ Tail ∷ Tail ∷ h)
         (plain_high false false Tail i low v (Tail ∷ Tail ∷ Tail ∷ h) refl
         (plain_low false false Tail (part Tail i) low v (Tail ∷ Tail ∷ h) refl (plain_low false false Tail (part Tail i) (part Tail low) v (Tail ∷ h) refl (plain_low false false Tail (part Tail i) (part Tail (part Tail low)) v h refl r))))))))
+
+-- ---- the body of a node
+
+stands_inputs : (items : List Item) (f : List ℕ) (i j : Instant) → stands_among items f i j → (q : Place) → i (Inputs ∷ q) ≡ j (Inputs ∷ q)
+stands_inputs [] f i j h q = h (Inputs ∷ q)
+stands_inputs (TypeItem t ∷ items) f i j h q = stands_inputs items f i j h q
+stands_inputs (NodeItem n ∷ items) f i j h q = by (bytes_eq n.name f) h (λ k. stands_inputs items f i j k q)
+  where
+    by : (b : Bool) → either_is b (NodeStands (stands_among items) n i j) (stands_among items f i j) → (stands_among items f i j → i (Inputs ∷ q) ≡ j (Inputs ∷ q)) → i (Inputs ∷ q) ≡ j (Inputs ∷ q)
+    by true k later = k.inputs q
+    by false k later = later k
+
+-- In an instant of a node and one without automata that stands for it, the instance of each call of the body is there, begins anew and has inputs alike, where words go along both ways.
+pub instances-alike : (earlier : List Item) (n : Node) (i j : Instant) → NodeOk n → NodeStands (stands_among earlier) n i j → AllPairs (λ (c : CallPair). Rel false false i j c.place c.low_place) (pairs_in_node n)
+instances-alike earlier n i j ok stands =
+    let callee = stands_among earlier in
+    let P : CallPair → Type 0 = λ c. Rel false false i j c.place c.low_place in
+    let whole : Prefix = λ p. p in
+    enter callee (stands_inputs earlier) P false false Body Body whole whole i j (BlockStands callee 0 n.body) (pairs_in_node n) refl refl stands.body (λ f v h r. r)
+    (λ a. any_block callee (stands_inputs earlier) P none_known 0 n.body (below Body whole) (below Body whole) ok.body a)
+    (λ x y. block_same callee (stands_inputs earlier) P none_known 0 0 n.body (below Body whole) (below Body whole) (part Body i) (part Body j) ok.body x y)
